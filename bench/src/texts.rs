@@ -1,0 +1,202 @@
+//! The texts that are measured. The same seed gives the same text.
+
+use oracle::{random::Random, texts::MARKS};
+
+/// A kind of text: its name in the table, and how to make one of about a length.
+pub type Kind = (&'static str, fn(&mut Random, usize) -> String);
+
+pub const KINDS: [Kind; 5] = [
+    ("Move source", move_source),
+    ("comments", comments),
+    ("punctuation", punctuation),
+    ("one long name", long_name),
+    ("deep nested comments", nested_comments),
+];
+
+/// Declarations as people write them. `$m`, `$s`, `$f`, `$v` and `$n` stand for a
+/// module, a struct, a function, a variable and a number.
+const DECLARATIONS: [&str; 14] = [
+    "\
+module 0x$n::$m {
+    use Std::Signer;
+    use Std::Vector as V;
+    use 0x1::$m::{Self, $s};
+",
+    "\
+    /// Holds the $v of an account.
+    struct $s<phantom CoinType> has key, store {
+        $v: u64,
+        locked: bool,
+        history: vector<u8>,
+    }
+
+",
+    "\
+    struct $s has copy, drop { $v: u128, owner: address }
+
+",
+    "\
+    const E$n: u64 = $n;
+    const MAX_$s: u128 = 0xFFFF$nu128;
+    const NAME: vector<u8> = b\"$m coin\";
+
+",
+    "\
+    /// Moves `amount` from `$v` to the account at `to`.
+    public fun $f<CoinType>(account: &signer, to: address, amount: u64) acquires $s {
+        let $v = borrow_global_mut<$s<CoinType>>(Signer::address_of(account));
+        assert!($v.$v >= amount, E$n);
+        $v.$v = $v.$v - amount;
+        $m::$f<CoinType>(to, amount);
+    }
+
+",
+    "\
+    public(friend) fun $f($v: &mut vector<u64>, index: u64): (u64, bool) {
+        let i = 0u64;
+        while (i < V::length($v)) {
+            if (*V::borrow($v, i) == index) { return (i, true) };
+            i = i + 1;
+        };
+        (i, false)
+    }
+
+",
+    "\
+    fun $f(a: u64, b: u64): u64 {
+        // Rounds down, as the $v does.
+        if (a == 0 || b == 0) 0 else (a * $n + b / 2) % b
+    }
+
+",
+    "\
+    public fun $f($v: $s): u128 {
+        let $s { $v: value, owner: _ } = $v;
+        (value as u128) << 64u8 | ($n & 0xff)
+    }
+
+",
+    "\
+    spec $f {
+        pragma aborts_if_is_partial = true;
+        aborts_if !exists<$s<CoinType>>(to) with E$n;
+        ensures result == old($v) + $n ==> $v <= MAX_$s;
+    }
+
+",
+    "\
+    #[test(account = @0x$n)]
+    #[expected_failure(abort_code = $n)]
+    fun $f(account: signer) acquires $s {
+        let $v = @0x$n;
+        move_to(&account, $s { $v: $n, owner: copy $v });
+        loop { if (!exists<$s>($v)) break; continue };
+    }
+
+",
+    "\
+    native public fun $f<Element>($v: &mut vector<Element>): Element;
+
+",
+    "\
+    public fun $f(): vector<u8> {
+        let $v = x\"00$nff\"; /* raw bytes */
+        V::push_back(&mut $v, $nu8);
+        $v
+    }
+
+",
+    "\
+    friend 0x$n::$m;
+
+",
+    "\
+}
+
+",
+];
+
+/// Comments with a little code between them.
+const COMMENTS: [&str; 7] = [
+    "// The $v of the $m is kept here, since $f looks for it before it looks at $s.\n",
+    "/// Gives the $v of `$s`, or aborts with $n where the account at `$m` holds none.\n",
+    "/* $f: see the note at $m; it holds for $v / $n and for $v * $n alike. */\n",
+    "\
+/**
+ * Returns the $v.
+ *
+ * Aborts with E$n where `$s` isn't there -- naïve callers of $f forget this.
+ */
+",
+    "/* outer $v /* inner: $f($n) was here */ and the rest of $m stays commented out */\n",
+    "//*******************************************************************************\n",
+    "fun $f($v: u64) {}\n",
+];
+
+fn move_source(random: &mut Random, length: usize) -> String {
+    pieces(random, length, &DECLARATIONS)
+}
+
+fn comments(random: &mut Random, length: usize) -> String {
+    pieces(random, length, &COMMENTS)
+}
+
+/// Pieces with their places filled in, as long as they fit.
+fn pieces(random: &mut Random, length: usize, choices: &[&str]) -> String {
+    let mut text = String::new();
+    loop {
+        let choice = random.pick(choices);
+        let piece = fill_in(random, choice);
+        if text.len() + piece.len() > length {
+            return text;
+        }
+        text += &piece;
+    }
+}
+
+fn fill_in(random: &mut Random, piece: &str) -> String {
+    let mut parts = piece.split('$');
+    let mut text = parts.next().unwrap_or_default().to_string();
+    for part in parts {
+        let (place, behind) = part.split_at(1);
+        match place {
+            "m" => text += random.pick(&["Coin", "Account", "Vault", "Registry", "BasicCoin"]),
+            "s" => text += random.pick(&["Balance", "Config", "Entry", "Capability", "R"]),
+            "f" => text += random.pick(&["transfer", "mint", "find_index", "f", "is_valid_name"]),
+            "v" => text += random.pick(&["x", "balance", "total_supply", "i", "next_entry"]),
+            _ => text += &random.below(1000).to_string(),
+        }
+        text += behind;
+    }
+    text
+}
+
+fn punctuation(random: &mut Random, length: usize) -> String {
+    let mut text = String::new();
+    while text.len() + 6 <= length {
+        let mark = random.pick(&MARKS);
+        text += mark;
+        // Else two marks could open a comment.
+        if mark == "/" {
+            text += " ";
+        }
+    }
+    text
+}
+
+fn long_name(random: &mut Random, length: usize) -> String {
+    let mut text = String::new();
+    while text.len() < length {
+        text += random.pick(&["total", "supply", "of", "the", "Coin", "index", "v2", "is"]);
+        text += "_";
+    }
+    text.truncate(length);
+    text
+}
+
+fn nested_comments(random: &mut Random, length: usize) -> String {
+    let (opener, closer) = ("/* a ", " b */");
+    let depth = length / (opener.len() + closer.len()) - 1;
+    let number = random.below(1000);
+    opener.repeat(depth) + &closer.repeat(depth) + &number.to_string()
+}

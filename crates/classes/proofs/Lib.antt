@@ -1,0 +1,3 @@
+pub mod Bools
+pub mod Cut
+pub mod Runs

@@ -1,0 +1,41 @@
+-- The classes of bytes. Each has a number, by which the code names it.
+-- Assumes nothing.
+use Prim.Native.Nat.{ℕ}
+use mathlib.Core.Bool.{Bool, _||_, _&&_, not, cond}
+use lib.Dec.{leb, ltb, eqb}
+
+-- x is from lo to hi, both counted
+unfoldable pub inRange : ℕ → ℕ → ℕ → Bool
+inRange lo hi x = leb lo x && leb x hi
+
+-- 0 to 9
+unfoldable pub isDigit : ℕ → Bool
+isDigit x = inRange 48 57 x
+
+-- 0 to 9, A to F, a to f
+unfoldable pub isHex : ℕ → Bool
+isHex x = inRange 48 57 x || inRange 65 70 x || inRange 97 102 x
+
+-- a to z, A to Z, _
+unfoldable pub isLetter : ℕ → Bool
+isLetter x = inRange 97 122 x || inRange 65 90 x || eqb x 95
+
+-- a letter or a digit
+unfoldable pub isName : ℕ → Bool
+isName x = isLetter x || isDigit x
+
+-- below 128
+unfoldable pub isAscii : ℕ → Bool
+isAscii x = ltb x 128
+
+-- every byte but LF
+unfoldable pub inLine : ℕ → Bool
+inLine x = not (eqb x 10)
+
+-- the class of each number
+unfoldable pub inClass : ℕ → ℕ → Bool
+inClass k x =
+    cond (eqb k 0) (isName x)
+    (cond (eqb k 1) (isDigit x)
+    (cond (eqb k 2) (isHex x)
+    (cond (eqb k 3) (isAscii x) (inLine x))))

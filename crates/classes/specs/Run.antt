@@ -1,0 +1,15 @@
+-- A run of bytes of a class: to the first byte outside it, or to the end.
+-- Assumes nothing.
+use Prim.Native.Nat.{ℕ, suc, _+_}
+use mathlib.Core.Bool.{Bool, cond}
+use mathlib.Core.List.{List, [], _∷_}
+use lib.ListN.{drop}
+
+-- how many bytes at the front are of the class f
+unfoldable pub runLen : (ℕ → Bool) → List ℕ → ℕ
+runLen f [] = 0
+runLen f (a ∷ s) = cond (f a) (suc (runLen f s)) 0
+
+-- where the run from `at` on ends
+unfoldable pub runEnd : (ℕ → Bool) → List ℕ → ℕ → ℕ
+runEnd f text at = at + runLen f (drop at text)

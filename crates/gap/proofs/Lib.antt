@@ -1,0 +1,9 @@
+pub mod Places
+pub mod Depth
+pub mod Opener
+pub mod Inside
+pub mod Lines
+pub mod Parts
+pub mod Gaps
+pub mod Shift
+pub mod Stops

@@ -1,0 +1,71 @@
+// What a station links: the calls as C functions, over numbers and byte slices. The C header is
+// include/movesig.h.
+ghost use mathlib.Core.Path.{_≡_};
+ghost use Rattle.tokens.specs.Answers.{places, tokenNumber, tokenValues, commentNumber, commentValues};
+ghost use Rattle.tokens.specs.Calls.{nextToken, nextComment};
+use tokens::DocComment;
+use tokens::Lexed;
+use tokens::Refusal;
+
+// A refusal's values: its place and its second place.
+fn refusal_values(r: Refusal) -> [u64; 6]
+    ensures { λ v. ⌜ v ≡ places r ⌝ }
+{
+    [
+        r.place.start as u64,
+        r.place.end as u64,
+        r.second.start as u64,
+        r.second.end as u64,
+        0,
+        0,
+    ]
+}
+
+// The next token from `at` on.
+#[no_mangle]
+pub extern "C" fn movesig_next_token(text: &[u8], at: usize, answer: &mut [u64; 6]) -> u32
+    ensures number { λ r. ⌜ r ≡ tokenNumber (nextToken (now (text .entry)) at) ⌝ }
+    ensures values { λ r. ⌜ now (answer .exit) ≡ tokenValues (nextToken (now (text .entry)) at) ⌝ }
+{
+    let t = tokens::next_token(text, at);
+    match t {
+        Lexed::Found(k) => {
+            *answer = [k.kind as u64, k.start as u64, k.end as u64, 0, 0, 0];
+            0
+        }
+        Lexed::Refused(r) => {
+            *answer = refusal_values(r);
+            r.number
+        }
+    }
+}
+
+// The first doc comment in the gap from `at` on.
+#[no_mangle]
+pub extern "C" fn movesig_next_comment(text: &[u8], at: usize, answer: &mut [u64; 6]) -> u32
+    ensures number { λ r. ⌜ r ≡ commentNumber (nextComment (now (text .entry)) at) ⌝ }
+    ensures values { λ r. ⌜ now (answer .exit) ≡ commentValues (nextComment (now (text .entry)) at) ⌝ }
+{
+    let d = tokens::next_comment(text, at);
+    match d {
+        DocComment::Doc(c) => {
+            *answer = [
+                1,
+                c.start as u64,
+                c.end as u64,
+                c.from as u64,
+                c.to as u64,
+                0,
+            ];
+            0
+        }
+        DocComment::Nothing => {
+            *answer = [0, 0, 0, 0, 0, 0];
+            0
+        }
+        DocComment::Broken(r) => {
+            *answer = refusal_values(r);
+            r.number
+        }
+    }
+}

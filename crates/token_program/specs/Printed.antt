@@ -1,0 +1,34 @@
+-- What the token program prints: a line for each token, EOF last, or a refusal's line behind the tokens before it.
+-- Assumes nothing.
+use Prim.Native.Nat.{ℕ, _+_, _/_, _%_}
+use mathlib.Core.Bool.{cond}
+use mathlib.Core.List.{List, [], _∷_, _++_}
+use lib.Dec.{leb}
+use Rattle.classes.specs.Bytes.{bytes}
+use Rattle.tokens.specs.Walk.{Listed, eof, refused, next}
+use Rattle.tokens.specs.declared.Refusal.{Refusal}
+use Rattle.tokens.specs.declared.Token.{Token}
+
+-- the digit of n that counts u's, where n reaches it
+unfoldable pub digit : ℕ → ℕ → List ℕ
+digit u n = cond (leb u n) ((48 + n / u % 10) ∷ []) []
+
+-- a number below 100,000 in decimal
+unfoldable pub decimal : ℕ → List ℕ
+decimal n = digit 10000 n ++ (digit 1000 n ++ (digit 100 n ++ (digit 10 n ++ ((48 + n % 10) ∷ []))))
+
+-- three numbers with single blanks, and LF
+unfoldable pub threeLine : ℕ → ℕ → ℕ → List ℕ
+threeLine a b c = decimal a ++ ((32 ∷ []) ++ (decimal b ++ ((32 ∷ []) ++ (decimal c ++ (10 ∷ [])))))
+
+unfoldable pub tokenLine : Token → List ℕ
+tokenLine t = threeLine (t .kind) (t .start) (t .end)
+
+-- `refused`, the number, and the place
+unfoldable pub refusedLine : Refusal → List ℕ
+refusedLine r = bytes "refused " ++ threeLine (r .number) (r .place .start) (r .place .end)
+
+unfoldable pub printed : Listed → List ℕ
+printed (eof t) = tokenLine t
+printed (refused r) = refusedLine r
+printed (next t l) = tokenLine t ++ printed l

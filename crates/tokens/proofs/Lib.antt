@@ -1,0 +1,6 @@
+pub mod Fronts
+pub mod Lexing
+pub mod Steps
+pub mod Walks
+pub mod Shift
+pub mod Alone

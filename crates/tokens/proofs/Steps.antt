@@ -1,0 +1,248 @@
+-- The token at a place of a text, by the tests and the callees' answers that lead to each case of the code.
+-- Assumes nothing.
+use mathlib.Core.Path.{_≡_, refl, ap, sym, _∙_, subst}
+use mathlib.Core.Bool.{Bool, true, false, _&&_}
+use mathlib.Core.List.{List, [], _∷_}
+use Prim.Native.Nat.{ℕ, _+_, _-_, _<_, _≤_, min}
+use native.Mathlib.Omega.{arith}
+use native.Mathlib.Nat.{add-zero, add-assoc}
+use borrow.Author.Tests.{eq-eqb, ne-eqb, lt-ltb, le-ltb}
+use lib.Dec.{eqb}
+use lib.ListN.{length, getD, take, drop, drop-of-length-le, length-drop}
+use lib.Seq.{drop-cons, drop-drop, getD-drop}
+use Rattle.classes.specs.Bytes.{bytes, begins}
+use Rattle.classes.specs.Class.{isDigit, isLetter, isName, isAscii, inClass}
+use Rattle.classes.specs.Run.{runLen, runEnd}
+use Rattle.classes.proofs.Bools.{and-true}
+use Rattle.gap.specs.Gap.{End, clear, broken, gap, endOf, docOf}
+use Rattle.gap.specs.declared.GapEnd.the-variants.{Clear, Broken}
+use Rattle.gap.specs.declared.FirstDoc.{FirstDoc}
+use Rattle.gap.proofs.Gaps.{Ended, gap-ended}
+use Rattle.gap.proofs.Places.{front as front-at}
+use Rattle.words.specs.Search.{kindOf, markOf, suffixLen}
+use Rattle.words.specs.Quote.{quoteFrom, raised}
+use Rattle.words.specs.declared.Fit.{Fit}
+use Rattle.words.specs.declared.Quote.{Quote}
+use Rattle.words.specs.declared.Quote.the-variants.{Found as QuoteFound, Missing}
+use Rattle.classes.proofs.Cut.{begins-short, run-cut, drop-cut}
+use Rattle.classes.proofs.Runs.{run-to}
+use Rattle.words.proofs.Marks.{mark-short}
+use Rattle.words.proofs.Quotes.{Within, within, quote-shift}
+use Rattle.words.proofs.Suffix.{suffix-short}
+use Rattle.tokens.specs.Answers.{refusal, token}
+use Rattle.tokens.specs.Token.{Front, front, fault, typed, decimal, hexTyped, hexLen, hexNumber, number, stringBy, string, opensString, stringRefusal, name, word, marked, findToken, placed, behindGap, lex}
+use Rattle.tokens.specs.Calls.{textLimit, admitted, lexed, lexedAt, typedAt, nextToken, commentOf, nextComment}
+use Rattle.tokens.specs.declared.Refusal.{Refusal}
+use Rattle.tokens.specs.declared.Lexed.the-variants.{Found, Refused}
+use Rattle.tokens.specs.declared.DocComment.the-variants.{Broken as CommentBroken}
+
+-- numbers
+module _ (at e n : ℕ) where
+  pub untyped : n ≡ 0 → Found (token 1 at e) ≡ typedAt at e n
+  unfolding typedAt
+  untyped h = rw (h, add-zero)
+
+  pub with-type : (n ≡ 0 → ⊥) → Found (token 2 at (e + n)) ≡ typedAt at e n
+  unfolding typedAt
+  with-type h = rw (ne-eqb n 0 h)
+
+typed-at : (at m e n : ℕ) → e ≡ at + m → typedAt at e n ≡ lexedAt at (typed m n)
+unfolding typedAt lexedAt typed
+typed-at at m e n h = rw (h, add-assoc)
+
+module _ (text : List ℕ) (at e n : ℕ) (en : n ≡ suffixLen (drop e text)) where
+  pub number-room : (f : ℕ → Bool) → e ≡ runEnd f text at → at ≤ length text → e + n ≤ length text
+  number-room f h g =
+      let r : e ≤ length text = rw h (run-to f text at g) in
+      omega (arith, suffix-short (drop e text), length-drop e text)
+
+  suffix-at : (m : ℕ) → e ≡ at + m → suffixLen (drop m (drop at text)) ≡ n
+  suffix-at m h = rw (drop-drop m at text, ← h, ← en)
+
+  pub decimal-at : e ≡ runEnd (inClass 1) text at → typedAt at e n ≡ lexedAt at (decimal (drop at text))
+  unfolding decimal runEnd inClass
+  decimal-at h = typed-at at (runLen isDigit (drop at text)) e n h ∙ ap (λ (v : ℕ). lexedAt at (typed (runLen isDigit (drop at text)) v)) (sym (suffix-at (runLen isDigit (drop at text)) h))
+
+  module _ (h : e ≡ runEnd (inClass 2) text (at + 2)) where
+    hex-end : e ≡ at + hexLen (drop at text)
+    unfolding hexLen runEnd inClass
+    hex-end = h ∙ rw (drop-drop 2 at text, add-assoc)
+
+    pub hex-zero : e + n ≡ at + 2 → Found (token 1 at (at + 1)) ≡ lexedAt at (hexNumber (drop at text))
+    unfolding hexNumber hexTyped lexedAt
+    hex-zero g =
+        let q : hexLen (drop at text) + n ≡ 2 = omega (arith, hex-end) in
+        rw (suffix-at (hexLen (drop at text)) hex-end, eq-eqb (hexLen (drop at text) + n) 2 q)
+
+    pub hex-number : (e + n ≡ at + 2 → ⊥) → typedAt at e n ≡ lexedAt at (hexNumber (drop at text))
+    unfolding hexNumber hexTyped
+    hex-number g =
+        let q : hexLen (drop at text) + n ≡ 2 → ⊥ = λ p. g (omega (arith, hex-end)) in
+        rw (suffix-at (hexLen (drop at text)) hex-end, ne-eqb (hexLen (drop at text) + n) 2 q) (typed-at at (hexLen (drop at text)) e n hex-end)
+
+-- `0x` at the front, told by two bytes
+two-bytes : (s : List ℕ) → begins (bytes "0x") s ≡ eqb (getD s 0 0) 48 && eqb (getD s 1 0) 120
+unfolding begins
+two-bytes [] = refl
+two-bytes (a ∷ []) = refl
+two-bytes (a ∷ b ∷ s) = ap (λ (c : Bool). eqb a 48 && c) (and-true (eqb b 120))
+
+module _ (text : List ℕ) (at b : ℕ) (eb : b ≡ getD text (at + 1) 0) where
+  starts-0x : begins (bytes "0x") (drop at text) ≡ eqb (getD text at 0) 48 && eqb b 120
+  starts-0x = two-bytes (drop at text) ∙ rw (front-at text at, getD-drop at text 1 0, ← eb)
+
+  module _ (v : Bool) (ev : v ≡ eqb (getD text at 0) 48 && eqb b 120) where
+    pub number-hex : v ≡ true → lexedAt at (hexNumber (drop at text)) ≡ lexedAt at (number (drop at text))
+    unfolding number
+    number-hex h = rw (starts-0x, ← ev, h)
+
+    pub number-decimal : v ≡ false → lexedAt at (decimal (drop at text)) ≡ lexedAt at (number (drop at text))
+    unfolding number
+    number-decimal h = rw (starts-0x, ← ev, h)
+
+    pub hex-room : v ≡ true → at + 2 ≤ length text
+    hex-room h =
+        let e : begins (bytes "0x") (drop at text) ≡ true = starts-0x ∙ sym ev ∙ h in
+        omega (arith, begins-short (bytes "0x") (drop at text) e, length-drop at text)
+
+-- strings
+module _ (text : List ℕ) (at m : ℕ) (k : Quote) (ek : k ≡ quoteFrom false (at + 2) (drop (at + 2) text)) where
+  quote-here : k ≡ raised at (quoteFrom false 2 (drop 2 (drop at text)))
+  quote-here = ek ∙ quote-shift (drop (at + 2) text) false at 2 ∙ ap (λ (s : List ℕ). raised at (quoteFrom false 2 s)) (sym (drop-drop 2 at text))
+
+  missing-by : (e v : ℕ) (q : Quote) → raised at q ≡ Missing e → Refused (refusal m at e) ≡ lexedAt at (stringBy m v q)
+  unfolding stringBy lexedAt
+  missing-by e v (Missing f) g = let r : at + f ≡ e = cc in rw (r, add-zero)
+  missing-by e v (QuoteFound f) g = let z : _≡_ {A = ℕ} 0 1 = cc in absurd (omega arith)
+
+  pub string-missing : (e : ℕ) → k ≡ Missing e → Refused (refusal m at e) ≡ lexedAt at (string m (drop at text))
+  unfolding string
+  string-missing e g = missing-by e (2 + runLen isAscii (drop 2 (drop at text))) (quoteFrom false 2 (drop 2 (drop at text))) (sym quote-here ∙ g)
+
+  module _ (q : ℕ) (g : k ≡ QuoteFound q) where
+    pub quote-room : (at + 2 ≤ q) × (q < length text)
+    quote-room =
+        let r = subst (Within (at + 2) (length (drop (at + 2) text))) (sym ek ∙ g) (within (drop (at + 2) text) false (at + 2)) in
+        (r .0, omega (arith, length-drop (at + 2) text))
+
+    -- the run of ASCII from behind the opening quote, as far as the closing one
+    module _ (h : ℕ) (eh : h ≡ runEnd (inClass 3) (take q text) (at + 2)) where
+      high-here : h ≡ at + min (q - at) (2 + runLen isAscii (drop 2 (drop at text)))
+      unfolding runEnd inClass
+      high-here =
+          let r = quote-room in
+          let n : q ≡ at + 2 + (q - (at + 2)) = omega arith in
+          let c : drop (at + 2) (take q text) ≡ take (q - (at + 2)) (drop (at + 2) text) = ap (λ (j : ℕ). drop (at + 2) (take j text)) n ∙ drop-cut (at + 2) (q - (at + 2)) text in
+          eh ∙ rw (c, run-cut isAscii (drop (at + 2) text) (q - (at + 2)), drop-drop 2 at text) (omega arith)
+
+      high-by : (v : ℕ) (x : Quote) → h ≡ at + min (q - at) v → raised at x ≡ QuoteFound q → h < q → Refused (refusal 9 h (h + 1)) ≡ lexedAt at (stringBy m v x)
+      unfolding stringBy lexedAt
+      high-by v (Missing f) w p l = let z : _≡_ {A = ℕ} 0 1 = cc in absurd (omega arith)
+      high-by v (QuoteFound f) w p l =
+          let r : at + f ≡ q = cc in
+          let y : h ≡ at + v = omega arith in
+          rw (lt-ltb v f (omega arith), ← y, ← add-assoc at v 1, ← y)
+
+      pub string-high : h < q → Refused (refusal 9 h (h + 1)) ≡ lexedAt at (string m (drop at text))
+      unfolding string
+      string-high l = high-by (2 + runLen isAscii (drop 2 (drop at text))) (quoteFrom false 2 (drop 2 (drop at text))) high-here (sym quote-here ∙ g) l
+
+      closed-by : (v : ℕ) (x : Quote) → h ≡ at + min (q - at) v → raised at x ≡ QuoteFound q → q ≤ h → Found (token 3 at (q + 1)) ≡ lexedAt at (stringBy m v x)
+      unfolding stringBy lexedAt
+      closed-by v (Missing f) w p l = let z : _≡_ {A = ℕ} 0 1 = cc in absurd (omega arith)
+      closed-by v (QuoteFound f) w p l = let r : at + f ≡ q = cc in rw (le-ltb v f (omega arith), ← r, add-assoc)
+
+      pub string-closed : q ≤ h → Found (token 3 at (q + 1)) ≡ lexedAt at (string m (drop at text))
+      unfolding string
+      string-closed l = closed-by (2 + runLen isAscii (drop 2 (drop at text))) (quoteFrom false 2 (drop 2 (drop at text))) high-here (sym quote-here ∙ g) l
+
+-- names and marks
+pub name-at : (text : List ℕ) (at e k : ℕ) → e ≡ runEnd (inClass 0) text at → k ≡ kindOf (take (e - at) (drop at text)) → Found (token k at e) ≡ lexedAt at (name (drop at text))
+unfolding name lexedAt runEnd inClass
+name-at text at e k h g =
+    let r : e - at ≡ runLen isName (drop at text) = omega arith in
+    rw (g, r, h)
+
+module _ (at : ℕ) (f g : Fit) (e : f ≡ g) where
+  pub no-mark : f .len ≡ 0 → Refused (refusal 5 at at) ≡ lexedAt at (marked g)
+  unfolding marked lexedAt
+  no-mark h = rw (← e, eq-eqb (f .len) 0 h, add-zero)
+
+  pub some-mark : (f .len ≡ 0 → ⊥) → Found (token (f .kind) at (at + f .len)) ≡ lexedAt at (marked g)
+  unfolding marked lexedAt
+  some-mark h = rw (← e, ne-eqb (f .len) 0 h)
+
+pub mark-room : (text : List ℕ) (at : ℕ) (f : Fit) → f ≡ markOf (drop at text) → at ≤ length text → at + f .len ≤ length text
+mark-room text at f e h = rw e (omega (arith, mark-short (drop at text), length-drop at text))
+
+module _ (text : List ℕ) (at b : ℕ) (eb : b ≡ getD text (at + 1) 0) where
+  pub word-string : opensString (getD text at 0) b ≡ true → (m : ℕ) → m ≡ stringRefusal (getD text at 0)
+      → lexedAt at (string m (drop at text)) ≡ lexedAt at (word (drop at text))
+  unfolding word
+  word-string h m em = rw (front-at text at, getD-drop at text 1 0, ← eb, h, em)
+
+  pub word-name : opensString (getD text at 0) b ≡ false → lexedAt at (name (drop at text)) ≡ lexedAt at (word (drop at text))
+  unfolding word
+  word-name h = rw (front-at text at, getD-drop at text 1 0, ← eb, h)
+
+-- the token at a place, by its first byte
+module _ (text : List ℕ) (at : ℕ) where
+  pub find-over : length text ≤ at → Found (token 0 at at) ≡ lexedAt at (findToken (drop at text))
+  unfolding findToken lexedAt
+  find-over h = rw (drop-of-length-le text h, add-zero)
+
+  module _ (h : at < length text) where
+    pub find-number : isDigit (getD text at 0) ≡ true → lexedAt at (number (drop at text)) ≡ lexedAt at (findToken (drop at text))
+    unfolding findToken
+    find-number e = rw (drop-cons text at 0 h, e)
+
+    pub find-word : isDigit (getD text at 0) ≡ false → isLetter (getD text at 0) ≡ true → lexedAt at (word (drop at text)) ≡ lexedAt at (findToken (drop at text))
+    unfolding findToken
+    find-word e f = rw (drop-cons text at 0 h, e, f)
+
+    pub find-mark : isDigit (getD text at 0) ≡ false → isLetter (getD text at 0) ≡ false → lexedAt at (marked (markOf (drop at text))) ≡ lexedAt at (findToken (drop at text))
+    unfolding findToken
+    find-mark e f = rw (drop-cons text at 0 h, e, f)
+
+-- the calls
+module _ {A : Type 0} (refuse : Refusal → A) (text : List ℕ) (at : ℕ) (a : A) where
+  pub too-long : textLimit < length text → refuse (refusal 1 0 0) ≡ admitted refuse text at a
+  unfolding admitted
+  too-long h = rw (lt-ltb textLimit (length text) h)
+
+  pub past-end : length text ≤ textLimit → length text < at → refuse (refusal 2 0 0) ≡ admitted refuse text at a
+  unfolding admitted
+  past-end h g = rw (le-ltb textLimit (length text) h, lt-ltb (length text) at g)
+
+  pub admits : length text ≤ textLimit → at ≤ length text → a ≡ admitted refuse text at a
+  unfolding admitted
+  admits h g = rw (le-ltb textLimit (length text) h, le-ltb (length text) at g)
+
+lexed-placed : (p : ℕ) (s : List ℕ) (f : Front) → lexed (placed p s f) ≡ lexedAt p f
+unfolding lexed placed lexedAt
+lexed-placed p s (front k n) = refl
+lexed-placed p s (fault m i j) = refl
+
+module _ (text : List ℕ) (at : ℕ) where
+  clear-by : (i : ℕ) (e : End) → Ended text at e → endOf e ≡ Clear i → lexedAt i (findToken (drop i text)) ≡ lexed (behindGap e)
+  unfolding behindGap endOf
+  clear-by i (clear q u) h g = let r : q ≡ i = cc in rw (h .2, r) (sym (lexed-placed i (drop i text) (findToken (drop i text))))
+  clear-by i (broken o q) h g = let z : _≡_ {A = ℕ} 0 1 = cc in absurd (omega arith)
+
+  broken-by : (o q : ℕ) (e : End) → endOf e ≡ Broken o q → Refused (refusal 6 o q) ≡ lexed (behindGap e)
+  unfolding behindGap endOf lexed
+  broken-by o q (clear p u) g = let z : _≡_ {A = ℕ} 0 1 = cc in absurd (omega arith)
+  broken-by o q (broken p r) g = let u : p ≡ o = cc in let v : r ≡ q = cc in rw (u, v)
+
+  module _ (h : length text ≤ textLimit) (g : at ≤ length text) where
+    pub next-clear : (i : ℕ) → endOf (gap 0 at (drop at text) .last) ≡ Clear i → lexedAt i (findToken (drop i text)) ≡ nextToken text at
+    unfolding nextToken lex
+    next-clear i e = clear-by i (gap 0 at (drop at text) .last) (gap-ended text (drop at text) 0 at refl) e ∙ admits Refused text at _ h g
+
+    pub next-broken : (o q : ℕ) → endOf (gap 0 at (drop at text) .last) ≡ Broken o q → Refused (refusal 6 o q) ≡ nextToken text at
+    unfolding nextToken lex
+    next-broken o q e = broken-by o q (gap 0 at (drop at text) .last) e ∙ admits Refused text at _ h g
+
+    pub comment-of : (d : FirstDoc) → docOf (gap 0 at (drop at text)) ≡ d → commentOf d ≡ nextComment text at
+    unfolding nextComment
+    comment-of d e = rw (← e) (admits CommentBroken text at _ h g)

@@ -1,0 +1,6 @@
+pub mod Answers
+pub mod Token
+pub mod Calls
+pub mod Walk
+pub mod Raise
+pub mod Examples

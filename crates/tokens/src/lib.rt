@@ -1,0 +1,285 @@
+// The next token and the next doc comment of a text.
+ghost use mathlib.Core.Path.{_≡_};
+ghost use Prim.Native.Nat.{_+_, _^_, _<_, _≤_};
+ghost use lib.Dec.{eqb};
+ghost use lib.ListN.{length, drop};
+ghost use mathlib.Core.Bool.{_&&_};
+ghost use Rattle.tokens.specs.Answers.{refusal};
+ghost use Rattle.tokens.specs.Token.{opensString, stringRefusal, findToken, decimal, hexNumber, number, string, word, name, marked};
+ghost use Rattle.tokens.specs.Calls.{lexedAt, typedAt, nextToken, nextComment};
+ghost use Rattle.words.specs.Search.{markOf};
+use classes::ASCII;
+use classes::DIGIT;
+use classes::HEX;
+use classes::NAME;
+use gap::Comment;
+use gap::FirstDoc;
+use gap::GapEnd;
+use words::Quote;
+
+// Bytes from start to end - 1.
+pub struct Place {
+    pub start: usize,
+    pub end: usize,
+}
+
+// A refusal: its number, its place and its second place.
+pub struct Refusal {
+    pub number: u32,
+    pub place: Place,
+    pub second: Place,
+}
+
+// A token: the number of its kind, in the order of the Rust's `Tok`, and its span.
+pub struct Token {
+    pub kind: u8,
+    pub start: usize,
+    pub end: usize,
+}
+
+pub enum Lexed {
+    Found(Token),
+    Refused(Refusal),
+}
+
+// The first doc comment of a gap; none; or the refusal that comes before any.
+pub enum DocComment {
+    Doc(Comment),
+    Nothing,
+    Broken(Refusal),
+}
+
+// The longest text.
+const TEXT_LIMIT: usize = 65535;
+
+// A refusal whose second place is its place.
+pub fn refuse(number: u32, start: usize, end: usize) -> Refusal
+    ensures { λ r. ⌜ r ≡ refusal number start end ⌝ }
+{
+    Refusal {
+        number: number,
+        place: Place {
+            start: start,
+            end: end,
+        },
+        second: Place {
+            start: start,
+            end: end,
+        },
+    }
+}
+
+// The number at `at` whose digits end at e, with a type of n bytes.
+fn typed_at(at: usize, e: usize, n: usize) -> Lexed
+    requires { ⌜ e + n < 2 ^ 63 ⌝ }
+    ensures { λ r. ⌜ r ≡ typedAt at e n ⌝ }
+{
+    if n == 0 {
+        return Lexed::Found(Token {
+            kind: 1,
+            start: at,
+            end: e,
+        });
+    }
+    Lexed::Found(Token {
+        kind: 2,
+        start: at,
+        end: e + n,
+    })
+}
+
+// The number `0x` at `at`, with its hex digits and its type (get_hex_number of the Rust).
+fn hex_number_at(text: &[u8], at: usize) -> Lexed
+    requires { ⌜ at + 2 ≤ length (now text) ⌝ }
+    ensures { λ r. ⌜ r ≡ lexedAt at (hexNumber (drop at (now (text .entry)))) ⌝ }
+{
+    let e = classes::run_end(HEX, text, at + 2);
+    let n = words::suffix_len(text, e);
+    if e + n == at + 2 {
+        return Lexed::Found(Token {
+            kind: 1,
+            start: at,
+            end: at + 1,
+        });
+    }
+    typed_at(at, e, n)
+}
+
+// The decimal number at `at` (get_decimal_number of the Rust).
+fn decimal_number_at(text: &[u8], at: usize) -> Lexed
+    requires { ⌜ at ≤ length (now text) ⌝ }
+    ensures { λ r. ⌜ r ≡ lexedAt at (decimal (drop at (now (text .entry)))) ⌝ }
+{
+    let e = classes::run_end(DIGIT, text, at);
+    let n = words::suffix_len(text, e);
+    typed_at(at, e, n)
+}
+
+// Whether a and b are `0x`.
+fn opens_hex(a: u8, b: u8) -> bool
+    ensures { λ r. ⌜ r ≡ (eqb a 48 && eqb b 120) ⌝ }
+{
+    if a == 48 {
+        return b == 120;
+    }
+    false
+}
+
+// The number at `at`, which a digit begins.
+fn number_at(text: &[u8], at: usize) -> Lexed
+    requires { ⌜ at < length (now text) ⌝ }
+    ensures { λ r. ⌜ r ≡ lexedAt at (number (drop at (now (text .entry)))) ⌝ }
+{
+    let a = text[at];
+    let b = classes::byte_at(text, at + 1);
+    if opens_hex(a, b) {
+        return hex_number_at(text, at);
+    }
+    decimal_number_at(text, at)
+}
+
+// The string at `at`, whose opening quote is its second byte; m is the refusal without a closing one.
+fn string_at(text: &[u8], at: usize, m: u32) -> Lexed
+    requires { ⌜ at < length (now text) ⌝ }
+    ensures { λ r. ⌜ r ≡ lexedAt at (string m (drop at (now (text .entry)))) ⌝ }
+{
+    let k = words::closing_quote(text, at + 2);
+    match k {
+        Quote::Missing(e) => Lexed::Refused(refuse(m, at, e)),
+        Quote::Found(q) => {
+            let h = classes::run_end(ASCII, &text[..q], at + 2);
+            if h < q {
+                return Lexed::Refused(refuse(9, h, h + 1));
+            }
+            Lexed::Found(Token {
+                kind: 3,
+                start: at,
+                end: q + 1,
+            })
+        }
+    }
+}
+
+// Whether a and b open a string.
+fn opens_string(a: u8, b: u8) -> bool
+    ensures { λ r. ⌜ r ≡ opensString a b ⌝ }
+{
+    if b == 34 {
+        if a == 120 {
+            return true;
+        }
+        return a == 98;
+    }
+    false
+}
+
+// The refusal of a string that a opens.
+fn string_refusal(a: u8) -> u32
+    ensures { λ r. ⌜ r ≡ stringRefusal a ⌝ }
+{
+    if a == 120 {
+        return 7;
+    }
+    8
+}
+
+// The name or keyword at `at`.
+fn name_at(text: &[u8], at: usize) -> Lexed
+    requires { ⌜ at ≤ length (now text) ⌝ }
+    ensures { λ r. ⌜ r ≡ lexedAt at (name (drop at (now (text .entry)))) ⌝ }
+{
+    let e = classes::run_end(NAME, text, at);
+    let k = words::name_kind(text, at, e - at);
+    Lexed::Found(Token {
+        kind: k,
+        start: at,
+        end: e,
+    })
+}
+
+// The mark at `at`.
+fn mark_at(text: &[u8], at: usize) -> Lexed
+    requires { ⌜ at ≤ length (now text) ⌝ }
+    ensures { λ r. ⌜ r ≡ lexedAt at (marked (markOf (drop at (now (text .entry))))) ⌝ }
+{
+    let f = words::mark_at(text, at);
+    let n = f.len;
+    if n == 0 {
+        return Lexed::Refused(refuse(5, at, at));
+    }
+    Lexed::Found(Token {
+        kind: f.kind,
+        start: at,
+        end: at + n,
+    })
+}
+
+// The name, keyword or string at `at`, which a letter begins.
+fn word_at(text: &[u8], at: usize) -> Lexed
+    requires { ⌜ at < length (now text) ⌝ }
+    ensures { λ r. ⌜ r ≡ lexedAt at (word (drop at (now (text .entry)))) ⌝ }
+{
+    let a = text[at];
+    let b = classes::byte_at(text, at + 1);
+    if opens_string(a, b) {
+        let m = string_refusal(a);
+        return string_at(text, at, m);
+    }
+    name_at(text, at)
+}
+
+// The token that starts at `at`.
+fn find_token(text: &[u8], at: usize) -> Lexed
+    ensures { λ r. ⌜ r ≡ lexedAt at (findToken (drop at (now (text .entry)))) ⌝ }
+{
+    if text.len() <= at {
+        return Lexed::Found(Token {
+            kind: 0,
+            start: at,
+            end: at,
+        });
+    }
+    let a = text[at];
+    if classes::is_digit(a) {
+        return number_at(text, at);
+    }
+    if classes::is_letter(a) {
+        return word_at(text, at);
+    }
+    mark_at(text, at)
+}
+
+// The next token from `at` on (advance of the Rust).
+pub fn next_token(text: &[u8], at: usize) -> Lexed
+    ensures { λ r. ⌜ r ≡ nextToken (now (text .entry)) at ⌝ }
+{
+    if TEXT_LIMIT < text.len() {
+        return Lexed::Refused(refuse(1, 0, 0));
+    }
+    if text.len() < at {
+        return Lexed::Refused(refuse(2, 0, 0));
+    }
+    let g = gap::gap_end(text, at);
+    match g {
+        GapEnd::Clear(i) => find_token(text, i),
+        GapEnd::Broken(o, q) => Lexed::Refused(refuse(6, o, q)),
+    }
+}
+
+// The first doc comment in the gap from `at` on.
+pub fn next_comment(text: &[u8], at: usize) -> DocComment
+    ensures { λ r. ⌜ r ≡ nextComment (now (text .entry)) at ⌝ }
+{
+    if TEXT_LIMIT < text.len() {
+        return DocComment::Broken(refuse(1, 0, 0));
+    }
+    if text.len() < at {
+        return DocComment::Broken(refuse(2, 0, 0));
+    }
+    let d = gap::first_doc(text, at);
+    match d {
+        FirstDoc::Found(c) => DocComment::Doc(c),
+        FirstDoc::Nothing => DocComment::Nothing,
+        FirstDoc::BrokenFirst(o, q) => DocComment::Broken(refuse(6, o, q)),
+    }
+}

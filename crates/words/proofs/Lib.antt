@@ -1,0 +1,10 @@
+pub mod Tests
+pub mod Places
+pub mod Rows
+pub mod Values
+pub mod Keyword
+pub mod Marks
+pub mod Found
+pub mod Suffix
+pub mod Quotes
+pub mod Positive

@@ -1,0 +1,87 @@
+use mathlib.Core.Path.{_≡_, _∙_, sym, refl}
+use Prim.Native.Nat.{_-_}
+use lib.ListN.{drop}
+use Rattle.words.specs.Tables.{singleMarks}
+use Rattle.words.specs.Rows.{firstOf, byteIn, slotByte}
+use Rattle.words.proofs.Rows.{tables, first-end, first-hit, first-next}
+use Rattle.words.proofs.Values.{byte-read}
+use borrow.Author.Needs.{needs}
+use Rattle.words.proofs.slot_byte.Statement.{statement}
+use Rattle.words.proofs.slot_byte.Tie as tie
+
+abbrev Inv-loop : tie.InvT-loop
+Inv-loop h rows k₀ k = slotByte h ≡ firstOf (byteIn h) (drop k singleMarks)
+
+abbrev μ-loop : tie.MeasureT-loop
+μ-loop h rows k₀ k = 24 - k
+
+loop-holds : tie.Need-loop-holds Inv-loop μ-loop
+unfolding slotByte
+loop-holds c = refl
+
+add-value-if : tie.Need-add-value-if Inv-loop μ-loop
+add-value-if c = search needs
+
+mul-value-if : tie.Need-mul-value-if Inv-loop μ-loop
+mul-value-if c = search needs
+
+index-1-value-if : tie.Need-index-1-value-if Inv-loop μ-loop
+index-1-value-if c = search needs
+
+index-2-value-if : tie.Need-index-2-value-if Inv-loop μ-loop
+index-2-value-if c = search needs
+
+add-value-if-2 : tie.Need-add-value-if-2 Inv-loop μ-loop
+add-value-if-2 c = search needs
+
+mul-value-if-2 : tie.Need-mul-value-if-2 Inv-loop μ-loop
+mul-value-if-2 c = search needs
+
+index-1-value-if-2 : tie.Need-index-1-value-if-2 Inv-loop μ-loop
+index-1-value-if-2 c = search needs
+
+index-2-value-if-2 : tie.Need-index-2-value-if-2 Inv-loop μ-loop
+index-2-value-if-2 c = search needs
+
+value-if-requires : tie.Need-value-if-requires Inv-loop μ-loop
+value-if-requires c κs = search needs
+
+returns : tie.Need-returns Inv-loop μ-loop
+unfolding tables
+returns c = sym (c .before .before .before .before .before .loop .inv ∙ first-hit (byte-read (c .before .before .before .before .before .loop .k) (search needs) _ _ (c .before .value-if .ensures)) (c .if1 .taken))
+
+add-k : tie.Need-add-k Inv-loop μ-loop
+add-k c = search needs
+
+loop-less : tie.Need-loop-less Inv-loop μ-loop
+loop-less c = search needs
+
+loop-again : tie.Need-loop-again Inv-loop μ-loop
+unfolding tables
+loop-again c = c .before .before .before .before .before .loop .inv ∙ first-next (byte-read (c .before .before .before .before .before .loop .k) (search needs) _ _ (c .before .value-if .ensures)) (c .if1 .left)
+
+returns-2 : tie.Need-returns-2 Inv-loop μ-loop
+unfolding tables
+returns-2 c = sym (c .before .loop .inv ∙ first-end _ singleMarks (c .before .loop .k) (search needs))
+
+pub slot-byte-spec : {M : Type 1} → statement M
+slot-byte-spec =
+    tie.close
+    (tie.spec
+    Inv-loop
+    μ-loop
+    loop-holds
+    add-value-if
+    mul-value-if
+    index-1-value-if
+    index-2-value-if
+    add-value-if-2
+    mul-value-if-2
+    index-1-value-if-2
+    index-2-value-if-2
+    value-if-requires
+    returns
+    add-k
+    loop-less
+    loop-again
+    returns-2)

@@ -1,0 +1,370 @@
+//! Compares the port with the Rust, answer by answer.
+
+#[path = "../station.rs"]
+mod station;
+
+use oracle::{
+    answer::{Answer, Call},
+    expected::{self, Cause, Expected, Text},
+    random::Random,
+    reading::{silence_the_rust, Reading},
+    texts, SOURCES,
+};
+use std::{env, process::exit, time::Instant};
+
+const HELP: &str = "\
+Compares the port's answers with those of the Rust lexer.
+
+usage: compare [--quick] [--seed N] [--help]
+
+  --quick   a few million answers, in seconds
+  --seed N  another choice of random texts (default 1)
+  --help    these words
+
+Prints the sha256 of the Rust sources, how many answers were compared, those that
+docs/DIFFERENCES.md lists by class (there document 01 decides, and the port is
+held to it), and the first differences that it does not list, each with the
+smallest text found. Exit status: 0 no such difference, 1 some, 2 bad usage.
+";
+
+/// How many differences are shown in full, and how many are made small to find
+/// that many that are not the same.
+const SHOWN: usize = 5;
+const MADE_SMALL: u64 = 20;
+
+fn main() {
+    let options = options();
+    silence_the_rust();
+    println!("Rust sources (sha256):\n{SOURCES}");
+    println!("seed {}\n", options.seed);
+
+    let start = Instant::now();
+    let mut comparison = Comparison::default();
+    run_sets(&mut comparison, &options);
+    comparison.print_summary();
+    println!("\n{:.1} s", start.elapsed().as_secs_f64());
+    if comparison.different > 0 {
+        exit(1);
+    }
+}
+
+struct Options {
+    quick: bool,
+    seed: u64,
+}
+
+fn options() -> Options {
+    let mut options = Options {
+        quick: false,
+        seed: 1,
+    };
+    let mut words = env::args().skip(1);
+    while let Some(word) = words.next() {
+        match word.as_str() {
+            "--quick" => options.quick = true,
+            "--seed" => match words.next().and_then(|number| number.parse().ok()) {
+                Some(seed) => options.seed = seed,
+                None => bad_usage("--seed needs a number"),
+            },
+            "--help" => {
+                print!("{HELP}");
+                exit(0);
+            }
+            _ => bad_usage(&format!("unknown option '{word}'")),
+        }
+    }
+    options
+}
+
+fn bad_usage(message: &str) -> ! {
+    eprintln!("compare: {message}\n\n{HELP}");
+    exit(2)
+}
+
+/// The sets of texts, with how much of each a quick run takes.
+fn run_sets(comparison: &mut Comparison, options: &Options) {
+    let sized = |whole: usize, quick: usize| if options.quick { quick } else { whole };
+    let seeded = |set: u64| Random::new(options.seed.wrapping_mul(1_000_003).wrapping_add(set));
+
+    let all_bytes: Vec<u8> = (0..=255).collect();
+    comparison.set("every text up to 2 bytes, all 256 bytes", |to| {
+        every_text(&all_bytes, 2, |text| to.everywhere(text))
+    });
+    let longest = sized(6, 5);
+    let name = format!("every text up to {longest} bytes, gaps");
+    comparison.set(&name, |to| {
+        every_text(b"/*\r\n b\"\\\x80", longest, |text| to.everywhere(text))
+    });
+    let name = format!("every text up to {longest} bytes, words and marks");
+    comparison.set(&name, |to| {
+        every_text(b"0xu864\"\\=>", longest, |text| to.everywhere(text))
+    });
+    let longest = sized(8, 6);
+    let name = format!("every text up to {longest} bytes, comments");
+    comparison.set(&name, |to| {
+        every_text(b"/*a\r\n", longest, |text| to.everywhere(text))
+    });
+    let longest = sized(5, 4);
+    let name = format!("every text up to {longest} bytes, marks");
+    comparison.set(&name, |to| {
+        every_text(b"&mut |<=>:.!", longest, |text| to.everywhere(text))
+    });
+    comparison.set("Move-like texts of 0 to 64 bytes", |to| {
+        let mut random = seeded(1);
+        for turn in 0..sized(60_000, 1_500) {
+            to.everywhere(&texts::move_like(&mut random, turn % 65, true));
+        }
+    });
+    comparison.set("Move-like texts of 65,530 to 65,540 bytes", |to| {
+        let mut random = seeded(2);
+        for turn in 0..sized(132, 11) {
+            let text = texts::move_like(&mut random, 65_530 + turn % 11, false);
+            to.along(&text, &mut random);
+        }
+    });
+    comparison.set("one long thing, around each boundary", |to| {
+        let mut random = seeded(3);
+        for length in (0..=8).chain(65_532..=65_537) {
+            for text in texts::one_long_thing(length) {
+                to.along(&text, &mut random);
+            }
+        }
+    });
+    comparison.set("damaged copies", |to| {
+        let mut random = seeded(4);
+        for turn in 0..sized(60_000, 1_500) {
+            let good = texts::move_like(&mut random, turn % 50, false);
+            let bad = texts::damaged(&mut random, &good);
+            to.everywhere(&bad);
+            // A cut leaves what follows in place, just past the end of the text.
+            to.everywhere(&bad[..random.below(bad.len() + 1)]);
+        }
+    });
+    comparison.set("damaged copies of 2,000 bytes", |to| {
+        let mut random = seeded(5);
+        for _ in 0..sized(6_000, 100) {
+            let good = texts::move_like(&mut random, 2_000, false);
+            let bad = texts::damaged(&mut random, &good);
+            to.along(&bad, &mut random);
+        }
+    });
+    comparison.set("texts that are not UTF-8", |to| {
+        let mut random = seeded(6);
+        for turn in 0..sized(60_000, 1_500) {
+            to.everywhere(&texts::not_utf8(&mut random, turn % 60));
+        }
+    });
+}
+
+/// Every text over the alphabet up to the given length. Behind each text stand
+/// bytes that would change the answer if they were read.
+fn every_text(alphabet: &[u8], longest: usize, mut visit: impl FnMut(&[u8])) {
+    for length in 0..=longest {
+        let mut choice = vec![0; length];
+        let mut text = vec![alphabet[0]; length];
+        text.extend_from_slice(b"\"*/ \n=>a8");
+        loop {
+            visit(&text[..length]);
+            let Some(moved) = choice.iter().rposition(|at| at + 1 < alphabet.len()) else {
+                break;
+            };
+            choice[moved] += 1;
+            choice[moved + 1..].fill(0);
+            for (byte, at) in text.iter_mut().zip(&choice).skip(moved) {
+                *byte = alphabet[*at];
+            }
+        }
+    }
+}
+
+/// An answer of the port that is not the expected one.
+#[derive(PartialEq)]
+struct Difference {
+    call: Call,
+    text: Vec<u8>,
+    at: usize,
+    expected: Expected,
+    found: Answer,
+}
+
+#[derive(Default)]
+struct Comparison {
+    answers: u64,
+    listed: [u64; Cause::ALL.len()],
+    different: u64,
+    shown: Vec<Difference>,
+}
+
+impl Comparison {
+    /// Runs one set and prints how many answers it compared.
+    fn set(&mut self, name: &str, run: impl FnOnce(&mut Comparison)) {
+        let (answers, different) = (self.answers, self.different);
+        run(self);
+        println!("{:<50} {:>12}", name, grouped(self.answers - answers));
+        if self.different > different {
+            println!("  DIFFERENT: {}", grouped(self.different - different));
+        }
+    }
+
+    /// Both calls at each offset and past the end, and the walk.
+    fn everywhere(&mut self, bytes: &[u8]) {
+        let text = Text::new(bytes);
+        for at in 0..=bytes.len() + 1 {
+            self.ask_both(&text, at);
+        }
+        self.walk(&text);
+    }
+
+    /// The walk, and both calls at some offsets, those around the end among them.
+    fn along(&mut self, bytes: &[u8], random: &mut Random) {
+        let text = Text::new(bytes);
+        let length = bytes.len();
+        for _ in 0..50 {
+            self.ask_both(&text, random.below(length + 1));
+        }
+        for at in [length, length + 1, 65_536, 1 << 32, usize::MAX] {
+            self.ask_both(&text, at);
+        }
+        self.walk(&text);
+    }
+
+    /// Token after token, each from where the last one ended, until EOF or a refusal;
+    /// the Rust goes the same way with one lexer. At each step the comment too.
+    fn walk(&mut self, text: &Text) {
+        if text.bytes.len() > expected::LONGEST {
+            return self.ask_both(text, 0);
+        }
+        let mut at = 0;
+        let mut reading = Reading::new(text.for_the_rust(at), at);
+        loop {
+            self.judge(Call::Comment, text, at, expected::comment(text, at));
+            let token = expected::token_of(text, at, reading.advance());
+            self.judge(Call::Token, text, at, token);
+            match token.answer.and_then(end_of_token) {
+                Some(end) => at = end,
+                None => return,
+            }
+            // After a panic the Rust's lexer is of no use: a new one goes on.
+            if token.cause.is_some() {
+                reading = Reading::new(text.for_the_rust(at), at);
+            }
+        }
+    }
+
+    fn ask_both(&mut self, text: &Text, at: usize) {
+        for call in [Call::Token, Call::Comment] {
+            self.judge(call, text, at, expected::answer(call, text, at));
+        }
+    }
+
+    fn judge(&mut self, call: Call, text: &Text, at: usize, expected: Expected) {
+        let found = station::ask(call, text.bytes, at);
+        self.answers += 1;
+        if let Some(cause) = expected.cause {
+            self.listed[cause as usize] += 1;
+        }
+        if expected.answer != Some(found) {
+            self.differs(Difference {
+                call,
+                text: text.bytes.to_vec(),
+                at,
+                expected,
+                found,
+            });
+        }
+    }
+
+    fn differs(&mut self, difference: Difference) {
+        self.different += 1;
+        if self.shown.len() < SHOWN && self.different <= MADE_SMALL {
+            let small = smallest(difference);
+            if !self.shown.contains(&small) {
+                self.shown.push(small);
+            }
+        }
+    }
+
+    fn print_summary(&self) {
+        println!("{:<50} {:>12}", "all", grouped(self.answers));
+        println!("\nOf these, decided by document 01 (docs/DIFFERENCES.md), and held to it:");
+        for cause in Cause::ALL {
+            let count = grouped(self.listed[cause as usize]);
+            println!("  {:<58} {:>12}", cause.words(), count);
+        }
+        println!("\ndifferences not listed: {}", grouped(self.different));
+        for difference in &self.shown {
+            difference.print();
+        }
+    }
+}
+
+/// Where an accepted token ends; None for EOF and refusals.
+fn end_of_token(answer: Answer) -> Option<usize> {
+    let [kind, _, end, ..] = answer.numbers;
+    (answer.result == 0 && kind != 0).then_some(end as usize)
+}
+
+/// The port's answer and the expected one, where they differ.
+fn difference(call: Call, text: &[u8], at: usize) -> Option<Difference> {
+    let expected = expected::answer(call, &Text::new(text), at);
+    let found = station::ask(call, text, at);
+    (expected.answer != Some(found)).then(|| Difference {
+        call,
+        text: text.to_vec(),
+        at,
+        expected,
+        found,
+    })
+}
+
+/// Takes bytes out of the text, long pieces first, as long as a difference stays.
+fn smallest(mut found: Difference) -> Difference {
+    let mut piece = found.text.len();
+    while piece > 0 {
+        let mut start = 0;
+        let mut shrunk = false;
+        while start + piece <= found.text.len() {
+            let mut text = found.text.clone();
+            text.drain(start..start + piece);
+            let before = found.at.clamp(start, start + piece) - start;
+            match difference(found.call, &text, found.at - before) {
+                Some(smaller) => {
+                    found = smaller;
+                    shrunk = true;
+                }
+                None => start += piece,
+            }
+        }
+        if !shrunk || piece > 1 {
+            piece /= 2;
+        }
+    }
+    found
+}
+
+impl Difference {
+    fn print(&self) {
+        let length = self.text.len();
+        println!("\n  {:?} call at {} of {length} bytes", self.call, self.at);
+        let cut = &self.text[..length.min(200)];
+        let more = if length > cut.len() { "..." } else { "" };
+        println!("    text     '{}'{more}", cut.escape_ascii());
+        let hex: String = cut.iter().map(|byte| format!("{byte:02x}")).collect();
+        println!("    in hex   {hex}{more}");
+        match self.expected.answer {
+            Some(answer) => println!("    expected {answer}"),
+            None => println!("    expected nothing: the Rust panics, and no list says why"),
+        }
+        if let Some(cause) = self.expected.cause {
+            println!("    because  {}", cause.words());
+        }
+        println!("    found    {}", self.found);
+    }
+}
+
+/// A number with commas between its thousands.
+fn grouped(number: u64) -> String {
+    let digits = number.to_string();
+    let groups: Vec<_> = digits.as_bytes().rchunks(3).rev().collect();
+    String::from_utf8_lossy(&groups.join(&b',')).into_owned()
+}

@@ -1,0 +1,52 @@
+//! The Rust lexer and parser of Move, byte for byte, as the judge of the port.
+
+// The included files name these crates; the stand-ins below take their places.
+extern crate self as move_command_line_common;
+extern crate self as move_ir_types;
+extern crate self as move_symbol_pool;
+
+#[macro_use]
+mod shims;
+pub use shims::{
+    diagnostics, files, location, shared, symbol::Symbol, FileCommentMap, MatchedFileCommentMap,
+};
+
+pub mod answer;
+pub mod expected;
+pub mod random;
+pub mod reading;
+#[cfg(test)]
+mod sha256;
+pub mod texts;
+
+/// The sha256 of each included file, to which the build held it.
+pub const SOURCES: &str = include_str!("../SHA256SUMS");
+
+/// The Rust files themselves.
+#[allow(dead_code, clippy::all)]
+pub mod parser {
+    pub mod ast {
+        include!(concat!(env!("MOVE_PARSER"), "/ast.rs"));
+    }
+
+    pub mod lexer {
+        include!(concat!(env!("MOVE_PARSER"), "/lexer.rs"));
+
+        // Two private things of the lexer that a comparison needs to see.
+        impl Lexer<'_> {
+            /// Where the current token ends.
+            pub fn end_loc(&self) -> usize {
+                self.cur_end
+            }
+
+            /// The doc comments that are not matched to anything yet.
+            pub fn doc_comments(&self) -> &FileCommentMap {
+                &self.doc_comments
+            }
+        }
+    }
+
+    pub mod syntax {
+        include!(concat!(env!("MOVE_PARSER"), "/syntax.rs"));
+    }
+}

@@ -1,0 +1,33 @@
+//! The port, through its C interface (include/movesig.h). Programs that link the
+//! static library include this file as a module.
+
+use oracle::answer::{Answer, Call};
+
+#[link(name = "station", kind = "static")]
+extern "C" {
+    pub fn movesig_next_token(text: *const u8, len: usize, at: usize, answer: *mut u64) -> u32;
+    pub fn movesig_next_comment(text: *const u8, len: usize, at: usize, answer: *mut u64) -> u32;
+}
+
+/// A number that no call answers: it shows what was not written.
+const UNWRITTEN: u64 = 0xa5a5_a5a5_a5a5_a5a5;
+
+/// Asks the port. The lent numbers are filled first, and have a neighbour on each
+/// side that must stay as it is.
+pub fn ask(call: Call, text: &[u8], at: usize) -> Answer {
+    let mut lent = [UNWRITTEN; 8];
+    let ask = match call {
+        Call::Token => movesig_next_token,
+        Call::Comment => movesig_next_comment,
+    };
+    let result = unsafe { ask(text.as_ptr(), text.len(), at, lent.as_mut_ptr().add(1)) };
+    assert!(
+        lent[0] == UNWRITTEN && lent[7] == UNWRITTEN,
+        "the port wrote beside the six numbers: {call:?} at {at} of '{}'",
+        text.escape_ascii()
+    );
+    Answer {
+        result,
+        numbers: [lent[1], lent[2], lent[3], lent[4], lent[5], lent[6]],
+    }
+}
