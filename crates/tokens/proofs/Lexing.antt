@@ -11,6 +11,8 @@ use lib.Seq.{drop-drop}
 use Rattle.gap.specs.Gap.{End, clear, broken, gap}
 use Rattle.gap.proofs.Gaps.{Ended, gap-ended}
 use Rattle.tokens.specs.Token.{Front, front, fault, findToken, Scanned, tok, bad, placed, behindGap, lex}
+use Rattle.tokens.specs.declared.Place.{Place}
+use Rattle.tokens.specs.declared.Refusal.{Refusal}
 use Rattle.tokens.proofs.Fronts.{Takes, find-takes}
 
 -- EOF, kind 0, stands at the text's end; any other token takes a byte
@@ -23,9 +25,13 @@ pub record Good (text : List ℕ) (at kind start end : ℕ) (word rest : List �
   pub spelled : word ≡ take (end - start) (drop start text)
   pub behind : rest ≡ drop end text
 
+-- a place in the text
+abbrev pub Inside : List ℕ → Place → Type 0
+Inside text p = (p .start ≤ p .end) × (p .end ≤ length text)
+
 abbrev pub Sound : List ℕ → ℕ → Scanned → Type 0
 Sound text at (tok k s e w r) = Good text at k s e w r
-Sound text at (bad r) = (r .place .start ≤ r .place .end) × (r .place .end ≤ length text)
+Sound text at (bad r) = Inside text (r .place) × Inside text (r .second)
 
 module _ (text : List ℕ) (at : ℕ) where
   placed-sound : (q : ℕ) (f : Front) → at ≤ q → q < length text → Takes (length (drop q text)) f → Sound text at (placed q (drop q text) f)
@@ -42,7 +48,7 @@ module _ (text : List ℕ) (at : ℕ) where
         spelled = rw d;
         behind = drop-drop n q text;
       }
-  placed-sound q (fault m i j) h g t = let l = length-drop q text in (omega arith, omega arith)
+  placed-sound q (fault m i j) h g t = let l = length-drop q text in ((omega arith, omega arith), (omega arith, omega arith))
 
   over-sound : (q : ℕ) → at ≤ q → q ≡ length text → drop q text ≡ [] → Sound text at (placed q [] (findToken []))
   unfolding placed findToken
@@ -67,7 +73,7 @@ module _ (text : List ℕ) (at : ℕ) where
       let n : suc (length s) ≡ length text - q = ap length (g .2) ∙ length-drop q text in
       subst (λ (l : List ℕ). Sound text at (placed q l (findToken (a ∷ s)))) (sym (g .2))
       (placed-sound q (findToken (a ∷ s)) (g .0) (omega arith) (subst (λ (l : List ℕ). Takes (length l) (findToken (a ∷ s))) (g .2) (find-takes a s)))
-  behind-sound (broken o q) h g = (omega (arith, g .0), g .1)
+  behind-sound (broken o q) h g = ((omega (arith, g .0), g .1), (omega (arith, g .0), g .1))
 
   pub lex-sound : at ≤ length text → Sound text at (lex at (drop at text))
   unfolding lex

@@ -4,3 +4,4 @@ pub mod Steps
 pub mod Walks
 pub mod Shift
 pub mod Alone
+pub mod Spelled
