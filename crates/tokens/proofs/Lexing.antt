@@ -12,7 +12,6 @@ use Rattle.gap.specs.Gap.{End, clear, broken, gap}
 use Rattle.gap.proofs.Gaps.{Ended, gap-ended}
 use Rattle.tokens.specs.Token.{Front, front, fault, findToken, Scanned, tok, bad, placed, behindGap, lex}
 use Rattle.tokens.specs.declared.Place.{Place}
-use Rattle.tokens.specs.declared.Refusal.{Refusal}
 use Rattle.tokens.proofs.Fronts.{Takes, find-takes}
 
 -- EOF, kind 0, stands at the text's end; any other token takes a byte

@@ -10,7 +10,7 @@ use borrow.Author.Tests.{eqb-true, eqb-false, not-true}
 use lib.Dec.{eqb, ltb}
 use lib.ListN.{length, getD, take, drop, length-take, length-drop}
 use lib.Seq.{drop-drop}
-use Rattle.gap.specs.Gap.{End, clear, broken, Gap, gap}
+use Rattle.gap.specs.Gap.{End, clear, broken, gap}
 use Rattle.tokens.proofs.Lexing.{Good, Sound, lex-sound}
 use Rattle.classes.specs.Bytes.{bytes, begins}
 use Rattle.classes.specs.Class.{isDigit, isLetter, isName, isAscii}

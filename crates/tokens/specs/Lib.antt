@@ -3,4 +3,3 @@ pub mod Token
 pub mod Calls
 pub mod Walk
 pub mod Raise
-pub mod Examples

@@ -1,0 +1,1 @@
+// Bindings, fields and binding lists.

@@ -1,0 +1,82 @@
+-- What the code answers for what a reader reads, with the token that follows already read, and what it writes.
+-- Assumes nothing.
+use Prim.Native.Nat.{ℕ, _-_, _≤_}
+use mathlib.Core.List.{List, []}
+use lib.ListN.{length, take, drop}
+use lib.Seq.{sets}
+use Rattle.tokens.specs.Answers.{refusal}
+use Rattle.tokens.specs.Token.{Scanned, tok, lex}
+use Rattle.tokens.specs.Calls.{textLimit, admitted, lexed}
+use Rattle.tokens.specs.declared.Token.{Token}
+use Rattle.tokens.specs.declared.Lexed.{Lexed}
+use Rattle.tokens.specs.declared.Lexed.the-variants.{Found, Refused as Bad}
+use Rattle.records.specs.Tree.{nameKind, threeKind, pairKind, addressValueKind, Tree, leaf, node, none, more}
+use Rattle.records.specs.Stored.{stored}
+use Rattle.names.specs.Reading.{Ans, ok, no, refusal₂}
+use Rattle.names.specs.Names.{firstPart}
+use Rattle.names.specs.Values.{leafValue}
+use Rattle.names.specs.declared.Parsed.{Parsed}
+use Rattle.names.specs.declared.Parsed.the-variants.{Read, Refused}
+
+-- a token of a text that is not too long
+abbrev pub Standing : List ℕ → Token → Type 0
+Standing text t = (length text ≤ textLimit) × (t .start ≤ t .end) × (t .end ≤ length text)
+
+-- the token with its word and what is behind it
+abbrev pub wordOf : List ℕ → Token → List ℕ
+wordOf text t = take (t .end - t .start) (drop (t .start) text)
+
+abbrev pub scanned : List ℕ → Token → Scanned
+scanned text t = tok (t .kind) (t .start) (t .end) (wordOf text t) (drop (t .end) text)
+
+-- the parts of a name by their tokens, and what they make
+abbrev pub firstOf : List ℕ → Token → Tree
+firstOf text a = firstPart (a .kind) (a .start) (a .end) (wordOf text a)
+
+abbrev pub nameOf : List ℕ → Token → Tree
+nameOf text b = leaf nameKind (b .start) (b .end) (wordOf text b)
+
+abbrev pub pairOf : ℕ → List ℕ → Token → Token → Tree
+pairOf k text a b = node k (a .start) (b .end) (more (firstOf text a) (more (nameOf text b) none))
+
+abbrev pub threeOf : List ℕ → Token → Token → Token → Tree
+threeOf text a b c = node threeKind (a .start) (c .end) (more (pairOf pairKind text a b) (more (nameOf text c) none))
+
+-- an address behind its `@`, and a value that is one token
+abbrev pub addressOf : List ℕ → Token → Token → Tree
+addressOf text a b = node addressValueKind (a .start) (b .end) (more (firstOf text b) none)
+
+abbrev pub leafOf : ℕ → List ℕ → Token → Ans Tree
+leafOf c text a = leafValue c (a .kind) (a .start) (a .end) (wordOf text a) (drop (a .end) text)
+
+abbrev pub noValue : Token → Parsed
+noValue t = Refused (refusal 13 (t .start) (t .end))
+
+abbrev pub unexpected : Token → Parsed
+unexpected t = Refused (refusal 10 (t .start) (t .end))
+
+abbrev pub colonsDue : Token → Token → Parsed
+colonsDue n a = Refused (refusal₂ 10 (n .start) (n .end) (a .start) (a .end))
+
+-- a tree whose stored form has n bytes and which ends at q, and the token that follows
+unfoldable pub follow : ℕ → ℕ → Lexed → Parsed
+follow n q (Found t) = Read (record { len = n; end = q; next = t })
+follow n q (Bad r) = Refused r
+
+unfoldable pub parsed : Ans Tree → Parsed
+parsed (ok x q u) = follow (length (stored x)) q (lexed (lex q u))
+parsed (no r) = Refused r
+
+-- the bytes that are promised: all where something was read, none where it was refused
+unfoldable pub kept : Parsed → List ℕ → List ℕ
+kept (Read p) out = out
+kept (Refused r) out = []
+
+-- the buffer with what was read at pos
+unfoldable pub put : ℕ → Ans Tree → List ℕ → List ℕ
+put pos (ok x q u) out = sets out pos (stored x)
+put pos (no r) out = out
+
+-- a reader from an offset on, with refusals 1 and 2
+unfoldable pub admittedPart : (Scanned → Ans Tree) → List ℕ → ℕ → Ans Tree
+admittedPart one text at = admitted no text at (one (lex at (drop at text)))

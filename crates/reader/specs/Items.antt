@@ -1,0 +1,48 @@
+-- The five kinds of items, read at an offset of a text.
+-- Assumes nothing.
+use Prim.Native.Nat.{ℕ}
+use mathlib.Core.Bool.{_||_}
+use mathlib.Core.List.{List}
+use lib.Dec.{eqb, ltb}
+use lib.ListN.{length, drop}
+use Rattle.tokens.specs.Answers.{refusal, token}
+use Rattle.tokens.specs.Token.{Scanned, tok, bad, lex}
+use Rattle.tokens.specs.Calls.{textLimit}
+use Rattle.tokens.specs.declared.Refusal.{Refusal}
+use Rattle.tokens.specs.declared.Token.{Token}
+use Rattle.records.specs.Tree.{Tree}
+use Rattle.names.specs.Reading.{Ans, ok, no, when}
+use Rattle.names.specs.Names.{chain}
+use Rattle.names.specs.Values.{value}
+use Rattle.types.specs.Types.{readType}
+use Rattle.binds.specs.Binds.{levels, readBindList, readLambdaList}
+
+-- an item's tree and the token that follows it, already read; or a refusal
+pub data Item : Type 0 where
+  item : Tree → Token → Item
+  refused : Refusal → Item
+
+-- 1 name, 2 value, 3 type, 4 binding list, 5 lambda binding list
+unfoldable pub readKind : ℕ → Scanned → Ans Tree
+readKind kind l =
+    when (eqb kind 1) (λ _. chain l) λ _.
+    when (eqb kind 2) (λ _. value l) λ _.
+    when (eqb kind 3) (λ _. readType levels l) λ _.
+    when (eqb kind 4) (λ _. readBindList l) λ _.
+    readLambdaList l
+
+unfoldable pub followed : Tree → Scanned → Item
+followed t (tok k s e w r) = item t (token k s e)
+followed t (bad r) = refused r
+
+unfoldable pub finished : Ans Tree → Item
+finished (ok t q u) = followed t (lex q u)
+finished (no r) = refused r
+
+-- refusals 1, 2 and 3, in this order; then what the text says
+unfoldable pub readItem : ℕ → List ℕ → ℕ → Item
+readItem kind text at =
+    when (ltb textLimit (length text)) (λ _. refused (refusal 1 0 0)) λ _.
+    when (ltb (length text) at) (λ _. refused (refusal 2 0 0)) λ _.
+    when (eqb kind 0 || ltb 5 kind) (λ _. refused (refusal 3 0 0)) λ _.
+    finished (readKind kind (lex at (drop at text)))

@@ -1,0 +1,35 @@
+-- The stored form of a tree: length, kind, start and end of each record in two bytes each, the low one first, then its children.
+-- Assumes nothing.
+use Prim.Native.Nat.{ℕ, _+_, _/_, _%_}
+use mathlib.Core.List.{List, [], _∷_, _++_}
+use lib.ListN.{length}
+use Rattle.records.specs.Tree.{Tree, leaf, node, Trees, none, more, Build, spelled, made, Builds, bnone, bmore}
+
+unfoldable pub two : ℕ → List ℕ
+two v = v % 256 ∷ v / 256 % 256 ∷ []
+
+unfoldable pub span : ℕ → ℕ → List ℕ
+span s e = two s ++ two e
+
+-- the head of a record that has `len` bytes with its children
+unfoldable pub header : ℕ → ℕ → ℕ → ℕ → List ℕ
+header len k s e = two len ++ (two k ++ span s e)
+
+unfoldable mutual
+  pub stored : Tree → List ℕ
+  stored (leaf k s e w) = header 8 k s e
+  stored (node k s e ts) = header (length (storedAll ts) + 8) k s e ++ storedAll ts
+
+  pub storedAll : Trees → List ℕ
+  storedAll none = []
+  storedAll (more t ts) = stored t ++ storedAll ts
+
+-- the length of the stored form, by the build alone
+unfoldable mutual
+  pub size : Build → ℕ
+  size (spelled k w) = 8
+  size (made k bs) = sizes bs + 8
+
+  pub sizes : Builds → ℕ
+  sizes bnone = 0
+  sizes (bmore b bs) = size b + sizes bs
