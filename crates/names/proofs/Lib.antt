@@ -4,3 +4,4 @@ pub mod Steps
 pub mod Chains
 pub mod Returns
 pub mod Values
+pub mod Levels

@@ -2,7 +2,8 @@
 //!
 //! One case a line, single blanks between: `t` (token) or `c` (comment), the start
 //! offset, the result, the six numbers, and the text in hex (`-` if it is empty).
-//! Cases that the Rust cannot answer are left out, but for starts past the end.
+//! Cases that the Rust cannot answer are left out, but for starts past the end. Behind
+//! them stand some wrong answers, so that a replay that finds none of them is seen.
 
 use oracle::{
     answer::Call,
@@ -22,6 +23,7 @@ fn main() {
     strings(&mut sample);
     gaps(&mut sample);
     snippets(&mut sample);
+    wrong(&mut sample);
     print!("{}", sample.lines);
 }
 
@@ -353,5 +355,18 @@ fn snippets(sample: &mut Sample) {
         "let invariant_ = continue1 as u64 x\"open\r\nfalse",
     ] {
         sample.walk(text);
+    }
+}
+
+/// Answers that are wrong in the result, in the first or in the last number.
+fn wrong(sample: &mut Sample) {
+    for line in [
+        "t 0 5 4 0 1 0 0 0 61",
+        "t 0 0 5 0 1 0 0 0 61",
+        "t 0 0 4 0 1 0 0 1 61",
+        "c 0 0 1 0 0 0 0 0 61",
+    ] {
+        sample.lines += line;
+        sample.lines.push('\n');
     }
 }
