@@ -5,3 +5,5 @@ pub mod Chains
 pub mod Returns
 pub mod Values
 pub mod Levels
+pub mod Lists
+pub mod Shift

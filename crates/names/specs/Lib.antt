@@ -2,3 +2,4 @@ pub mod Reading
 pub mod Names
 pub mod Values
 pub mod Parsed
+pub mod Raise

@@ -1,3 +1,4 @@
 pub mod Items
 pub mod Calls
+pub mod Raise
 pub mod Examples

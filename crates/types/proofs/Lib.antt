@@ -1,2 +1,3 @@
 pub mod Sure
 pub mod Levels
+pub mod Shift
