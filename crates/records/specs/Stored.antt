@@ -1,6 +1,6 @@
 -- The stored form of a tree: length, kind, start and end of each record in two bytes each, the low one first, then its children.
 -- Assumes nothing.
-use Prim.Native.Nat.{ℕ, _+_, _/_, _%_}
+use Prim.Native.Nat.{ℕ, _+_, _/_, _%_, _<_}
 use mathlib.Core.List.{List, [], _∷_, _++_}
 use lib.ListN.{length}
 use Rattle.records.specs.Tree.{Tree, leaf, node, Trees, none, more, Build, spelled, made, Builds, bnone, bmore}
@@ -33,3 +33,23 @@ unfoldable mutual
   pub sizes : Builds → ℕ
   sizes bnone = 0
   sizes (bmore b bs) = size b + sizes bs
+
+-- a tree as its records show it: without words, and a leaf is a record without children
+unfoldable mutual
+  pub unspelled : Tree → Tree
+  unspelled (leaf k s e w) = node k s e none
+  unspelled (node k s e ts) = node k s e (unspelledAll ts)
+
+  pub unspelledAll : Trees → Trees
+  unspelledAll none = none
+  unspelledAll (more t ts) = more (unspelled t) (unspelledAll ts)
+
+-- each number of a tree's records has two bytes
+unfoldable mutual
+  pub Short : Tree → Type 0
+  Short (leaf k s e w) = (k < 65536) × (s < 65536) × (e < 65536)
+  Short (node k s e ts) = (k < 65536) × (s < 65536) × (e < 65536) × (length (storedAll ts) + 8 < 65536) × ShortAll ts
+
+  pub ShortAll : Trees → Type 0
+  ShortAll none = Unit {0}
+  ShortAll (more t ts) = Short t × ShortAll ts
