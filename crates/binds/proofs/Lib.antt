@@ -1,3 +1,4 @@
 pub mod Sure
 pub mod Levels
 pub mod Shift
+pub mod Kinded

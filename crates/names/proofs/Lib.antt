@@ -7,3 +7,4 @@ pub mod Values
 pub mod Levels
 pub mod Lists
 pub mod Shift
+pub mod Kinded

@@ -1,3 +1,4 @@
 pub mod Sure
 pub mod Room
 pub mod Shift
+pub mod Faithful

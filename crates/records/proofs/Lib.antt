@@ -1,3 +1,4 @@
 pub mod Pieces
 pub mod Sizes
 pub mod Injective
+pub mod Short

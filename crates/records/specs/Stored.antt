@@ -53,3 +53,13 @@ unfoldable mutual
   pub ShortAll : Trees → Type 0
   ShortAll none = Unit {0}
   ShortAll (more t ts) = Short t × ShortAll ts
+
+-- each kind of a tree's records has two bytes
+unfoldable mutual
+  pub Kinds : Tree → Type 0
+  Kinds (leaf k s e w) = k < 65536
+  Kinds (node k s e ts) = (k < 65536) × KindsAll ts
+
+  pub KindsAll : Trees → Type 0
+  KindsAll none = Unit {0}
+  KindsAll (more t ts) = Kinds t × KindsAll ts
