@@ -12,13 +12,14 @@ use Rattle.tokens.specs.declared.Refusal.{Refusal}
 use Rattle.tokens.proofs.Lexing.{Good}
 use Rattle.records.specs.Tree.{nameKind, variableKind, structKind, structWithKind, fieldKind, bindListKind, lambdaListKind, Tree, leaf, node, Trees, none, more, joined, startOf, endOf, Nested, Within}
 use Rattle.records.specs.Stored.{stored, storedAll}
+use Rattle.records.proofs.Nesting.{wider, nested-order}
 use Rattle.records.proofs.Sizes.{leaf-size, node-size, size-none, size-more}
-use Rattle.names.specs.Reading.{Ans, ok, no, look, listBehind, identifierTok, openTok, closeTok, colonTok, lessTok, greaterTok, braceTok, pipeTok, endBraceTok}
+use Rattle.names.specs.Reading.{Ans, ok, no, then, look, listBehind, identifierTok, openTok, closeTok, colonTok, lessTok, greaterTok, braceTok, pipeTok, endBraceTok}
 use Rattle.names.specs.Names.{chain}
 use Rattle.names.proofs.Sure.{On, Read, Reads, Sure, SureAll, Reader, look-sure, when-sure, then-sure, behind-sure}
 use Rattle.names.proofs.Parts.{leaf-read, at-token, chain-from, from-first}
 use Rattle.types.specs.Types.{readType}
-use Rattle.types.proofs.Sure.{wider, nested-order, node-read, applied, read-type-sure}
+use Rattle.types.proofs.Sure.{node-read, plain, applied, read-type-sure}
 use Rattle.binds.specs.Binds.{levels, isStruct, fields, structOver, unpacked, bindOver, fieldOver, readField, readBind, readBindList, readLambdaList}
 
 -- one list behind another
@@ -158,51 +159,36 @@ module _ (text : List ℕ) where
   bind-bad zero r = refl
   bind-bad (suc n) r = refl
 
-  pub read-bind-from : (n at k s e : ℕ) (w r : List ℕ) → Good text at k s e w r → Sure text 16 s (readBind n (tok k s e w r))
+  read-bind-from : (n at k s e : ℕ) (w r : List ℕ) → Good text at k s e w r → Sure text 16 s (readBind n (tok k s e w r))
   unfolding readBind look
   read-bind-from zero at k s e w r g = at-token text 14 s e at k w r g
   read-bind-from (suc n) at k s e w r g =
       let inner : Reader text (readBind n) = from-first text 16 (readBind n) (bind-bad n) λ at k s e w r l g. read-bind-from n at k s e w r g in
       bind-from (readType n) (readField n (readBind n)) (read-type-sure text n) (field-sure n (readBind n) inner) at k s e w r g
 
-  pub read-bind-sure : (n : ℕ) → Reader text (readBind n)
+  read-bind-sure : (n : ℕ) → Reader text (readBind n)
   read-bind-sure n = from-first text 16 (readBind n) (bind-bad n) λ at k s e w r l g. read-bind-from n at k s e w r g
 
   -- a list of bindings behind its first token, which ends at e
-  bind-list : (close s e : ℕ) → 0 < close → s ≤ e → e ≤ length text → SureAll text e (listBehind (readBind levels) close s e (drop e text))
-  bind-list close s e c j h = behind-sure text (readBind levels) (read-bind-sure levels) close s c (omega arith) e h
-
-  listed : (k s e : ℕ) (ts : Trees) (q : ℕ) (u : List ℕ) → s < e → Reads text e ts q u → Read text 0 s (node k s q ts) q u
-  listed k s e ts q u t d = node-read text s k s e ts q u (omega arith) t (d .order) (d .on) (d .small)
-
-  alone : (s : ℕ) (x : Tree) (q : ℕ) (u : List ℕ) → Read text 16 s x q u → Read text 0 s (node bindListKind s q (more x none)) q u
-  unfolding startOf endOf Nested Within
-  alone s x q u d =
-      record {
-        on = d .on;
-        from = omega arith;
-        some = d .on .further;
-        to = refl;
-        nested = (omega (arith, d .on .further), (d .from, omega (arith, d .to), d .nested, tt));
-        small = omega (arith, node-size bindListKind s q (more x none), size-more x none, size-none, d .small, d .from);
-      }
+  listed-sure : (k close s e : ℕ) → 0 < close → s < e → e ≤ length text → Sure text 0 s (then (listBehind (readBind levels) close s e (drop e text)) λ ts q u. ok (node k s q ts) q u)
+  listed-sure k close s e c t h =
+      let a₁ : SureAll text e (listBehind (readBind levels) close s e (drop e text)) = behind-sure text (readBind levels) (read-bind-sure levels) close s c (omega arith) e h in
+      then-sure text (Sure text 0 s) (listBehind (readBind levels) close s e (drop e text)) _
+      (λ ts q u a.
+      let d : Reads text e ts q u = subst (SureAll text e) a a₁ in
+      node-read text s k s e ts q u (omega arith) t (d .order) (d .on) (d .small))
+      (λ r a. subst (SureAll text e) a a₁)
 
   pub bind-list-sure : Reader text readBindList
   unfolding readBindList look
   bind-list-sure =
       from-first text 0 readBindList (λ r. refl) λ at k s e w r l g.
       when-sure text (Sure text 0 s) (eqb k openTok) _ _
-      (λ c.
-      let t : s < e = g .takes (omega (arith, eqb-true k 11 c)) in
-      let a₁ : SureAll text e (listBehind (readBind levels) closeTok s e (drop e text)) = bind-list closeTok s e (omega arith) (g .ordered) (g .within) in
-      rw (g .behind)
-      (then-sure text (Sure text 0 s) (listBehind (readBind levels) closeTok s e (drop e text)) _
-      (λ ts q u a. listed bindListKind s e ts q u t (subst (SureAll text e) a a₁))
-      (λ r₂ a. subst (SureAll text e) a a₁)))
+      (λ c. rw (g .behind) (listed-sure bindListKind closeTok s e (omega arith) (g .takes (omega (arith, eqb-true k 11 c))) (g .within)))
       (λ _.
       let a₁ : Sure text 16 s (readBind levels (tok k s e w r)) = read-bind-from levels at k s e w r g in
       then-sure text (Sure text 0 s) (readBind levels (tok k s e w r)) _
-      (λ x q u a. alone s x q u (subst (Sure text 16 s) a a₁))
+      (λ x q u a. plain text bindListKind s x q u (subst (Sure text 16 s) a a₁))
       (λ r₂ a. subst (Sure text 16 s) a a₁))
 
   pub lambda-list-sure : Reader text readLambdaList
@@ -210,11 +196,5 @@ module _ (text : List ℕ) where
   lambda-list-sure =
       from-first text 0 readLambdaList (λ r. refl) λ at k s e w r l g.
       when-sure text (Sure text 0 s) (eqb k pipeTok) _ _
-      (λ c.
-      let t : s < e = g .takes (omega (arith, eqb-true k 59 c)) in
-      let a₁ : SureAll text e (listBehind (readBind levels) pipeTok s e (drop e text)) = bind-list pipeTok s e (omega arith) (g .ordered) (g .within) in
-      rw (g .behind)
-      (then-sure text (Sure text 0 s) (listBehind (readBind levels) pipeTok s e (drop e text)) _
-      (λ ts q u a. listed lambdaListKind s e ts q u t (subst (SureAll text e) a a₁))
-      (λ r₂ a. subst (SureAll text e) a a₁)))
+      (λ c. rw (g .behind) (listed-sure lambdaListKind pipeTok s e (omega arith) (g .takes (omega (arith, eqb-true k 59 c))) (g .within)))
       (λ _. at-token text 10 s e at k w r g)

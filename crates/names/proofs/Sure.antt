@@ -16,6 +16,7 @@ use Rattle.tokens.proofs.Lexing.{Inside, Good, Sound, lex-sound}
 use Rattle.tokens.proofs.Spelled.{shift-split}
 use Rattle.classes.proofs.Bools.{and-right}
 use Rattle.records.specs.Tree.{Tree, Trees, none, more, startOf, endOf, Nested, Within}
+use Rattle.records.proofs.Nesting.{wider}
 use Rattle.records.specs.Stored.{stored, storedAll}
 use Rattle.names.specs.Reading.{Ans, ok, no, refusal₂, then, look, when, commaTok, greaterTok, shiftTok, closing, closed, afterItem, list, listBehind}
 
@@ -108,17 +109,12 @@ module _ (text : List ℕ) where
         small = omega (arith, length-append (stored t) [], d .small, d .from, p .further);
       }
 
-  wider : (ts : Trees) (p p₂ e : ℕ) → p₂ ≤ p → Within p ts e → Within p₂ ts e
-  unfolding Within
-  wider none p p₂ e h d = tt
-  wider (more t ts) p p₂ e h d = (omega (arith, d .0), d .1, d .2, d .3)
-
   more-read : (at : ℕ) (t : Tree) (q : ℕ) (u : List ℕ) (at₂ : ℕ) (ts : Trees) (q₂ : ℕ) (u₂ : List ℕ) → Read 0 at t q u → q ≤ at₂ → Reads at₂ ts q₂ u₂ → Reads at (more t ts) q₂ u₂
   unfolding Within storedAll
   more-read at t q u at₂ ts q₂ u₂ d h p =
       record {
         on = record { rest = p .on .rest; further = omega (arith, p .on .further, d .on .further); inside = p .on .inside };
-        order = (d .from, omega (arith, d .to, p .on .further), d .nested, wider ts at₂ (startOf t) q₂ (omega (arith, d .some)) (p .order));
+        order = (d .from, omega (arith, d .to, p .on .further), d .nested, wider ts at₂ (startOf t) q₂ q₂ (omega (arith, d .some)) (omega arith) (p .order));
         small = omega (arith, length-append (stored t) (storedAll ts), d .small, d .from, p .small);
       }
 

@@ -35,34 +35,34 @@ kind-kinds kind l =
     (when-every Kinds (eqb kind 4) _ _ (bind-list-kinds l) (lambda-list-kinds l))))
 
 -- an accepted item's kinds, in a text that is not too long
-abbrev Kept : List ℕ → Item → Type 0
-Kept text (item t n) = Kinds t × (length text ≤ textLimit)
-Kept text (refused r) = Unit {0}
+abbrev TwoByte : List ℕ → Item → Type 0
+TwoByte text (item t n) = Kinds t × (length text ≤ textLimit)
+TwoByte text (refused r) = Unit {0}
 
-finished-kept : (text : List ℕ) → length text ≤ textLimit → (a : Ans Tree) → Every Kinds a → Kept text (finished a)
+finished-two-byte : (text : List ℕ) → length text ≤ textLimit → (a : Ans Tree) → Every Kinds a → TwoByte text (finished a)
 unfolding finished followed
-finished-kept text h (ok t q u) g = go (lex q u)
+finished-two-byte text h (ok t q u) g = go (lex q u)
   where
-    go : (l : Scanned) → Kept text (followed t l)
+    go : (l : Scanned) → TwoByte text (followed t l)
     go (tok k s e w r) = (g, h)
     go (bad r) = tt
-finished-kept text h (no r) g = tt
+finished-two-byte text h (no r) g = tt
 
-item-kept : (kind : ℕ) (text : List ℕ) (at : ℕ) → Kept text (readItem kind text at)
+item-two-byte : (kind : ℕ) (text : List ℕ) (at : ℕ) → TwoByte text (readItem kind text at)
 unfolding readItem
-item-kept kind text at =
-    let P : Item → Type 0 = Kept text in
+item-two-byte kind text at =
+    let P : Item → Type 0 = TwoByte text in
     when-sure text P (ltb textLimit (length text)) _ _ (λ _. tt)
     (λ b. when-sure text P (ltb (length text) at) _ _ (λ _. tt)
     (λ _. when-sure text P (eqb kind 0 || ltb 5 kind) _ _ (λ _. tt)
-    (λ _. finished-kept text (ltb-false textLimit (length text) b) (readKind kind (lex at (drop at text))) (kind-kinds kind (lex at (drop at text))))))
+    (λ _. finished-two-byte text (ltb-false textLimit (length text) b) (readKind kind (lex at (drop at text))) (kind-kinds kind (lex at (drop at text))))))
 
 pub read-short : (kind : ℕ) (text : List ℕ) (at room : ℕ) (t : Tree) (n : Token) → read kind text at room ≡ item t n → Short t
 unfolding read
 read-short kind text at room t n e =
     let f = roomed-fits stored room (readItem kind text at) t n e in
     let h = subst (Held text at) (f .0) (item-held text kind at) in
-    let g = subst (Kept text) (f .0) (item-kept kind text at) in
+    let g = subst (TwoByte text) (f .0) (item-two-byte kind text at) in
     short-tree t (g .0) (h .nested) (omega (arith, h .follows, h .ordered, h .within, g .1)) (omega (arith, f .2))
 
 -- reads of any texts, offsets and kinds that give the same bytes have the same records

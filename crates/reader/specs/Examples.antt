@@ -120,6 +120,13 @@ points =
     ∷ read 4 (times 63 (bytes "S{f:") ++ (bytes "x" ++ times 63 (bytes "}"))) 0 (six 2032 0 316 316)
     ∷ read 4 (times 64 (bytes "S{f:") ++ (bytes "x" ++ times 64 (bytes "}"))) 14 (six 254 255 254 255)
     ∷ read 4 (times 63 (bytes "S{f:") ++ (bytes "S<u8>{}" ++ times 63 (bytes "}"))) 14 (six 254 256 254 256)
+    ∷ read 3 (times 63 (bytes "& ") ++ bytes "u8") 0 (six 520 0 128 128)
+    ∷ read 3 (times 64 (bytes "& ") ++ bytes "u8") 14 (six 128 130 128 130)
+    ∷ read 3 (times 64 (bytes "&mut ") ++ bytes "u8") 14 (six 320 322 320 322)
+    ∷ read 3 (times 64 (bytes "| | ") ++ bytes "u8") 14 (six 256 258 256 258)
+    ∷ read 3 (times 32 (bytes "|(") ++ bytes "u8") 14 (six 64 66 64 66)
+    ∷ read 3 (times 64 (bytes "a<") ++ bytes "u8") 14 (six 128 130 128 130)
+    ∷ read 4 (times 63 (bytes "S{f:") ++ bytes "S{f}") 14 (six 254 255 254 255)
     ∷ read 6 (bytes "a") 3 (six 0 0 0 0)
     ∷ read 0 (bytes "a") 3 (six 0 0 0 0)
     ∷ []

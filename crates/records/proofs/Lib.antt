@@ -2,3 +2,4 @@ pub mod Pieces
 pub mod Sizes
 pub mod Injective
 pub mod Short
+pub mod Nesting

@@ -12,6 +12,7 @@ use Rattle.tokens.specs.Token.{Scanned, tok, lex}
 use Rattle.tokens.proofs.Lexing.{Good}
 use Rattle.records.specs.Tree.{typeKind, refKind, refMutKind, functionKind, unitKind, tupleKind, Tree, leaf, node, Trees, none, more, behind, respan, startOf, endOf, Nested, Within}
 use Rattle.records.specs.Stored.{stored, storedAll}
+use Rattle.records.proofs.Nesting.{wider, nested-order}
 use Rattle.records.proofs.Sizes.{leaf-size, node-size, size-none, size-more}
 use Rattle.names.specs.Reading.{Ans, ok, look, listBehind, ampTok, ampMutTok, openTok, closeTok, lessTok, greaterTok, pipeTok}
 use Rattle.names.specs.Names.{chain}
@@ -24,11 +25,6 @@ respan-size : (s e : ℕ) (t : Tree) → length (stored (respan s e t)) ≡ leng
 unfolding respan
 respan-size s e (leaf k s₀ e₀ w) = leaf-size k s e w ∙ sym (leaf-size k s₀ e₀ w)
 respan-size s e (node k s₀ e₀ ts) = node-size k s e ts ∙ sym (node-size k s₀ e₀ ts)
-
-pub wider : (ts : Trees) (p p₂ e e₂ : ℕ) → p₂ ≤ p → e ≤ e₂ → Within p ts e → Within p₂ ts e₂
-unfolding Within
-wider none p p₂ e e₂ h g d = tt
-wider (more t ts) p p₂ e e₂ h g d = (omega (arith, d .0), omega (arith, d .1), d .2, wider ts (startOf t) (startOf t) e e₂ (omega arith) g (d .3))
 
 respan-nested : (s e : ℕ) (t : Tree) → s ≤ startOf t → endOf t ≤ e → s ≤ e → Nested t → Nested (respan s e t)
 unfolding respan Nested startOf endOf
@@ -44,11 +40,6 @@ respan-end : (s e : ℕ) (t : Tree) → endOf (respan s e t) ≡ e
 unfolding respan endOf
 respan-end s e (leaf k s₀ e₀ w) = refl
 respan-end s e (node k s₀ e₀ ts) = refl
-
-pub nested-order : (t : Tree) → Nested t → startOf t ≤ endOf t
-unfolding Nested startOf endOf
-nested-order (leaf k s e w) n = n
-nested-order (node k s e ts) n = n .0
 
 -- the result behind the arguments
 behind-size : (ts : Trees) (u : Tree) → length (storedAll (behind ts u)) ≡ length (storedAll ts) + length (stored u)
@@ -102,17 +93,17 @@ module _ (text : List ℕ) where
         small = omega (arith, respan-size s q x, respan-start s q x, d .small, size-more x none, size-none, p .further);
       }
 
-  -- a named type, without arguments and with them
-  plain : (s : ℕ) (c : Tree) (q : ℕ) (u : List ℕ) → Read text 16 s c q u → Read text 0 s (node typeKind s q (more c none)) q u
+  -- a record of kind k over one tree alone
+  pub plain : (k s : ℕ) (c : Tree) (q : ℕ) (u : List ℕ) → Read text 16 s c q u → Read text 0 s (node k s q (more c none)) q u
   unfolding startOf endOf Nested Within
-  plain s c q u d =
+  plain k s c q u d =
       record {
         on = d .on;
         from = omega arith;
         some = d .on .further;
         to = refl;
         nested = (omega (arith, d .on .further), (d .from, omega (arith, d .to), d .nested, tt));
-        small = omega (arith, node-size typeKind s q (more c none), size-more c none, size-none, d .small, d .from);
+        small = omega (arith, node-size k s q (more c none), size-more c none, size-none, d .small, d .from);
       }
 
   -- a record of kind k over a name and what stands behind the mark that follows it
@@ -153,7 +144,7 @@ module _ (text : List ℕ) where
         let y : k₂ ≡ 25 = eqb-true k₂ 25 b in
         sooner text s s 16 (ok (node typeKind s q₃ (more c ts)) q₃ u₃) (omega arith) (applied typeKind s c q u ts e₂ q₃ u₃ d (omega (arith, g₂ .from, g₂ .takes (omega arith))) (subst (SureAll text e₂) a a₂)))
         (λ r a. subst (SureAll text e₂) a a₂)))
-        (λ _. plain s c q (drop q text) (rw (d .on .rest) at d)))
+        (λ _. plain typeKind s c q (drop q text) (rw (d .on .rest) at d)))
 
     named-sure : (at k s e : ℕ) (w r : List ℕ) → Good text at k s e w r → Sure text 0 s (named item s (tok k s e w r))
     unfolding named

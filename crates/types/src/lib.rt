@@ -1,1 +1,1 @@
-// Types and type lists.
+// No code yet: the definitions of types are in specs/, what holds of them in proofs/.
