@@ -9,9 +9,9 @@ use Rattle.records.specs.Stored.{Kinds, KindsAll}
 use Rattle.names.specs.Reading.{Ans, listBehind, identifierTok, openTok, closeTok, colonTok, lessTok, greaterTok, braceTok, pipeTok, endBraceTok}
 use Rattle.names.specs.Names.{chain}
 use Rattle.names.proofs.Kinded.{Every, Kinded, look-every, when-every, then-every, behind-kinds, chain-kinds}
-use Rattle.types.specs.Types.{readType}
+use Rattle.types.specs.Types.{levels, readType}
 use Rattle.types.proofs.Kinded.{type-kinds}
-use Rattle.binds.specs.Binds.{levels, isStruct, fields, structOver, unpacked, bindOver, fieldOver, readField, readBind, readBindList, readLambdaList}
+use Rattle.binds.specs.Binds.{isStruct, fields, structOver, unpacked, bindOver, fieldOver, readField, readBind, readBindList, readLambdaList}
 
 joined-kinds : (ts us : Trees) → KindsAll ts → KindsAll us → KindsAll (joined ts us)
 unfolding joined KindsAll

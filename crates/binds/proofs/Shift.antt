@@ -13,9 +13,9 @@ use Rattle.names.specs.Reading.{Ans, listBehind, identifierTok, openTok, closeT
 use Rattle.names.specs.Names.{chain}
 use Rattle.names.specs.Raise.{raiseAns}
 use Rattle.names.proofs.Shift.{RaisedReader, look-up, next-up, when-up, then-up, behind-up, chain-up}
-use Rattle.types.specs.Types.{readType}
+use Rattle.types.specs.Types.{levels, readType}
 use Rattle.types.proofs.Shift.{type-up}
-use Rattle.binds.specs.Binds.{levels, isStruct, fields, structOver, unpacked, bindOver, fieldOver, readField, readBind, readBindList, readLambdaList}
+use Rattle.binds.specs.Binds.{isStruct, fields, structOver, unpacked, bindOver, fieldOver, readField, readBind, readBindList, readLambdaList}
 
 module _ (k : ℕ) where
   joined-up : (ts us : Trees) → joined (raiseTrees k ts) (raiseTrees k us) ≡ raiseTrees k (joined ts us)

@@ -1,7 +1,7 @@
 -- Bindings: what holds of every answer, whatever levels are left.
 -- Assumes nothing.
 use mathlib.Core.Path.{_≡_, refl, _∙_, subst}
-use mathlib.Core.List.{List, []}
+use mathlib.Core.List.{List}
 use Prim.Native.Nat.{ℕ, zero, suc, _+_, _*_, _<_, _≤_}
 use native.Mathlib.Omega.{arith}
 use borrow.Author.Tests.{eqb-true}
@@ -18,9 +18,9 @@ use Rattle.names.specs.Reading.{Ans, ok, no, then, look, listBehind, identifier
 use Rattle.names.specs.Names.{chain}
 use Rattle.names.proofs.Sure.{On, Read, Reads, Sure, SureAll, Reader, look-sure, when-sure, then-sure, behind-sure}
 use Rattle.names.proofs.Parts.{leaf-read, at-token, chain-from, from-first}
-use Rattle.types.specs.Types.{readType}
+use Rattle.types.specs.Types.{levels, readType}
 use Rattle.types.proofs.Sure.{node-read, plain, applied, read-type-sure}
-use Rattle.binds.specs.Binds.{levels, isStruct, fields, structOver, unpacked, bindOver, fieldOver, readField, readBind, readBindList, readLambdaList}
+use Rattle.binds.specs.Binds.{isStruct, fields, structOver, unpacked, bindOver, fieldOver, readField, readBind, readBindList, readLambdaList}
 
 -- one list behind another
 joined-size : (ts us : Trees) → length (storedAll (joined ts us)) ≡ length (storedAll ts) + length (storedAll us)
@@ -55,7 +55,7 @@ module _ (text : List ℕ) where
   earlier at e (no r) h d = d
 
   module _ (type field : Scanned → Ans Tree) (types : Reader text type) (reader : Reader text field) where
-    fields-sure : (at : ℕ) → at ≤ length text → SureAll text (suc at) (fields type field (lex at (drop at text)))
+    pub fields-sure : (at : ℕ) → at ≤ length text → SureAll text (suc at) (fields type field (lex at (drop at text)))
     unfolding fields
     fields-sure at h =
         look-sure text (SureAll text (suc at)) _ at h (λ r n. n) λ k s e w r l g.
@@ -149,12 +149,12 @@ module _ (text : List ℕ) where
       (λ _. short s e w t (g .within))))
       (λ _. at-token text 10 s e at k w r g)
 
-  field-sure : (n : ℕ) (bind : Scanned → Ans Tree) → Reader text bind → Reader text (readField n bind)
+  pub field-sure : (n : ℕ) (bind : Scanned → Ans Tree) → Reader text bind → Reader text (readField n bind)
   unfolding readField fieldOver look
   field-sure zero bind reader at h = look-sure text (Sure text 0 at) _ at h (λ r n. n) λ k s e w r l g. at-token text 14 s e at k w r g
   field-sure (suc n) bind reader at h = from-first text 0 (fieldOver bind) (λ r. refl) (λ at k s e w r l g. field-from bind reader at k s e w r g) at h
 
-  bind-bad : (n : ℕ) (r : Refusal) → readBind n (bad r) ≡ no r
+  pub bind-bad : (n : ℕ) (r : Refusal) → readBind n (bad r) ≡ no r
   unfolding readBind bindOver look
   bind-bad zero r = refl
   bind-bad (suc n) r = refl
@@ -166,7 +166,7 @@ module _ (text : List ℕ) where
       let inner : Reader text (readBind n) = from-first text 16 (readBind n) (bind-bad n) λ at k s e w r l g. read-bind-from n at k s e w r g in
       bind-from (readType n) (readField n (readBind n)) (read-type-sure text n) (field-sure n (readBind n) inner) at k s e w r g
 
-  read-bind-sure : (n : ℕ) → Reader text (readBind n)
+  pub read-bind-sure : (n : ℕ) → Reader text (readBind n)
   read-bind-sure n = from-first text 16 (readBind n) (bind-bad n) λ at k s e w r l g. read-bind-from n at k s e w r g
 
   -- a list of bindings behind its first token, which ends at e

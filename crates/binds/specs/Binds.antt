@@ -9,11 +9,7 @@ use Rattle.tokens.specs.Token.{Scanned, lex}
 use Rattle.records.specs.Tree.{nameKind, variableKind, structKind, structWithKind, fieldKind, bindListKind, lambdaListKind, Tree, leaf, node, Trees, none, more, joined}
 use Rattle.names.specs.Reading.{Ans, ok, no, then, look, when, listBehind, identifierTok, openTok, closeTok, colonTok, colonsTok, lessTok, greaterTok, braceTok, pipeTok, endBraceTok}
 use Rattle.names.specs.Names.{chain}
-use Rattle.types.specs.Types.{readType}
-
--- the most levels
-abbrev pub levels : ℕ
-levels = 64
+use Rattle.types.specs.Types.{levels, readType}
 
 -- behind an identifier: the binding is no variable
 abbrev pub isStruct : ℕ → Bool

@@ -8,3 +8,6 @@ pub mod Levels
 pub mod Lists
 pub mod Shift
 pub mod Kinded
+pub mod Entries
+pub mod Listing
+pub mod Opening

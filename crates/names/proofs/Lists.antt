@@ -13,22 +13,22 @@ use Rattle.records.specs.Tree.{Tree, Trees, more}
 use Rattle.names.specs.Reading.{Ans, ok, no, then, look, when, commaTok, Close, closes, stays, closing, closed, afterItem, list}
 use Rattle.names.proofs.Sure.{Read, Sure, Reader}
 
-look-same : {B : Type 0} (l : Scanned) (f g : ℕ → ℕ → ℕ → List ℕ → List ℕ → Ans B) → ((k s e : ℕ) (w r : List ℕ) → l ≡ tok k s e w r → f k s e w r ≡ g k s e w r) → look l f ≡ look l g
+pub look-same : {B : Type 0} (l : Scanned) (f g : ℕ → ℕ → ℕ → List ℕ → List ℕ → Ans B) → ((k s e : ℕ) (w r : List ℕ) → l ≡ tok k s e w r → f k s e w r ≡ g k s e w r) → look l f ≡ look l g
 unfolding look
 look-same (tok k s e w r) f g h = h k s e w r refl
 look-same (bad r) f g h = refl
 
-when-same : {B : Type 0} (b : Bool) (f g f₂ g₂ : Unit {0} → Ans B) → f tt ≡ f₂ tt → g tt ≡ g₂ tt → when b f g ≡ when b f₂ g₂
+pub when-same : {B : Type 0} (b : Bool) (f g f₂ g₂ : Unit {0} → Ans B) → f tt ≡ f₂ tt → g tt ≡ g₂ tt → when b f g ≡ when b f₂ g₂
 unfolding when
 when-same true f g f₂ g₂ h k = h
 when-same false f g f₂ g₂ h k = k
 
-then-same : {A B : Type 0} (a : Ans A) (f g : A → ℕ → List ℕ → Ans B) → ((x : A) (q : ℕ) (u : List ℕ) → a ≡ ok x q u → f x q u ≡ g x q u) → then a f ≡ then a g
+pub then-same : {A B : Type 0} (a : Ans A) (f g : A → ℕ → List ℕ → Ans B) → ((x : A) (q : ℕ) (u : List ℕ) → a ≡ ok x q u → f x q u ≡ g x q u) → then a f ≡ then a g
 unfolding then
 then-same (ok x q u) f g h = h x q u refl
 then-same (no r) f g h = refl
 
-closed-same : {B : Type 0} (x : Close) (f : ℕ → List ℕ → Ans B) (g g₂ : Unit {0} → Ans B) → g tt ≡ g₂ tt → closed x f g ≡ closed x f g₂
+pub closed-same : {B : Type 0} (x : Close) (f : ℕ → List ℕ → Ans B) (g g₂ : Unit {0} → Ans B) → g tt ≡ g₂ tt → closed x f g ≡ closed x f g₂
 unfolding closed
 closed-same (closes q u) f g g₂ h = refl
 closed-same stays f g g₂ h = h

@@ -1,28 +1,22 @@
 -- The token at a place as the code has it, and what each return of a reader's code says.
 -- Assumes nothing.
 use mathlib.Core.Path.{_≡_, refl, ap, sym, _∙_, subst}
-use mathlib.Core.List.{List, []}
+use mathlib.Core.List.{List}
 use Prim.Native.Nat.{ℕ, _<_, _≤_}
-use borrow.Author.Tests.{le-ltb}
 use lib.ListN.{length, drop}
 use lib.Seq.{sets}
 use Rattle.tokens.specs.Token.{Scanned, tok, bad, lex}
-use Rattle.tokens.specs.Calls.{textLimit, admitted, lexed, nextToken}
+use Rattle.tokens.specs.Calls.{textLimit, lexed, nextToken}
 use Rattle.tokens.specs.declared.Refusal.{Refusal}
 use Rattle.tokens.specs.declared.Token.{Token}
 use Rattle.tokens.specs.declared.Lexed.{Lexed}
 use Rattle.tokens.specs.declared.Lexed.the-variants.{Found, Refused as Bad}
+use Rattle.tokens.proofs.Again.{admitted-in}
 use Rattle.tokens.proofs.Lexing.{Sound, lex-sound}
-use Rattle.records.specs.Tree.{Tree}
-use Rattle.records.specs.Stored.{stored}
 use Rattle.names.specs.Reading.{Ans, ok, no}
-use Rattle.names.specs.Parsed.{Standing, scanned, follow, parsed, kept, put}
+use Rattle.names.specs.Parsed.{Standing, scanned, follow, given, kept, put}
 use Rattle.names.specs.declared.Parsed.{Parsed}
 use Rattle.names.specs.declared.Parsed.the-variants.{Read, Refused}
-
-pub admitted-in : {A : Type 0} (f : Refusal → A) (text : List ℕ) (at : ℕ) (a : A) → length text ≤ textLimit → at ≤ length text → admitted f text at a ≡ a
-unfolding admitted
-admitted-in f text at a h g = rw (le-ltb textLimit (length text) h, le-ltb (length text) at g)
 
 -- an answer of the token call, taken apart
 tokenIn : Token → Lexed → Token
@@ -61,24 +55,25 @@ module _ (text : List ℕ) (fits : length text ≤ textLimit) (at : ℕ) (inside
   unfolding nextToken
   refused-token r h = was-bad (lex at (drop at text)) r (sym (admitted-in Bad text at (lexed (lex at (drop at text))) fits inside) ∙ h)
 
--- what the code answers and writes at pos, for the reader's answer a, into the buffer l that becomes m
-abbrev pub Gives : Ans Tree → ℕ → List ℕ → List ℕ → Parsed → Type 0
-Gives a pos l m r = (r ≡ parsed a) × (kept r m ≡ kept r (put pos a l))
+-- what the code answers and writes at pos, for the reader's answer a that is written as `one` gives, into the buffer l that becomes m
+abbrev pub Gives : {A : Type 0} → (A → List ℕ) → Ans A → ℕ → List ℕ → List ℕ → Parsed → Type 0
+Gives one a pos l m r = (r ≡ given one a) × (kept r m ≡ kept r (put one pos a l))
 
-pub gives-no : (a : Ans Tree) (pos : ℕ) (l m : List ℕ) (r : Refusal) (p : Parsed) → p ≡ Refused r → a ≡ no r → Gives a pos l m p
-unfolding parsed kept
-gives-no a pos l m r p h e = rw (h, e) (refl, refl)
+module _ {A : Type 0} (one : A → List ℕ) where
+  pub gives-no : (a : Ans A) (pos : ℕ) (l m : List ℕ) (r : Refusal) (p : Parsed) → p ≡ Refused r → a ≡ no r → Gives one a pos l m p
+  unfolding given kept
+  gives-no a pos l m r p h e = rw (h, e) (refl, refl)
 
-module _ (text : List ℕ) (fits : length text ≤ textLimit) (q : ℕ) (inside : q ≤ length text) (a : Ans Tree) (x : Tree) (e : a ≡ ok x q (drop q text)) (pos : ℕ) (l m : List ℕ) where
-  pub gives-late : (r : Refusal) → nextToken text q ≡ Bad r → Gives a pos l m (Refused r)
-  unfolding parsed kept lexed follow
-  gives-late r h = rw (e, refused-token text fits q inside r h) (refl, refl)
+  module _ (text : List ℕ) (fits : length text ≤ textLimit) (q : ℕ) (inside : q ≤ length text) (a : Ans A) (x : A) (e : a ≡ ok x q (drop q text)) (pos : ℕ) (l m : List ℕ) where
+    pub gives-late : (r : Refusal) → nextToken text q ≡ Bad r → Gives one a pos l m (Refused r)
+    unfolding given kept lexed follow
+    gives-late r h = rw (e, refused-token text fits q inside r h) (refl, refl)
 
-  pub gives-read : (n : Token) (len : ℕ) → nextToken text q ≡ Found n → len ≡ length (stored x) → m ≡ sets l pos (stored x)
-      → Gives a pos l m (Read (record { len = len; end = q; next = n }))
-  unfolding parsed kept lexed follow put
-  gives-read n len h z w = rw (e, found-token text fits q inside n h .0, z, w) (refl, refl)
+    pub gives-read : (n : Token) (len : ℕ) → nextToken text q ≡ Found n → len ≡ length (one x) → m ≡ sets l pos (one x)
+        → Gives one a pos l m (Read (record { len = len; end = q; next = n }))
+    unfolding given kept lexed follow put
+    gives-read n len h z w = rw (e, found-token text fits q inside n h .0, z, w) (refl, refl)
 
--- go on as another reader does
-pub gives-as : (a b : Ans Tree) (pos : ℕ) (l m : List ℕ) (p : Parsed) → a ≡ b → Gives b pos l m p → Gives a pos l m p
-gives-as a b pos l m p e g = rw e g
+  -- go on as another reader does
+  pub gives-as : (a b : Ans A) (pos : ℕ) (l m : List ℕ) (p : Parsed) → a ≡ b → Gives one b pos l m p → Gives one a pos l m p
+  gives-as a b pos l m p e g = rw e g

@@ -77,8 +77,8 @@ module _ (text : List ℕ) (fits : length text ≤ textLimit) (pos : ℕ) (l m :
     unfolding leafValue look
     leaf-bad r e = rw e
 
-    pub leaf-refused : (r : Refusal) → nextToken text (a .end) ≡ Bad r → Gives (leafOf c text a) pos l m (Refused r)
-    leaf-refused r e = gives-no (leafOf c text a) pos l m r (Refused r) refl (leaf-bad r (refused-token text fits (a .end) h r e))
+    pub leaf-refused : (r : Refusal) → nextToken text (a .end) ≡ Bad r → Gives stored (leafOf c text a) pos l m (Refused r)
+    leaf-refused r e = gives-no stored (leafOf c text a) pos l m r (Refused r) refl (leaf-bad r (refused-token text fits (a .end) h r e))
 
     module _ (n : Token) (e : nextToken text (a .end) ≡ Found n) (b : Bool) (f : b ≡ (eqb (a .kind) 1 && eqb (n .kind) 23)) where
       leaf-colons : lex (a .end) (drop (a .end) text) ≡ scanned text n → b ≡ true → leafOf c text a ≡ no (refusal 13 (a .start) (a .end))
@@ -89,13 +89,13 @@ module _ (text : List ℕ) (fits : length text ≤ textLimit) (pos : ℕ) (l m :
       unfolding leafValue look when
       leaf-alone g t = rw (g, ← f, t)
 
-      pub leaf-unvalued : b ≡ true → (p : Parsed) → p ≡ noValue a → Gives (leafOf c text a) pos l m p
-      leaf-unvalued t p z = gives-no (leafOf c text a) pos l m _ p z (leaf-colons (found-token text fits (a .end) h n e .0) t)
+      pub leaf-unvalued : b ≡ true → (p : Parsed) → p ≡ noValue a → Gives stored (leafOf c text a) pos l m p
+      leaf-unvalued t p z = gives-no stored (leafOf c text a) pos l m _ p z (leaf-colons (found-token text fits (a .end) h n e .0) t)
 
-      pub leaf-given : b ≡ false → m ≡ sets l pos (header 8 c (a .start) (a .end)) → Gives (leafOf c text a) pos l m (Read (record { len = 8; end = a .end; next = n }))
+      pub leaf-given : b ≡ false → m ≡ sets l pos (header 8 c (a .start) (a .end)) → Gives stored (leafOf c text a) pos l m (Read (record { len = 8; end = a .end; next = n }))
       unfolding stored
       leaf-given t w =
-          gives-read text fits (a .end) h (leafOf c text a) (leaf c (a .start) (a .end) (wordOf text a)) (leaf-alone (found-token text fits (a .end) h n e .0) t) pos l m n 8 e (sym (leaf-size c (a .start) (a .end) (wordOf text a))) w
+          gives-read stored text fits (a .end) h (leafOf c text a) (leaf c (a .start) (a .end) (wordOf text a)) (leaf-alone (found-token text fits (a .end) h n e .0) t) pos l m n 8 e (sym (leaf-size c (a .start) (a .end) (wordOf text a))) w
 
   -- an address
   module _ (h : a .end ≤ length text) where
@@ -106,8 +106,8 @@ module _ (text : List ℕ) (fits : length text ≤ textLimit) (pos : ℕ) (l m :
     unfolding addressValue look
     address-bad r e = rw e
 
-    pub address-refused : (r : Refusal) → nextToken text (a .end) ≡ Bad r → Gives address pos l m (Refused r)
-    address-refused r e = gives-no address pos l m r (Refused r) refl (address-bad r (refused-token text fits (a .end) h r e))
+    pub address-refused : (r : Refusal) → nextToken text (a .end) ≡ Bad r → Gives stored address pos l m (Refused r)
+    address-refused r e = gives-no stored address pos l m r (Refused r) refl (address-bad r (refused-token text fits (a .end) h r e))
 
     module _ (b : Token) (e : nextToken text (a .end) ≡ Found b) where
       address-first : lex (a .end) (drop (a .end) text) ≡ scanned text b → isFirst (b .kind) ≡ true → address ≡ ok (addressOf text a b) (b .end) (drop (b .end) text)
@@ -118,18 +118,18 @@ module _ (text : List ℕ) (fits : length text ≤ textLimit) (pos : ℕ) (l m :
       unfolding addressValue look when
       address-other g t = rw (g, t)
 
-      pub address-goes : isFirst (b .kind) ≡ true → (p : Parsed) → Gives (ok (addressOf text a b) (b .end) (drop (b .end) text)) pos l m p → Gives address pos l m p
-      address-goes t p g = gives-as address (ok (addressOf text a b) (b .end) (drop (b .end) text)) pos l m p (address-first (found-token text fits (a .end) h b e .0) t) g
+      pub address-goes : isFirst (b .kind) ≡ true → (p : Parsed) → Gives stored (ok (addressOf text a b) (b .end) (drop (b .end) text)) pos l m p → Gives stored address pos l m p
+      address-goes t p g = gives-as stored address (ok (addressOf text a b) (b .end) (drop (b .end) text)) pos l m p (address-first (found-token text fits (a .end) h b e .0) t) g
 
-      pub address-unexpected : isFirst (b .kind) ≡ false → (p : Parsed) → p ≡ unexpected b → Gives address pos l m p
-      address-unexpected t p z = gives-no address pos l m _ p z (address-other (found-token text fits (a .end) h b e .0) t)
+      pub address-unexpected : isFirst (b .kind) ≡ false → (p : Parsed) → p ≡ unexpected b → Gives stored address pos l m p
+      address-unexpected t p z = gives-no stored address pos l m _ p z (address-other (found-token text fits (a .end) h b e .0) t)
 
       pub address-stands : Standing text b
       address-stands = found-token text fits (a .end) h b e .1
 
   module _ (b : Token) (h : b .end ≤ length text) where
-    pub named-late : (r : Refusal) → nextToken text (b .end) ≡ Bad r → Gives (ok (addressOf text a b) (b .end) (drop (b .end) text)) pos l m (Refused r)
-    named-late r e = gives-late text fits (b .end) h _ (addressOf text a b) refl pos l m r e
+    pub named-late : (r : Refusal) → nextToken text (b .end) ≡ Bad r → Gives stored (ok (addressOf text a b) (b .end) (drop (b .end) text)) pos l m (Refused r)
+    named-late r e = gives-late stored text fits (b .end) h _ (addressOf text a b) refl pos l m r e
 
     address-pieces : (n : List ℕ) (f : ℕ) → f ≡ cond (eqb (b .kind) 4) nameKind addressKind → n ≡ sets l pos (header 16 30 (a .start) (b .end)) → m ≡ sets n (pos + 8) (header 8 f (b .start) (b .end))
         → m ≡ sets l pos (stored (addressOf text a b))
@@ -143,21 +143,21 @@ module _ (text : List ℕ) (fits : length text ≤ textLimit) (pos : ℕ) (l m :
     address-long = refl
 
     pub named-read : (n : Token) → nextToken text (b .end) ≡ Found n → (o : List ℕ) (f : ℕ) → f ≡ cond (eqb (b .kind) 4) nameKind addressKind → o ≡ sets l pos (header 16 30 (a .start) (b .end)) → m ≡ sets o (pos + 8) (header 8 f (b .start) (b .end))
-        → Gives (ok (addressOf text a b) (b .end) (drop (b .end) text)) pos l m (Read (record { len = 16; end = b .end; next = n }))
+        → Gives stored (ok (addressOf text a b) (b .end) (drop (b .end) text)) pos l m (Read (record { len = 16; end = b .end; next = n }))
     named-read n e o f z p q =
-        gives-read text fits (b .end) h _ (addressOf text a b) refl pos l m n 16 e (sym address-long) (address-pieces o f z p q)
+        gives-read stored text fits (b .end) h _ (addressOf text a b) refl pos l m n 16 e (sym address-long) (address-pieces o f z p q)
 
   -- by the first token
-  pub value-address : a .kind ≡ 67 → (p : Parsed) → Gives (addressValue (a .start) (a .end) (drop (a .end) text)) pos l m p → Gives (value (scanned text a)) pos l m p
+  pub value-address : a .kind ≡ 67 → (p : Parsed) → Gives stored (addressValue (a .start) (a .end) (drop (a .end) text)) pos l m p → Gives stored (value (scanned text a)) pos l m p
   unfolding value look when
   value-address k p g = rw (eq-eqb (a .kind) 67 k) g
 
   module _ (k : a .kind ≡ 67 → ⊥) (t : 0 < a .kind → a .start < a .end) (c : ℕ) (z : c ≡ leafKind (a .kind) (getD text (a .start) 0)) where
-    pub value-none : c ≡ 0 → (p : Parsed) → p ≡ noValue a → Gives (value (scanned text a)) pos l m p
+    pub value-none : c ≡ 0 → (p : Parsed) → p ≡ noValue a → Gives stored (value (scanned text a)) pos l m p
     unfolding value look when
-    value-none e p q = gives-no (value (scanned text a)) pos l m _ p q (rw (ne-eqb (a .kind) 67 k, same-leaf text a t, ← z, e))
+    value-none e p q = gives-no stored (value (scanned text a)) pos l m _ p q (rw (ne-eqb (a .kind) 67 k, same-leaf text a t, ← z, e))
 
-    pub value-leaf : (c ≡ 0 → ⊥) → (p : Parsed) → Gives (leafOf c text a) pos l m p → Gives (value (scanned text a)) pos l m p
+    pub value-leaf : (c ≡ 0 → ⊥) → (p : Parsed) → Gives stored (leafOf c text a) pos l m p → Gives stored (value (scanned text a)) pos l m p
     unfolding value look when
     value-leaf e p g = rw (ne-eqb (a .kind) 67 k, same-leaf text a t, ← z, ne-eqb c 0 e) g
 

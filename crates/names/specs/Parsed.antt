@@ -1,17 +1,19 @@
 -- What the code answers for what a reader reads, with the token that follows already read, and what it writes.
 -- Assumes nothing.
-use Prim.Native.Nat.{ℕ, _-_, _≤_}
+use Prim.Native.Nat.{ℕ, _+_, _-_, _*_, _^_, _<_, _≤_}
+use mathlib.Core.Path.{_≡_}
+use mathlib.Core.Bool.{Bool, true, false, cond}
 use mathlib.Core.List.{List, []}
+use lib.Dec.{ltb}
 use lib.ListN.{length, take, drop}
 use lib.Seq.{sets}
 use Rattle.tokens.specs.Answers.{refusal}
 use Rattle.tokens.specs.Token.{Scanned, tok, lex}
-use Rattle.tokens.specs.Calls.{textLimit, admitted, lexed}
+use Rattle.tokens.specs.Calls.{textLimit, admitted, lexed, nextToken}
 use Rattle.tokens.specs.declared.Token.{Token}
 use Rattle.tokens.specs.declared.Lexed.{Lexed}
 use Rattle.tokens.specs.declared.Lexed.the-variants.{Found, Refused as Bad}
 use Rattle.records.specs.Tree.{nameKind, threeKind, pairKind, addressValueKind, Tree, leaf, node, none, more}
-use Rattle.records.specs.Stored.{stored}
 use Rattle.names.specs.Reading.{Ans, ok, no, refusal₂}
 use Rattle.names.specs.Names.{firstPart}
 use Rattle.names.specs.Values.{leafValue}
@@ -21,6 +23,25 @@ use Rattle.names.specs.declared.Parsed.the-variants.{Read, Refused}
 -- a token of a text that is not too long
 abbrev pub Standing : List ℕ → Token → Type 0
 Standing text t = (length text ≤ textLimit) × (t .start ≤ t .end) × (t .end ≤ length text)
+
+-- the same as a test
+unfoldable pub stands : List ℕ → Token → Bool
+stands text t =
+    cond (ltb textLimit (length text)) false
+    (cond (ltb (t .end) (t .start)) false
+    (cond (ltb (length text) (t .end)) false true))
+
+-- the token is the one that is found at its own first byte
+abbrev pub Stands : List ℕ → Token → Type 0
+Stands text t = nextToken text (t .start) ≡ Found t
+
+-- where a cycle of readers may be entered: at a token of the text, or where a list goes on, with a position that the bytes read so far
+-- allow, 24 for each
+abbrev pub AtToken : List ℕ → Token → ℕ → Type 0
+AtToken text t pos = Stands text t × (pos ≤ 2 ^ 63 + 24 * t .start)
+
+abbrev pub AtList : List ℕ → ℕ → ℕ → ℕ → Type 0
+AtList text at close pos = (length text ≤ textLimit) × (at ≤ length text) × (0 < close) × (pos ≤ 2 ^ 63 + 24 * at)
 
 -- the token with its word and what is behind it
 abbrev pub wordOf : List ℕ → Token → List ℕ
@@ -58,14 +79,15 @@ unexpected t = Refused (refusal 10 (t .start) (t .end))
 abbrev pub colonsDue : Token → Token → Parsed
 colonsDue n a = Refused (refusal₂ 10 (n .start) (n .end) (a .start) (a .end))
 
--- a tree whose stored form has n bytes and which ends at q, and the token that follows
+-- n bytes were written for what ends at q, and the token that follows
 unfoldable pub follow : ℕ → ℕ → Lexed → Parsed
 follow n q (Found t) = Read (record { len = n; end = q; next = t })
 follow n q (Bad r) = Refused r
 
-unfoldable pub parsed : Ans Tree → Parsed
-parsed (ok x q u) = follow (length (stored x)) q (lexed (lex q u))
-parsed (no r) = Refused r
+-- the same of what is written as the bytes that `one` gives
+unfoldable pub given : {A : Type 0} → (A → List ℕ) → Ans A → Parsed
+given one (ok x q u) = follow (length (one x)) q (lexed (lex q u))
+given one (no r) = Refused r
 
 -- the bytes that are promised: all where something was read, none where it was refused
 unfoldable pub kept : Parsed → List ℕ → List ℕ
@@ -73,9 +95,13 @@ kept (Read p) out = out
 kept (Refused r) out = []
 
 -- the buffer with what was read at pos
-unfoldable pub put : ℕ → Ans Tree → List ℕ → List ℕ
-put pos (ok x q u) out = sets out pos (stored x)
-put pos (no r) out = out
+unfoldable pub put : {A : Type 0} → (A → List ℕ) → ℕ → Ans A → List ℕ → List ℕ
+put one pos (ok x q u) out = sets out pos (one x)
+put one pos (no r) out = out
+
+-- a reader from a token on; a token that is not one of the text is refused
+unfoldable pub onToken : {A : Type 0} → List ℕ → Token → Ans A → Ans A
+onToken text t a = cond (stands text t) a (no (refusal 2 0 0))
 
 -- a reader from an offset on, with refusals 1 and 2
 unfoldable pub admittedPart : (Scanned → Ans Tree) → List ℕ → ℕ → Ans Tree

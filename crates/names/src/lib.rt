@@ -3,7 +3,7 @@ ghost use mathlib.Core.Path.{_≡_};
 ghost use mathlib.Core.Bool.{true, cond, _&&_, _||_};
 ghost use mathlib.Core.List.{[]};
 ghost use Prim.Native.Nat.{_+_, _^_, _<_, _≤_};
-ghost use lib.Dec.{eqb};
+ghost use lib.Dec.{eqb, ltb};
 ghost use lib.ListN.{length, drop};
 ghost use lib.Seq.{sets};
 ghost use Rattle.records.specs.Tree.{nameKind, addressKind, hexStringKind, byteStringKind};
@@ -11,10 +11,13 @@ ghost use Rattle.records.specs.Stored.{stored};
 ghost use Rattle.names.specs.Names.{isFirst, lastPart, thirdPart, secondPart, chain};
 ghost use Rattle.names.specs.Reading.{ok};
 ghost use Rattle.names.specs.Values.{leafKind, addressValue, value};
-ghost use Rattle.names.specs.Parsed.{Standing, scanned, firstOf, nameOf, pairOf, threeOf, parsed, kept, put, colonsDue, noValue, leafOf, addressOf, admittedPart};
+ghost use Rattle.tokens.specs.Calls.{nextToken};
+ghost use Rattle.names.specs.Parsed.{Standing, scanned, firstOf, nameOf, pairOf, threeOf, follow, given, kept, put, colonsDue, noValue, leafOf, addressOf, onToken, admittedPart};
+ghost use Rattle.names.specs.Lists.{closesList, closeEnd, beforeItem, itemStep};
 use tokens::Lexed;
 use tokens::Place;
 use tokens::Refusal;
+use tokens::TEXT_LIMIT;
 use tokens::Token;
 
 // What was read: the length of its stored form, where its last token ends, and the token that follows.
@@ -29,6 +32,22 @@ pub enum Parsed {
     Refused(Refusal),
 }
 
+// What a token says before an item of a list: an item is read, the list closes and reading goes on at an
+// offset, or neither may be.
+pub enum Turn {
+    Goes,
+    Closes(usize),
+    Refused(Refusal),
+}
+
+// One step of a list: an item's stored length and the offset behind its comma; or, where the list closes,
+// the stored length of its last item, 0 where there was none, and the offset behind the closing token.
+pub enum Step {
+    Item(usize, usize),
+    Last(usize, usize),
+    Refused(Refusal),
+}
+
 const NUM_VALUE: u8 = 1;
 
 const NUM_TYPED_VALUE: u8 = 2;
@@ -37,7 +56,13 @@ const BYTE_STRING_VALUE: u8 = 3;
 
 const IDENTIFIER: u8 = 4;
 
+const COMMA: u8 = 17;
+
 const COLON_COLON: u8 = 23;
+
+const GREATER: u8 = 32;
+
+const GREATER_GREATER: u8 = 34;
 
 const FALSE: u8 = 43;
 
@@ -74,7 +99,7 @@ fn first_kind(kind: u8) -> usize
 
 // Writes a record of two parts.
 fn put_pair(out: &mut [u8], pos: usize, kind: usize, a: Token, b: Token)
-    requires { ⌜ pos < 2 ^ 33 ⌝ }
+    requires { ⌜ pos < 2 ^ 63 + 9 ⌝ }
     ensures { λ _. ⌜ now (out .exit) ≡ sets (now (out .entry)) pos (stored (pairOf kind [] a b)) ⌝ }
 {
     let first = first_kind(a.kind);
@@ -85,7 +110,7 @@ fn put_pair(out: &mut [u8], pos: usize, kind: usize, a: Token, b: Token)
 
 // Writes a record of three parts.
 fn put_three(out: &mut [u8], pos: usize, a: Token, b: Token, c: Token)
-    requires { ⌜ pos < 2 ^ 32 ⌝ }
+    requires { ⌜ pos ≤ 2 ^ 63 ⌝ }
     ensures { λ _. ⌜ now (out .exit) ≡ sets (now (out .entry)) pos (stored (threeOf [] a b c)) ⌝ }
 {
     records::put_header(out, pos, 40, 5, a.start, c.end);
@@ -114,9 +139,9 @@ fn colons_due(n: Token, a: Token) -> Parsed
 fn last_part(text: &[u8], a: Token, b: Token, at: usize, out: &mut [u8], pos: usize) -> Parsed
     requires { ⌜ length (now text) ≤ 65535 ⌝ }
     requires { ⌜ at ≤ length (now text) ⌝ }
-    requires { ⌜ pos < 2 ^ 32 ⌝ }
-    ensures answer { λ r. ⌜ r ≡ parsed (lastPart (a .start) (firstOf (now (text .entry)) a) (nameOf (now (text .entry)) b) (b .end) at (drop at (now (text .entry)))) ⌝ }
-    ensures bytes { λ r. ⌜ kept r (now (out .exit)) ≡ kept r (put pos (lastPart (a .start) (firstOf (now (text .entry)) a) (nameOf (now (text .entry)) b) (b .end) at (drop at (now (text .entry)))) (now (out .entry))) ⌝ }
+    requires { ⌜ pos ≤ 2 ^ 63 ⌝ }
+    ensures answer { λ r. ⌜ r ≡ given stored (lastPart (a .start) (firstOf (now (text .entry)) a) (nameOf (now (text .entry)) b) (b .end) at (drop at (now (text .entry)))) ⌝ }
+    ensures bytes { λ r. ⌜ kept r (now (out .exit)) ≡ kept r (put stored pos (lastPart (a .start) (firstOf (now (text .entry)) a) (nameOf (now (text .entry)) b) (b .end) at (drop at (now (text .entry)))) (now (out .entry))) ⌝ }
 {
     let l = tokens::next_token(text, at);
     match l {
@@ -145,9 +170,9 @@ fn last_part(text: &[u8], a: Token, b: Token, at: usize, out: &mut [u8], pos: us
 fn third_part(text: &[u8], a: Token, b: Token, out: &mut [u8], pos: usize) -> Parsed
     requires { ⌜ length (now text) ≤ 65535 ⌝ }
     requires { ⌜ b .end ≤ length (now text) ⌝ }
-    requires { ⌜ pos < 2 ^ 32 ⌝ }
-    ensures answer { λ r. ⌜ r ≡ parsed (thirdPart (a .start) (firstOf (now (text .entry)) a) (nameOf (now (text .entry)) b) (b .end) (drop (b .end) (now (text .entry)))) ⌝ }
-    ensures bytes { λ r. ⌜ kept r (now (out .exit)) ≡ kept r (put pos (thirdPart (a .start) (firstOf (now (text .entry)) a) (nameOf (now (text .entry)) b) (b .end) (drop (b .end) (now (text .entry)))) (now (out .entry))) ⌝ }
+    requires { ⌜ pos ≤ 2 ^ 63 ⌝ }
+    ensures answer { λ r. ⌜ r ≡ given stored (thirdPart (a .start) (firstOf (now (text .entry)) a) (nameOf (now (text .entry)) b) (b .end) (drop (b .end) (now (text .entry)))) ⌝ }
+    ensures bytes { λ r. ⌜ kept r (now (out .exit)) ≡ kept r (put stored pos (thirdPart (a .start) (firstOf (now (text .entry)) a) (nameOf (now (text .entry)) b) (b .end) (drop (b .end) (now (text .entry)))) (now (out .entry))) ⌝ }
 {
     let l = tokens::next_token(text, b.end);
     match l {
@@ -170,9 +195,9 @@ fn third_part(text: &[u8], a: Token, b: Token, out: &mut [u8], pos: usize) -> Pa
 fn second_part(text: &[u8], a: Token, at: usize, out: &mut [u8], pos: usize) -> Parsed
     requires { ⌜ length (now text) ≤ 65535 ⌝ }
     requires { ⌜ at ≤ length (now text) ⌝ }
-    requires { ⌜ pos < 2 ^ 32 ⌝ }
-    ensures answer { λ r. ⌜ r ≡ parsed (secondPart (a .start) (firstOf (now (text .entry)) a) at (drop at (now (text .entry)))) ⌝ }
-    ensures bytes { λ r. ⌜ kept r (now (out .exit)) ≡ kept r (put pos (secondPart (a .start) (firstOf (now (text .entry)) a) at (drop at (now (text .entry)))) (now (out .entry))) ⌝ }
+    requires { ⌜ pos ≤ 2 ^ 63 ⌝ }
+    ensures answer { λ r. ⌜ r ≡ given stored (secondPart (a .start) (firstOf (now (text .entry)) a) at (drop at (now (text .entry)))) ⌝ }
+    ensures bytes { λ r. ⌜ kept r (now (out .exit)) ≡ kept r (put stored pos (secondPart (a .start) (firstOf (now (text .entry)) a) at (drop at (now (text .entry)))) (now (out .entry))) ⌝ }
 {
     let l = tokens::next_token(text, at);
     match l {
@@ -190,9 +215,9 @@ fn second_part(text: &[u8], a: Token, at: usize, out: &mut [u8], pos: usize) -> 
 fn chain_from(text: &[u8], a: Token, out: &mut [u8], pos: usize) -> Parsed
     requires { ⌜ Standing (now text) a ⌝ }
     requires { ⌜ isFirst (a .kind) ≡ true ⌝ }
-    requires { ⌜ pos < 2 ^ 32 ⌝ }
-    ensures answer { λ r. ⌜ r ≡ parsed (chain (scanned (now (text .entry)) a)) ⌝ }
-    ensures bytes { λ r. ⌜ kept r (now (out .exit)) ≡ kept r (put pos (chain (scanned (now (text .entry)) a)) (now (out .entry))) ⌝ }
+    requires { ⌜ pos ≤ 2 ^ 63 ⌝ }
+    ensures answer { λ r. ⌜ r ≡ given stored (chain (scanned (now (text .entry)) a)) ⌝ }
+    ensures bytes { λ r. ⌜ kept r (now (out .exit)) ≡ kept r (put stored pos (chain (scanned (now (text .entry)) a)) (now (out .entry))) ⌝ }
 {
     let l = tokens::next_token(text, a.end);
     match l {
@@ -217,9 +242,9 @@ fn chain_from(text: &[u8], a: Token, out: &mut [u8], pos: usize) -> Parsed
 // The name whose first token is a.
 fn chain_at(text: &[u8], a: Token, out: &mut [u8], pos: usize) -> Parsed
     requires { ⌜ Standing (now text) a ⌝ }
-    requires { ⌜ pos < 2 ^ 32 ⌝ }
-    ensures answer { λ r. ⌜ r ≡ parsed (chain (scanned (now (text .entry)) a)) ⌝ }
-    ensures bytes { λ r. ⌜ kept r (now (out .exit)) ≡ kept r (put pos (chain (scanned (now (text .entry)) a)) (now (out .entry))) ⌝ }
+    requires { ⌜ pos ≤ 2 ^ 63 ⌝ }
+    ensures answer { λ r. ⌜ r ≡ given stored (chain (scanned (now (text .entry)) a)) ⌝ }
+    ensures bytes { λ r. ⌜ kept r (now (out .exit)) ≡ kept r (put stored pos (chain (scanned (now (text .entry)) a)) (now (out .entry))) ⌝ }
 {
     if is_first(a.kind) {
         return chain_from(text, a, out, pos);
@@ -227,15 +252,50 @@ fn chain_at(text: &[u8], a: Token, out: &mut [u8], pos: usize) -> Parsed
     unexpected(a)
 }
 
-// The name from `at` on, its records written at pos.
-pub fn parse_name_access_chain(text: &[u8], at: usize, out: &mut [u8], pos: u32) -> Parsed
-    ensures answer { λ r. ⌜ r ≡ parsed (admittedPart chain (now (text .entry)) at) ⌝ }
-    ensures bytes { λ r. ⌜ kept r (now (out .exit)) ≡ kept r (put pos (admittedPart chain (now (text .entry)) at) (now (out .entry))) ⌝ }
+// Whether t can be a token of the text.
+pub fn stands(text: &[u8], t: Token) -> bool
+    ensures { λ r. ⌜ r ≡ Rattle.names.specs.Parsed.stands (now (text .entry)) t ⌝ }
+{
+    if TEXT_LIMIT < text.len() {
+        return false;
+    }
+    if t.end < t.start {
+        return false;
+    }
+    t.end <= text.len()
+}
+
+// pos, or n where pos is past it. A write past a buffer's end is the same as a write at its end.
+pub fn clip(pos: usize, n: usize) -> usize
+    ensures { λ r. ⌜ r ≡ cond (ltb pos n) pos n ⌝ }
+{
+    if pos < n {
+        return pos;
+    }
+    n
+}
+
+// The name whose first token is a, its records written at pos.
+pub fn parse_chain_at(text: &[u8], a: Token, out: &mut [u8], pos: usize) -> Parsed
+    ensures answer { λ r. ⌜ r ≡ given stored (onToken (now (text .entry)) a (chain (scanned (now (text .entry)) a))) ⌝ }
+    ensures bytes { λ r. ⌜ kept r (now (out .exit)) ≡ kept r (put stored pos (onToken (now (text .entry)) a (chain (scanned (now (text .entry)) a))) (now (out .entry))) ⌝ }
+{
+    if stands(text, a) {
+        let p = clip(pos, out.len());
+        return chain_at(text, a, out, p);
+    }
+    Parsed::Refused(tokens::refuse(2, 0, 0))
+}
+
+// The name from `at` on.
+pub fn parse_name_access_chain(text: &[u8], at: usize, out: &mut [u8]) -> Parsed
+    ensures answer { λ r. ⌜ r ≡ given stored (admittedPart chain (now (text .entry)) at) ⌝ }
+    ensures bytes { λ r. ⌜ kept r (now (out .exit)) ≡ kept r (put stored 0 (admittedPart chain (now (text .entry)) at) (now (out .entry))) ⌝ }
 {
     let l = tokens::next_token(text, at);
     match l {
         Lexed::Refused(r) => Parsed::Refused(r),
-        Lexed::Found(a) => chain_at(text, a, out, pos as usize),
+        Lexed::Found(a) => chain_at(text, a, out, 0),
     }
 }
 
@@ -298,9 +358,9 @@ fn before_colons(a: u8, b: u8) -> bool
 // The value that the token a is by itself.
 fn leaf_value(text: &[u8], a: Token, kind: usize, out: &mut [u8], pos: usize) -> Parsed
     requires { ⌜ Standing (now text) a ⌝ }
-    requires { ⌜ pos < 2 ^ 32 ⌝ }
-    ensures answer { λ r. ⌜ r ≡ parsed (leafOf kind (now (text .entry)) a) ⌝ }
-    ensures bytes { λ r. ⌜ kept r (now (out .exit)) ≡ kept r (put pos (leafOf kind (now (text .entry)) a) (now (out .entry))) ⌝ }
+    requires { ⌜ pos ≤ 2 ^ 63 ⌝ }
+    ensures answer { λ r. ⌜ r ≡ given stored (leafOf kind (now (text .entry)) a) ⌝ }
+    ensures bytes { λ r. ⌜ kept r (now (out .exit)) ≡ kept r (put stored pos (leafOf kind (now (text .entry)) a) (now (out .entry))) ⌝ }
 {
     let l = tokens::next_token(text, a.end);
     match l {
@@ -322,9 +382,9 @@ fn leaf_value(text: &[u8], a: Token, kind: usize, out: &mut [u8], pos: usize) ->
 // The address b behind the `@` a.
 fn address_of(text: &[u8], a: Token, b: Token, out: &mut [u8], pos: usize) -> Parsed
     requires { ⌜ Standing (now text) b ⌝ }
-    requires { ⌜ pos < 2 ^ 32 ⌝ }
-    ensures answer { λ r. ⌜ r ≡ parsed (ok (addressOf (now (text .entry)) a b) (b .end) (drop (b .end) (now (text .entry)))) ⌝ }
-    ensures bytes { λ r. ⌜ kept r (now (out .exit)) ≡ kept r (put pos (ok (addressOf (now (text .entry)) a b) (b .end) (drop (b .end) (now (text .entry)))) (now (out .entry))) ⌝ }
+    requires { ⌜ pos ≤ 2 ^ 63 ⌝ }
+    ensures answer { λ r. ⌜ r ≡ given stored (ok (addressOf (now (text .entry)) a b) (b .end) (drop (b .end) (now (text .entry)))) ⌝ }
+    ensures bytes { λ r. ⌜ kept r (now (out .exit)) ≡ kept r (put stored pos (ok (addressOf (now (text .entry)) a b) (b .end) (drop (b .end) (now (text .entry)))) (now (out .entry))) ⌝ }
 {
     let l = tokens::next_token(text, b.end);
     match l {
@@ -345,9 +405,9 @@ fn address_of(text: &[u8], a: Token, b: Token, out: &mut [u8], pos: usize) -> Pa
 // Behind the `@` a: an address.
 fn address_value(text: &[u8], a: Token, out: &mut [u8], pos: usize) -> Parsed
     requires { ⌜ Standing (now text) a ⌝ }
-    requires { ⌜ pos < 2 ^ 32 ⌝ }
-    ensures answer { λ r. ⌜ r ≡ parsed (addressValue (a .start) (a .end) (drop (a .end) (now (text .entry)))) ⌝ }
-    ensures bytes { λ r. ⌜ kept r (now (out .exit)) ≡ kept r (put pos (addressValue (a .start) (a .end) (drop (a .end) (now (text .entry)))) (now (out .entry))) ⌝ }
+    requires { ⌜ pos ≤ 2 ^ 63 ⌝ }
+    ensures answer { λ r. ⌜ r ≡ given stored (addressValue (a .start) (a .end) (drop (a .end) (now (text .entry)))) ⌝ }
+    ensures bytes { λ r. ⌜ kept r (now (out .exit)) ≡ kept r (put stored pos (addressValue (a .start) (a .end) (drop (a .end) (now (text .entry)))) (now (out .entry))) ⌝ }
 {
     let l = tokens::next_token(text, a.end);
     match l {
@@ -365,9 +425,9 @@ fn address_value(text: &[u8], a: Token, out: &mut [u8], pos: usize) -> Parsed
 fn value_at(text: &[u8], a: Token, out: &mut [u8], pos: usize) -> Parsed
     requires { ⌜ Standing (now text) a ⌝ }
     requires { ⌜ (0 < a .kind → a .start < a .end) ⌝ }
-    requires { ⌜ pos < 2 ^ 32 ⌝ }
-    ensures answer { λ r. ⌜ r ≡ parsed (value (scanned (now (text .entry)) a)) ⌝ }
-    ensures bytes { λ r. ⌜ kept r (now (out .exit)) ≡ kept r (put pos (value (scanned (now (text .entry)) a)) (now (out .entry))) ⌝ }
+    requires { ⌜ pos ≤ 2 ^ 63 ⌝ }
+    ensures answer { λ r. ⌜ r ≡ given stored (value (scanned (now (text .entry)) a)) ⌝ }
+    ensures bytes { λ r. ⌜ kept r (now (out .exit)) ≡ kept r (put stored pos (value (scanned (now (text .entry)) a)) (now (out .entry))) ⌝ }
 {
     if a.kind == AT_SIGN {
         return address_value(text, a, out, pos);
@@ -380,14 +440,89 @@ fn value_at(text: &[u8], a: Token, out: &mut [u8], pos: usize) -> Parsed
     leaf_value(text, a, kind, out, pos)
 }
 
-// The value from `at` on, its records written at pos.
-pub fn maybe_parse_value(text: &[u8], at: usize, out: &mut [u8], pos: u32) -> Parsed
-    ensures answer { λ r. ⌜ r ≡ parsed (admittedPart value (now (text .entry)) at) ⌝ }
-    ensures bytes { λ r. ⌜ kept r (now (out .exit)) ≡ kept r (put pos (admittedPart value (now (text .entry)) at) (now (out .entry))) ⌝ }
+// The value from `at` on.
+pub fn maybe_parse_value(text: &[u8], at: usize, out: &mut [u8]) -> Parsed
+    ensures answer { λ r. ⌜ r ≡ given stored (admittedPart value (now (text .entry)) at) ⌝ }
+    ensures bytes { λ r. ⌜ kept r (now (out .exit)) ≡ kept r (put stored 0 (admittedPart value (now (text .entry)) at) (now (out .entry))) ⌝ }
 {
     let l = tokens::next_token(text, at);
     match l {
         Lexed::Refused(r) => Parsed::Refused(r),
-        Lexed::Found(a) => value_at(text, a, out, pos as usize),
+        Lexed::Found(a) => value_at(text, a, out, 0),
+    }
+}
+
+// Whether a token of this kind closes a list that ends with the kind `close`; `>>` closes where `>` does
+// (adjust_token of the Rust).
+fn closes(close: u8, kind: u8) -> bool
+    ensures { λ r. ⌜ r ≡ closesList close kind ⌝ }
+{
+    if kind == close {
+        return true;
+    }
+    if close == GREATER {
+        return kind == GREATER_GREATER;
+    }
+    false
+}
+
+// Where reading goes on behind a token that closes a list: behind its first byte, where it is `>>`.
+fn close_end(close: u8, t: Token) -> usize
+    ensures { λ r. ⌜ r ≡ closeEnd close t ⌝ }
+{
+    if t.kind == close {
+        return t.end;
+    }
+    if t.start < t.end {
+        return t.start + 1;
+    }
+    t.end
+}
+
+// What the token t says before an item of a list (parse_comma_list of the Rust).
+pub fn before_item(close: u8, t: Token) -> Turn
+    ensures { λ r. ⌜ r ≡ beforeItem close t ⌝ }
+{
+    if closes(close, t.kind) {
+        return Turn::Closes(close_end(close, t));
+    }
+    if t.kind == COMMA {
+        return Turn::Refused(tokens::refuse(11, t.start, t.start));
+    }
+    Turn::Goes
+}
+
+// The step that ends with the item p, by the token behind it; the list opens at o.
+pub fn item_step(close: u8, o: usize, p: Part) -> Step
+    ensures { λ r. ⌜ r ≡ itemStep close o p ⌝ }
+{
+    if closes(close, p.next.kind) {
+        return Step::Last(p.len, close_end(close, p.next));
+    }
+    if p.next.kind == COMMA {
+        return Step::Item(p.len, p.next.end);
+    }
+    Step::Refused(Refusal {
+        number: 12,
+        place: Place {
+            start: p.next.start,
+            end: p.next.start,
+        },
+        second: Place { start: o, end: o },
+    })
+}
+
+// What was written in n bytes and ends at q, with the token that follows.
+pub fn finish(text: &[u8], q: usize, n: usize) -> Parsed
+    ensures { λ r. ⌜ r ≡ follow n q (nextToken (now (text .entry)) q) ⌝ }
+{
+    let l = tokens::next_token(text, q);
+    match l {
+        Lexed::Refused(r) => Parsed::Refused(r),
+        Lexed::Found(t) => Parsed::Read(Part {
+            len: n,
+            end: q,
+            next: t,
+        }),
     }
 }

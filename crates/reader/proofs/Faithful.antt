@@ -19,7 +19,7 @@ use Rattle.names.specs.Reading.{Ans, ok, no}
 use Rattle.names.proofs.Sure.{when-sure}
 use Rattle.names.proofs.Kinded.{Every, Kinded, when-every, chain-kinds, value-kinds}
 use Rattle.types.proofs.Kinded.{type-kinds}
-use Rattle.binds.specs.Binds.{levels}
+use Rattle.types.specs.Types.{levels}
 use Rattle.binds.proofs.Kinded.{bind-list-kinds, lambda-list-kinds}
 use Rattle.reader.specs.Items.{Item, item, refused, readKind, followed, finished, readItem}
 use Rattle.reader.specs.Calls.{read}

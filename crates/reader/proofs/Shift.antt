@@ -19,7 +19,7 @@ use Rattle.names.specs.Reading.{Ans, ok, no, when}
 use Rattle.names.specs.Raise.{raiseAns}
 use Rattle.names.proofs.Shift.{RaisedReader, when-up, chain-up, value-up}
 use Rattle.types.proofs.Shift.{type-up}
-use Rattle.binds.specs.Binds.{levels}
+use Rattle.types.specs.Types.{levels}
 use Rattle.binds.proofs.Shift.{bind-list-up, lambda-list-up}
 use Rattle.reader.specs.Items.{readKind, followed, finished, readItem}
 use Rattle.reader.specs.Raise.{raiseItem}

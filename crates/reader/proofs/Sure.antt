@@ -1,7 +1,7 @@
 -- Items: what holds of every answer of a read, for every text, offset, kind and room.
 -- Assumes nothing.
 use mathlib.Core.Bool.{_||_}
-use mathlib.Core.List.{List, []}
+use mathlib.Core.List.{List}
 use Prim.Native.Nat.{ℕ, _*_, _<_, _≤_}
 use native.Mathlib.Omega.{arith}
 use borrow.Author.Tests.{ltb-false}
@@ -17,7 +17,7 @@ use Rattle.names.specs.Reading.{Ans, ok, no}
 use Rattle.names.proofs.Sure.{Placed, Read, Sure, Reader, when-sure}
 use Rattle.names.proofs.Parts.{chain-sure, value-sure}
 use Rattle.types.proofs.Sure.{read-type-sure}
-use Rattle.binds.specs.Binds.{levels}
+use Rattle.types.specs.Types.{levels}
 use Rattle.binds.proofs.Sure.{bind-list-sure, lambda-list-sure}
 use Rattle.reader.specs.Items.{Item, item, refused, readKind, followed, finished, readItem}
 

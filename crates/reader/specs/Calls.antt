@@ -9,6 +9,8 @@ use Rattle.tokens.specs.Answers.{refusal, places}
 use Rattle.records.specs.Tree.{Tree}
 use Rattle.records.specs.Stored.{stored}
 use Rattle.names.specs.Reading.{when}
+use Rattle.reader.specs.declared.Answer.{Answer}
+use Rattle.reader.specs.declared.Answer.the-variants.{Item as Accepted, Refused as Rejected}
 use Rattle.reader.specs.Items.{Item, item, refused, readItem}
 
 -- the longest answer
@@ -32,6 +34,14 @@ readNumber (refused r) = r .number
 unfoldable pub readValues : Item → List ℕ
 readValues (item t n) = length (stored t) ∷ n .kind ∷ n .start ∷ n .end ∷ 0 ∷ 0 ∷ []
 readValues (refused r) = places r
+
+-- the same as the code has it
+unfoldable pub answered : Item → Answer
+answered (item t n) = Accepted (length (stored t)) n
+answered (refused r) = Rejected r
+
+abbrev pub refusedWith : ℕ → Answer
+refusedWith number = Rejected (refusal number 0 0)
 
 -- the read call
 unfoldable pub read : ℕ → List ℕ → ℕ → ℕ → Item

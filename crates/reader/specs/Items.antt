@@ -14,8 +14,8 @@ use Rattle.records.specs.Tree.{Tree}
 use Rattle.names.specs.Reading.{Ans, ok, no, when}
 use Rattle.names.specs.Names.{chain}
 use Rattle.names.specs.Values.{value}
-use Rattle.types.specs.Types.{readType}
-use Rattle.binds.specs.Binds.{levels, readBindList, readLambdaList}
+use Rattle.types.specs.Types.{levels, readType}
+use Rattle.binds.specs.Binds.{readBindList, readLambdaList}
 
 -- an item's tree and the token that follows it, already read; or a refusal
 pub data Item : Type 0 where

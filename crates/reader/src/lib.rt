@@ -1,1 +1,119 @@
-// No code yet: the definitions of items and of the read call are in specs/, what holds of them in proofs/.
+// The read call: an item of a text as its stored tree in a lent buffer.
+ghost use mathlib.Core.Path.{_≡_};
+ghost use mathlib.Core.Bool.{false, _||_};
+ghost use Prim.Native.Nat.{_≤_};
+ghost use lib.Dec.{eqb, ltb};
+ghost use lib.ListN.{length};
+ghost use Rattle.records.specs.Stored.{stored};
+ghost use Rattle.names.specs.Parsed.{given, kept, put, admittedPart};
+ghost use Rattle.reader.specs.Items.{readKind};
+ghost use Rattle.reader.specs.Calls.{answered, readBuffer};
+use names::Parsed;
+use tokens::Refusal;
+use tokens::TEXT_LIMIT;
+use tokens::Token;
+
+// The kinds of items.
+const NAME: u64 = 1;
+
+const VALUE: u64 = 2;
+
+const TYPE: u64 = 3;
+
+const BIND_LIST: u64 = 4;
+
+// The longest answer.
+const ANSWER_LIMIT: usize = 65535;
+
+// An item's stored length and the token that follows it; or a refusal, and nothing was written.
+pub enum Answer {
+    Item(usize, Token),
+    Refused(Refusal),
+}
+
+// The item of the kind from `at` on; a number that is no kind is read as the last one.
+fn read_kind(kind: u64, text: &[u8], at: usize, out: &mut [u8]) -> Parsed
+    ensures answer { λ r. ⌜ r ≡ given stored (admittedPart (readKind kind) (now (text .entry)) at) ⌝ }
+    ensures bytes { λ r. ⌜ kept r (now (out .exit)) ≡ kept r (put stored 0 (admittedPart (readKind kind) (now (text .entry)) at) (now (out .entry))) ⌝ }
+{
+    if kind == NAME {
+        return names::parse_name_access_chain(text, at, out);
+    }
+    if kind == VALUE {
+        return names::maybe_parse_value(text, at, out);
+    }
+    if kind == TYPE {
+        return types::parse_type(text, at, out);
+    }
+    if kind == BIND_LIST {
+        return binds::parse_bind_list(text, at, out);
+    }
+    binds::parse_lambda_bind_list(text, at, out)
+}
+
+// Whether the number is no kind of item.
+fn no_kind(kind: u64) -> bool
+    ensures { λ r. ⌜ r ≡ (eqb kind 0 || ltb 5 kind) ⌝ }
+{
+    if kind == 0 {
+        return true;
+    }
+    5 < kind
+}
+
+// Whether an answer of n bytes is too long for the room or the limit.
+fn too_long(room: usize, n: usize) -> bool
+    ensures { λ r. ⌜ r ≡ (ltb room n || ltb 65535 n) ⌝ }
+{
+    if room < n {
+        return true;
+    }
+    ANSWER_LIMIT < n
+}
+
+// The refusal of the whole call.
+fn refused(number: u32) -> Answer
+    ensures { λ r. ⌜ r ≡ Rattle.reader.specs.Calls.refusedWith number ⌝ }
+{
+    Answer::Refused(tokens::refuse(number, 0, 0))
+}
+
+// Reads the item of the kind from `at` on into the buffer. It is read once over no buffer, and again over
+// the lent one where the answer is accepted: a refused call writes no byte.
+fn read_admitted(kind: u64, text: &[u8], at: usize, out: &mut [u8]) -> Answer
+    requires { ⌜ length (now text) ≤ 65535 ⌝ }
+    requires { ⌜ at ≤ length (now text) ⌝ }
+    requires { ⌜ (eqb kind 0 || ltb 5 kind) ≡ false ⌝ }
+    ensures answer { λ r. ⌜ r ≡ answered (Rattle.reader.specs.Calls.read kind (now (text .entry)) at (length (now (out .entry)))) ⌝ }
+    ensures buffer { λ r. ⌜ now (out .exit) ≡ readBuffer kind (now (text .entry)) at (now (out .entry)) ⌝ }
+{
+    let d = read_kind(kind, text, at, &mut out[..0]);
+    match d {
+        Parsed::Refused(r) => Answer::Refused(r),
+        Parsed::Read(p) => {
+            let n = p.next;
+            if too_long(out.len(), p.len) {
+                return refused(4);
+            }
+            read_kind(kind, text, at, out);
+            Answer::Item(p.len, n)
+        }
+    }
+}
+
+// The read call.
+pub fn read(kind: u64, text: &[u8], at: usize, out: &mut [u8]) -> Answer
+    ensures answer { λ r. ⌜ r ≡ answered (Rattle.reader.specs.Calls.read kind (now (text .entry)) at (length (now (out .entry)))) ⌝ }
+    ensures buffer { λ r. ⌜ now (out .exit) ≡ readBuffer kind (now (text .entry)) at (now (out .entry)) ⌝ }
+{
+    if TEXT_LIMIT < text.len() {
+        return refused(1);
+    }
+    if text.len() < at {
+        return refused(2);
+    }
+    if no_kind(kind) {
+        return refused(3);
+    }
+    read_admitted(kind, text, at, out)
+}

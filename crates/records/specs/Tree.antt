@@ -2,7 +2,7 @@
 -- trees without their spans.
 -- Assumes nothing.
 use Prim.Native.Nat.{ℕ, _≤_}
-use mathlib.Core.List.{List, []}
+use mathlib.Core.List.{List}
 
 -- the kinds of records, by document 01's numbers: names and addresses, chains of one, two and three parts, pairs
 abbrev pub nameKind : ℕ

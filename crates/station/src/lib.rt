@@ -3,6 +3,9 @@
 ghost use mathlib.Core.Path.{_≡_};
 ghost use Rattle.tokens.specs.Answers.{places, tokenNumber, tokenValues, commentNumber, commentValues};
 ghost use Rattle.tokens.specs.Calls.{nextToken, nextComment};
+ghost use lib.ListN.{length};
+ghost use Rattle.reader.specs.Calls.{readNumber, readValues, read, readBuffer};
+use reader::Answer;
 use tokens::DocComment;
 use tokens::Lexed;
 use tokens::Refusal;
@@ -64,6 +67,32 @@ pub extern "C" fn movesig_next_comment(text: &[u8], at: usize, answer: &mut [u64
             0
         }
         DocComment::Broken(r) => {
+            *answer = refusal_values(r);
+            r.number
+        }
+    }
+}
+
+// Reads the item of the kind from `at` on into the lent buffer.
+#[no_mangle]
+pub extern "C" fn movesig_read(
+    kind: u64,
+    text: &[u8],
+    at: usize,
+    out: &mut [u8],
+    answer: &mut [u64; 6],
+) -> u32
+    ensures number { λ r. ⌜ r ≡ readNumber (read kind (now (text .entry)) at (length (now (out .entry)))) ⌝ }
+    ensures values { λ r. ⌜ now (answer .exit) ≡ readValues (read kind (now (text .entry)) at (length (now (out .entry)))) ⌝ }
+    ensures buffer { λ r. ⌜ now (out .exit) ≡ readBuffer kind (now (text .entry)) at (now (out .entry)) ⌝ }
+{
+    let a = reader::read(kind, text, at, out);
+    match a {
+        Answer::Item(n, t) => {
+            *answer = [n as u64, t.kind as u64, t.start as u64, t.end as u64, 0, 0];
+            0
+        }
+        Answer::Refused(r) => {
             *answer = refusal_values(r);
             r.number
         }

@@ -5,3 +5,4 @@ pub mod Walks
 pub mod Shift
 pub mod Alone
 pub mod Spelled
+pub mod Again

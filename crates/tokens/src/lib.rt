@@ -50,7 +50,7 @@ pub enum DocComment {
 }
 
 // The longest text.
-const TEXT_LIMIT: usize = 65535;
+pub const TEXT_LIMIT: usize = 65535;
 
 // A refusal whose second place is its place.
 pub fn refuse(number: u32, start: usize, end: usize) -> Refusal

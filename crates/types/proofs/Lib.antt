@@ -2,3 +2,4 @@ pub mod Sure
 pub mod Levels
 pub mod Shift
 pub mod Kinded
+pub mod Returns

@@ -21,7 +21,7 @@ use Rattle.names.proofs.Parts.{at-token, chain-from, from-first, sooner}
 use Rattle.types.specs.Types.{bracketed, withArguments, named, brackets, reference, function, typeOver, readType}
 
 -- an outer span
-respan-size : (s e : ℕ) (t : Tree) → length (stored (respan s e t)) ≡ length (stored t)
+pub respan-size : (s e : ℕ) (t : Tree) → length (stored (respan s e t)) ≡ length (stored t)
 unfolding respan
 respan-size s e (leaf k s₀ e₀ w) = leaf-size k s e w ∙ sym (leaf-size k s₀ e₀ w)
 respan-size s e (node k s₀ e₀ ts) = node-size k s e ts ∙ sym (node-size k s₀ e₀ ts)
@@ -42,7 +42,7 @@ respan-end s e (leaf k s₀ e₀ w) = refl
 respan-end s e (node k s₀ e₀ ts) = refl
 
 -- the result behind the arguments
-behind-size : (ts : Trees) (u : Tree) → length (storedAll (behind ts u)) ≡ length (storedAll ts) + length (stored u)
+pub behind-size : (ts : Trees) (u : Tree) → length (storedAll (behind ts u)) ≡ length (storedAll ts) + length (stored u)
 unfolding behind
 behind-size none u = size-more u none ∙ omega (arith, size-none)
 behind-size (more t ts) u = size-more t (behind ts u) ∙ omega (arith, behind-size ts u, size-more t ts)

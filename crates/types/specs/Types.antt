@@ -9,6 +9,10 @@ use Rattle.records.specs.Tree.{typeKind, refKind, refMutKind, functionKind, uni
 use Rattle.names.specs.Reading.{Ans, ok, no, then, look, when, listBehind, ampTok, ampMutTok, openTok, closeTok, lessTok, greaterTok, pipeTok}
 use Rattle.names.specs.Names.{chain}
 
+-- the most levels
+abbrev pub levels : ℕ
+levels = 64
+
 -- brackets round none, one, which is itself with the outer span, or more
 unfoldable pub bracketed : ℕ → ℕ → Trees → Tree
 bracketed s e none = leaf unitKind s e []

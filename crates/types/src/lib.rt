@@ -1,1 +1,327 @@
-// No code yet: the definitions of types are in specs/, what holds of them in proofs/.
+// Types and lists of types.
+ghost use mathlib.Core.Path.{_≡_};
+ghost use mathlib.Core.Bool.{cond};
+ghost use mathlib.Core.List.{_++_};
+ghost use Prim.Native.Nat.{_+_, _-_, _*_, _^_, _<_, _≤_};
+ghost use lib.Dec.{eqb};
+ghost use lib.ListN.{length, drop};
+ghost use lib.Seq.{sets};
+ghost use Rattle.tokens.specs.Calls.{nextToken};
+ghost use Rattle.records.specs.Stored.{header, span, stored, storedAll};
+ghost use Rattle.names.specs.Reading.{listBehind};
+ghost use Rattle.names.specs.Parsed.{AtToken, AtList, scanned, follow, given, kept, put, onToken, admittedPart};
+ghost use Rattle.names.specs.Lists.{listStep, stepped, keptStep, putStep};
+ghost use Rattle.tokens.specs.Token.{lex};
+ghost use Rattle.types.specs.Types.{levels, named, brackets, reference, function, readType};
+ghost use Rattle.types.specs.Written.{closedBrackets, tupled};
+use names::Parsed;
+use names::Part;
+use names::Step;
+use names::Turn;
+use tokens::Lexed;
+use tokens::Token;
+
+const AMP: u8 = 8;
+
+const AMP_MUT: u8 = 10;
+
+const OPEN: u8 = 11;
+
+const CLOSE: u8 = 12;
+
+const LESS: u8 = 25;
+
+const GREATER: u8 = 32;
+
+const PIPE: u8 = 59;
+
+// The refusal of the token t, at which the levels end.
+pub fn too_deep(t: Token) -> Parsed
+    ensures { λ r. ⌜ r ≡ Rattle.types.specs.Written.tooDeep t ⌝ }
+{
+    Parsed::Refused(tokens::refuse(14, t.start, t.end))
+}
+
+// Brackets from o to q round no item, or round the one of n bytes at pos, which takes their span.
+fn close_brackets(text: &[u8], o: usize, q: usize, n: usize, out: &mut [u8], pos: usize) -> Parsed
+    requires { ⌜ pos < 2 ^ 64 - 4 ⌝ }
+    ensures answer { λ r. ⌜ r ≡ follow (cond (eqb n 0) 8 n) q (nextToken (now (text .entry)) q) ⌝ }
+    ensures bytes { λ r. ⌜ now (out .exit) ≡ closedBrackets o q n pos (now (out .entry)) ⌝ }
+{
+    if n == 0 {
+        records::put_header(out, pos, 8, 14, o, q);
+        return names::finish(text, q, 8);
+    }
+    records::put_span(out, pos + 4, o, q);
+    names::finish(text, q, n)
+}
+
+// Brackets from o on round the item of n bytes at pos and the items p behind it, if any, from pos + 8 + n on.
+fn make_tuple(o: usize, n: usize, p: Part, out: &mut [u8], pos: usize) -> Part
+    requires { ⌜ pos + n + p .len < 2 ^ 64 - 8 ⌝ }
+    ensures answer { λ r. ⌜ r ≡ record { len = cond (eqb (p .len) 0) n (n + p .len + 8); end = p .end; next = p .next } ⌝ }
+    ensures bytes { λ r. ⌜ now (out .exit) ≡ tupled o n p pos (now (out .entry)) ⌝ }
+{
+    let t = p.next;
+    if p.len == 0 {
+        records::put_span(out, pos + 4, o, p.end);
+        return Part {
+            len: n,
+            end: p.end,
+            next: t,
+        };
+    }
+    records::shift_up(out, pos, n);
+    records::put_header(out, pos, n + p.len + 8, 15, o, p.end);
+    Part {
+        len: n + p.len + 8,
+        end: p.end,
+        next: t,
+    }
+}
+
+// The type whose first token is a, where `left` levels are left, its own among them.
+fn type_at(text: &[u8], a: Token, left: usize, out: &mut [u8], pos: usize) -> Parsed
+    requires { ⌜ AtToken (now text) a pos ⌝ }
+    ensures answer { λ r. ⌜ r ≡ given stored (readType left (scanned (now (text .entry)) a)) ⌝ }
+    ensures bytes { λ r. ⌜ kept r (now (out .exit)) ≡ kept r (put stored pos (readType left (scanned (now (text .entry)) a)) (now (out .entry))) ⌝ }
+{
+    if left == 0 {
+        return too_deep(a);
+    }
+    if a.kind == OPEN {
+        return brackets_at(text, a, left - 1, out, pos);
+    }
+    if a.kind == AMP {
+        return reference_at(text, 11, a, left - 1, out, pos);
+    }
+    if a.kind == AMP_MUT {
+        return reference_at(text, 12, a, left - 1, out, pos);
+    }
+    if a.kind == PIPE {
+        return function_at(text, a, left - 1, out, pos);
+    }
+    named_at(text, a, left - 1, out, pos)
+}
+
+// The type that the name at a begins, with its arguments.
+fn named_at(text: &[u8], a: Token, left: usize, out: &mut [u8], pos: usize) -> Parsed
+    requires { ⌜ AtToken (now text) a pos ⌝ }
+    ensures answer { λ r. ⌜ r ≡ given stored (named (readType left) (a .start) (scanned (now (text .entry)) a)) ⌝ }
+    ensures bytes { λ r. ⌜ kept r (now (out .exit)) ≡ kept r (put stored pos (named (readType left) (a .start) (scanned (now (text .entry)) a)) (now (out .entry))) ⌝ }
+{
+    let c = names::parse_chain_at(text, a, out, pos + 8);
+    match c {
+        Parsed::Refused(r) => Parsed::Refused(r),
+        Parsed::Read(p) => {
+            if p.next.kind == LESS {
+                let l = type_list(
+                    text,
+                    p.next.start,
+                    p.next.end,
+                    GREATER,
+                    left,
+                    out,
+                    pos + 8 + p.len,
+                );
+                match l {
+                    Parsed::Refused(r) => Parsed::Refused(r),
+                    Parsed::Read(i) => {
+                        let n = i.next;
+                        records::put_header(out, pos, p.len + i.len + 8, 10, a.start, i.end);
+                        Parsed::Read(Part {
+                            len: p.len + i.len + 8,
+                            end: i.end,
+                            next: n,
+                        })
+                    }
+                }
+            } else {
+                let n = p.next;
+                records::put_header(out, pos, p.len + 8, 10, a.start, p.end);
+                Parsed::Read(Part {
+                    len: p.len + 8,
+                    end: p.end,
+                    next: n,
+                })
+            }
+        }
+    }
+}
+
+// What stands in brackets that a opens: the unit, a type, or a tuple.
+fn brackets_at(text: &[u8], a: Token, left: usize, out: &mut [u8], pos: usize) -> Parsed
+    requires { ⌜ AtToken (now text) a pos ⌝ }
+    requires { ⌜ a .kind ≡ 11 ⌝ }
+    ensures answer { λ r. ⌜ r ≡ given stored (brackets (readType left) (a .start) (a .end) (drop (a .end) (now (text .entry)))) ⌝ }
+    ensures bytes { λ r. ⌜ kept r (now (out .exit)) ≡ kept r (put stored pos (brackets (readType left) (a .start) (a .end) (drop (a .end) (now (text .entry)))) (now (out .entry))) ⌝ }
+{
+    let s = type_step(text, a.start, a.end, CLOSE, left, out, pos);
+    match s {
+        Step::Refused(r) => Parsed::Refused(r),
+        Step::Last(n, q) => close_brackets(text, a.start, q, n, out, pos),
+        Step::Item(n, e) => {
+            let l = type_list(text, a.start, e, CLOSE, left, out, pos + 8 + n);
+            match l {
+                Parsed::Refused(r) => Parsed::Refused(r),
+                Parsed::Read(p) => Parsed::Read(make_tuple(a.start, n, p, out, pos)),
+            }
+        }
+    }
+}
+
+// The reference that a begins.
+fn reference_at(
+    text: &[u8],
+    kind: usize,
+    a: Token,
+    left: usize,
+    out: &mut [u8],
+    pos: usize,
+) -> Parsed
+    requires { ⌜ AtToken (now text) a pos ⌝ }
+    requires { ⌜ 0 < a .kind ⌝ }
+    ensures answer { λ r. ⌜ r ≡ given stored (reference (readType left) kind (a .start) (a .end) (drop (a .end) (now (text .entry)))) ⌝ }
+    ensures bytes { λ r. ⌜ kept r (now (out .exit)) ≡ kept r (put stored pos (reference (readType left) kind (a .start) (a .end) (drop (a .end) (now (text .entry)))) (now (out .entry))) ⌝ }
+{
+    let l = tokens::next_token(text, a.end);
+    match l {
+        Lexed::Refused(r) => Parsed::Refused(r),
+        Lexed::Found(b) => {
+            let t = type_at(text, b, left, out, pos + 8);
+            match t {
+                Parsed::Refused(r) => Parsed::Refused(r),
+                Parsed::Read(p) => {
+                    let n = p.next;
+                    records::put_header(out, pos, p.len + 8, kind, a.start, p.end);
+                    Parsed::Read(Part {
+                        len: p.len + 8,
+                        end: p.end,
+                        next: n,
+                    })
+                }
+            }
+        }
+    }
+}
+
+// The function type that the `|` at a begins: its arguments, then its result.
+fn function_at(text: &[u8], a: Token, left: usize, out: &mut [u8], pos: usize) -> Parsed
+    requires { ⌜ AtToken (now text) a pos ⌝ }
+    requires { ⌜ 0 < a .kind ⌝ }
+    ensures answer { λ r. ⌜ r ≡ given stored (function (readType left) (a .start) (a .end) (drop (a .end) (now (text .entry)))) ⌝ }
+    ensures bytes { λ r. ⌜ kept r (now (out .exit)) ≡ kept r (put stored pos (function (readType left) (a .start) (a .end) (drop (a .end) (now (text .entry)))) (now (out .entry))) ⌝ }
+{
+    let l = type_list(text, a.start, a.end, PIPE, left, out, pos + 8);
+    match l {
+        Parsed::Refused(r) => Parsed::Refused(r),
+        Parsed::Read(i) => {
+            let b = i.next;
+            let t = type_at(text, b, left, out, pos + 8 + i.len);
+            match t {
+                Parsed::Refused(r) => Parsed::Refused(r),
+                Parsed::Read(p) => {
+                    let n = p.next;
+                    records::put_header(out, pos, i.len + p.len + 8, 13, a.start, p.end);
+                    Parsed::Read(Part {
+                        len: i.len + p.len + 8,
+                        end: p.end,
+                        next: n,
+                    })
+                }
+            }
+        }
+    }
+}
+
+// One step of the list of types that opens at o, from `at` on.
+fn type_step(
+    text: &[u8],
+    o: usize,
+    at: usize,
+    close: u8,
+    left: usize,
+    out: &mut [u8],
+    pos: usize,
+) -> Step
+    requires { ⌜ AtList (now text) at close pos ⌝ }
+    ensures answer { λ r. ⌜ r ≡ stepped (listStep (readType left) close o (lex at (drop at (now (text .entry))))) ⌝ }
+    ensures bytes { λ r. ⌜ keptStep r (now (out .exit)) ≡ keptStep r (putStep pos (listStep (readType left) close o (lex at (drop at (now (text .entry))))) (now (out .entry))) ⌝ }
+{
+    let l = tokens::next_token(text, at);
+    match l {
+        Lexed::Refused(r) => Step::Refused(r),
+        Lexed::Found(a) => {
+            let b = names::before_item(close, a);
+            match b {
+                Turn::Refused(r) => Step::Refused(r),
+                Turn::Closes(q) => Step::Last(0, q),
+                Turn::Goes => {
+                    let t = type_at(text, a, left, out, pos);
+                    match t {
+                        Parsed::Refused(r) => Step::Refused(r),
+                        Parsed::Read(p) => names::item_step(close, o, p),
+                    }
+                }
+            }
+        }
+    }
+}
+
+// The list of types that opens at o and ends with a token of the kind `close`, from `at` on, its records
+// one behind the other from pos on (parse_comma_list of the Rust).
+fn type_list(
+    text: &[u8],
+    o: usize,
+    at: usize,
+    close: u8,
+    left: usize,
+    out: &mut [u8],
+    pos: usize,
+) -> Parsed
+    requires { ⌜ AtList (now text) at close pos ⌝ }
+    ensures answer { λ r. ⌜ r ≡ given storedAll (listBehind (readType left) close o at (drop at (now (text .entry)))) ⌝ }
+    ensures bytes { λ r. ⌜ kept r (now (out .exit)) ≡ kept r (put storedAll pos (listBehind (readType left) close o at (drop at (now (text .entry)))) (now (out .entry))) ⌝ }
+{
+    let mut i = at;
+    let mut len = 0;
+    loop {
+        let s = type_step(text, o, i, close, left, out, pos + len);
+        match s {
+            Step::Refused(r) => {
+                return Parsed::Refused(r);
+            }
+            Step::Last(n, q) => {
+                return names::finish(text, q, len + n);
+            }
+            Step::Item(n, e) => {
+                len += n;
+                i = e;
+            }
+        }
+    }
+}
+
+// The arguments behind the `<` at t, where `left` levels are left for each, their records at pos.
+pub fn parse_type_args(text: &[u8], t: Token, left: u8, out: &mut [u8], pos: usize) -> Parsed
+    ensures answer { λ r. ⌜ r ≡ given storedAll (onToken (now (text .entry)) t (listBehind (readType left) 32 (t .start) (t .end) (drop (t .end) (now (text .entry))))) ⌝ }
+    ensures bytes { λ r. ⌜ kept r (now (out .exit)) ≡ kept r (put storedAll pos (onToken (now (text .entry)) t (listBehind (readType left) 32 (t .start) (t .end) (drop (t .end) (now (text .entry))))) (now (out .entry))) ⌝ }
+{
+    if names::stands(text, t) {
+        let p = names::clip(pos, out.len());
+        return type_list(text, t.start, t.end, GREATER, left as usize, out, p);
+    }
+    Parsed::Refused(tokens::refuse(2, 0, 0))
+}
+
+// The type from `at` on.
+pub fn parse_type(text: &[u8], at: usize, out: &mut [u8]) -> Parsed
+    ensures answer { λ r. ⌜ r ≡ given stored (admittedPart (readType levels) (now (text .entry)) at) ⌝ }
+    ensures bytes { λ r. ⌜ kept r (now (out .exit)) ≡ kept r (put stored 0 (admittedPart (readType levels) (now (text .entry)) at) (now (out .entry))) ⌝ }
+{
+    let l = tokens::next_token(text, at);
+    match l {
+        Lexed::Refused(r) => Parsed::Refused(r),
+        Lexed::Found(a) => type_at(text, a, 64, out, 0),
+    }
+}

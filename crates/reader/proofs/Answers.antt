@@ -1,0 +1,214 @@
+-- What each return of the read call's code gives.
+-- Assumes nothing.
+use mathlib.Core.Path.{_≡_, refl, ap, sym, _∙_}
+use mathlib.Core.Bool.{Bool, true, false, _||_}
+use mathlib.Core.List.{List, [], _∷_, _++_}
+use Prim.Native.Nat.{ℕ, suc, _<_, _≤_}
+use native.Mathlib.Omega.{arith}
+use native.Mathlib.Nat.{not-suc-le-zero, le-of-suc-le-suc}
+use borrow.Author.Tests.{lt-ltb, le-ltb, eq-eqb, ne-eqb, ltb-false}
+use lib.Dec.{eqb, ltb}
+use lib.ListN.{length, drop, set}
+use lib.Seq.{sets}
+use Rattle.classes.proofs.Bools.{false-true, or-left}
+use Rattle.tokens.specs.Answers.{refusal, places}
+use Rattle.tokens.specs.Token.{Scanned, tok, bad, lex}
+use Rattle.tokens.specs.Calls.{textLimit, admitted, lexed}
+use Rattle.tokens.specs.declared.Refusal.{Refusal}
+use Rattle.tokens.specs.declared.Token.{Token}
+use Rattle.tokens.specs.declared.Lexed.{Lexed}
+use Rattle.tokens.specs.declared.Lexed.the-variants.{Found, Refused as Bad}
+use Rattle.tokens.proofs.Again.{admitted-in}
+use Rattle.records.specs.Tree.{Tree}
+use Rattle.records.specs.Stored.{stored}
+use Rattle.names.specs.Reading.{Ans, ok, no, when}
+use Rattle.names.specs.Names.{chain}
+use Rattle.names.specs.Values.{value}
+use Rattle.names.specs.Parsed.{given, follow, admittedPart}
+use Rattle.names.specs.declared.Part.{Part}
+use Rattle.names.specs.declared.Parsed.{Parsed}
+use Rattle.names.specs.declared.Parsed.the-variants.{Read, Refused}
+use Rattle.names.proofs.Steps.{Gives, gives-as}
+use Rattle.names.proofs.Listing.{Opened, opened, wrote}
+use Rattle.types.specs.Types.{levels, readType}
+use Rattle.binds.specs.Binds.{readBindList, readLambdaList}
+use Rattle.reader.specs.declared.Answer.{Answer}
+use Rattle.reader.specs.declared.Answer.the-variants.{Item as Accepted, Refused as Rejected}
+use Rattle.reader.specs.Items.{Item, item, refused, readKind, followed, finished, readItem}
+use Rattle.reader.specs.Calls.{answerLimit, roomed, written, answered, readNumber, readValues, read, readBuffer}
+
+-- an item by its kind
+module _ (kind : ℕ) (text : List ℕ) (at pos : ℕ) (l m : List ℕ) (p : Parsed) where
+  abbrev Part-of : (Scanned → Ans Tree) → Type 0
+  Part-of one = Gives stored (admittedPart one text at) pos l m p
+
+  as-kind : (one : Scanned → Ans Tree) → readKind kind (lex at (drop at text)) ≡ one (lex at (drop at text)) → Part-of one → Part-of (readKind kind)
+  unfolding admittedPart
+  as-kind one e g = gives-as stored (admittedPart (readKind kind) text at) (admittedPart one text at) pos l m p (ap (admitted no text at) e) g
+
+  pub kind-name : kind ≡ 1 → Part-of chain → Part-of (readKind kind)
+  unfolding readKind when
+  kind-name k g = as-kind chain (rw (eq-eqb kind 1 k)) g
+
+  module _ (k₁ : kind ≡ 1 → ⊥) where
+    pub kind-value : kind ≡ 2 → Part-of value → Part-of (readKind kind)
+    unfolding readKind when
+    kind-value k g = as-kind value (rw (ne-eqb kind 1 k₁, eq-eqb kind 2 k)) g
+
+    module _ (k₂ : kind ≡ 2 → ⊥) where
+      pub kind-type : kind ≡ 3 → Part-of (readType levels) → Part-of (readKind kind)
+      unfolding readKind when
+      kind-type k g = as-kind (readType levels) (rw (ne-eqb kind 1 k₁, ne-eqb kind 2 k₂, eq-eqb kind 3 k)) g
+
+      module _ (k₃ : kind ≡ 3 → ⊥) where
+        pub kind-bind : kind ≡ 4 → Part-of readBindList → Part-of (readKind kind)
+        unfolding readKind when
+        kind-bind k g = as-kind readBindList (rw (ne-eqb kind 1 k₁, ne-eqb kind 2 k₂, ne-eqb kind 3 k₃, eq-eqb kind 4 k)) g
+
+        pub kind-lambda : (kind ≡ 4 → ⊥) → Part-of readLambdaList → Part-of (readKind kind)
+        unfolding readKind when
+        kind-lambda k g = as-kind readLambdaList (rw (ne-eqb kind 1 k₁, ne-eqb kind 2 k₂, ne-eqb kind 3 k₃, ne-eqb kind 4 k)) g
+
+-- the answer of the whole call, and the buffer l that becomes m
+abbrev pub Call : ℕ → List ℕ → ℕ → List ℕ → List ℕ → Answer → Type 0
+Call kind text at l m a = (a ≡ answered (read kind text at (length l))) × (m ≡ readBuffer kind text at l)
+
+call-by : (kind : ℕ) (text : List ℕ) (at : ℕ) (l : List ℕ) (a : Answer) (r : Refusal) → readItem kind text at ≡ refused r → a ≡ Rejected r → Call kind text at l l a
+unfolding read readBuffer roomed written answered
+call-by kind text at l a r e f = rw (e, f) (refl, refl)
+
+module _ (kind : ℕ) (text : List ℕ) (at : ℕ) (l : List ℕ) (a : Answer) where
+  pub call-text : textLimit < length text → a ≡ Rejected (refusal 1 0 0) → Call kind text at l l a
+  unfolding readItem when
+  call-text h e = call-by kind text at l a (refusal 1 0 0) (rw (lt-ltb textLimit (length text) h)) e
+
+  module _ (h : length text ≤ textLimit) where
+    pub call-offset : length text < at → a ≡ Rejected (refusal 2 0 0) → Call kind text at l l a
+    unfolding readItem when
+    call-offset g e = call-by kind text at l a (refusal 2 0 0) (rw (le-ltb textLimit (length text) h, lt-ltb (length text) at g)) e
+
+    module _ (g : at ≤ length text) where
+      pub call-kind : (b : Bool) → b ≡ (eqb kind 0 || ltb 5 kind) → b ≡ true → a ≡ Rejected (refusal 3 0 0) → Call kind text at l l a
+      unfolding readItem when
+      call-kind b z k e = call-by kind text at l a (refusal 3 0 0) (rw (le-ltb textLimit (length text) h, le-ltb (length text) at g, sym z ∙ k)) e
+
+-- the item by what the readers' code answers
+isFound : Lexed → Bool
+isFound (Found t) = true
+isFound (Bad r) = false
+
+isRead : Parsed → Bool
+isRead (Read p) = true
+isRead (Refused r) = false
+
+tokenIn : Token → Lexed → Token
+tokenIn d (Found t) = t
+tokenIn d (Bad r) = d
+
+refusedIn : Refusal → Parsed → Refusal
+refusedIn d (Refused r) = r
+refusedIn d (Read p) = d
+
+followed-found : (l : Scanned) (t : Tree) (n : Token) → lexed l ≡ Found n → followed t l ≡ item t n
+unfolding lexed followed tokenIn isFound
+followed-found (tok k s e w r) t n h = ap (item t) (ap (tokenIn n) h)
+followed-found (bad r) t n h = false-true _ (ap isFound h)
+
+finished-read : (a : Ans Tree) (p : Part) (d : Opened stored a p) → finished a ≡ item (d .what) (p .next)
+unfolding finished
+finished-read a p d = rw (d .is) (followed-found (lex (p .end) (d .rest)) (d .what) (p .next) (d .next))
+
+followed-refused : (n q : ℕ) (l : Scanned) (t : Tree) (r : Refusal) → Refused r ≡ follow n q (lexed l) → followed t l ≡ refused r
+unfolding lexed followed follow refusedIn isRead
+followed-refused n q (tok k s e w u) t r h = false-true _ (ap isRead h)
+followed-refused n q (bad r₀) t r h = ap refused (ap (refusedIn r) (sym h))
+
+finished-refused : (a : Ans Tree) (r : Refusal) → Refused r ≡ given stored a → finished a ≡ refused r
+unfolding given finished refusedIn
+finished-refused (ok t q u) r h = followed-refused (length (stored t)) q (lex q u) t r h
+finished-refused (no r₀) r h = ap refused (ap (refusedIn r) (sym h))
+
+-- a run of bytes at the front of a buffer that has room for it
+sets-cons : (xs l : List ℕ) (a : ℕ) (i : ℕ) → sets (a ∷ l) (suc i) xs ≡ a ∷ sets l i xs
+sets-cons [] l a i = refl
+sets-cons (x ∷ xs) l a i = sets-cons xs (set l i x) a (suc i)
+
+sets-whole : (xs l : List ℕ) → length xs ≤ length l → sets l 0 xs ≡ xs ++ drop (length xs) l
+sets-whole [] l h = refl
+sets-whole (x ∷ xs) [] h = absurd (not-suc-le-zero h)
+sets-whole (x ∷ xs) (a ∷ l) h = sets-cons xs l x 0 ∙ ap (λ (y : List ℕ). x ∷ y) (sets-whole xs l (le-of-suc-le-suc h))
+
+-- where the three refusals do not apply
+module _ (kind : ℕ) (text : List ℕ) (at : ℕ) (h : length text ≤ textLimit) (g : at ≤ length text) (k : (eqb kind 0 || ltb 5 kind) ≡ false) where
+  abbrev found : Ans Tree
+  found = admittedPart (readKind kind) text at
+
+  goes : readItem kind text at ≡ finished found
+  unfolding readItem when admittedPart
+  goes = rw (le-ltb textLimit (length text) h, le-ltb (length text) at g, k) (ap finished (sym (admitted-in no text at (readKind kind (lex at (drop at text))) h g)))
+
+  pub call-refused : (l : List ℕ) (r : Refusal) → Refused r ≡ given stored found → Call kind text at l l (Rejected r)
+  call-refused l r e = call-by kind text at l (Rejected r) r (goes ∙ finished-refused found r e) refl
+
+  module _ (l : List ℕ) (p : Part) (e : Read p ≡ given stored found) (b : Bool) (z : b ≡ (ltb (length l) (p .len) || ltb 65535 (p .len))) where
+    tree : Opened stored found p
+    tree = opened stored found p e
+
+    is-item : readItem kind text at ≡ item (tree .what) (p .next)
+    is-item = goes ∙ finished-read found p tree
+
+    pub call-long : (a : Answer) → b ≡ true → a ≡ Rejected (refusal 4 0 0) → Call kind text at l l a
+    unfolding read readBuffer roomed written answered when
+    call-long a y f =
+        let x : ltb (length l) (length (stored (tree .what))) || ltb answerLimit (length (stored (tree .what))) ≡ true = rw (← tree .len) (sym z ∙ y) in
+        rw (is-item, x, f) (refl, refl)
+
+    pub call-done : (m : List ℕ) (q : Parsed) → b ≡ false → Gives stored found 0 l m q → Call kind text at l m (Accepted (p .len) (p .next))
+    unfolding read readBuffer roomed written answered when
+    call-done m q y g =
+        let x : ltb (length l) (length (stored (tree .what))) || ltb answerLimit (length (stored (tree .what))) ≡ false = rw (← tree .len) (sym z ∙ y) in
+        let i : length (stored (tree .what)) ≤ length l = ltb-false (length l) (length (stored (tree .what))) (or-left _ _ x) in
+        let w : m ≡ sets l 0 (stored (tree .what)) = wrote stored found 0 l m p tree (rw (g .0 ∙ sym e) at (g .1)) in
+        rw (is-item, x) (ap (λ (n : ℕ). Accepted n (p .next)) (tree .len), w ∙ sets-whole (stored (tree .what)) l i)
+
+-- the numbers of an answer
+isItem : Answer → Bool
+isItem (Accepted n t) = true
+isItem (Rejected r) = false
+
+itemIn : ℕ → Token → Answer → ℕ × Token
+itemIn d e (Accepted n t) = (n, t)
+itemIn d e (Rejected r) = (d, e)
+
+rejectedIn : Refusal → Answer → Refusal
+rejectedIn d (Rejected r) = r
+rejectedIn d (Accepted n t) = d
+
+abbrev listed : ℕ × Token → List ℕ
+listed a = a .0 ∷ a .1 .kind ∷ a .1 .start ∷ a .1 .end ∷ 0 ∷ 0 ∷ []
+
+pub item-numbers : (i : Item) (n : ℕ) (t : Token) → Accepted n t ≡ answered i → (0 ≡ readNumber i) × (n ∷ t .kind ∷ t .start ∷ t .end ∷ 0 ∷ 0 ∷ [] ≡ readValues i)
+unfolding answered readNumber readValues isItem itemIn
+item-numbers (item x u) n t e = (refl, ap listed (ap (itemIn n t) e))
+item-numbers (refused r) n t e = false-true _ (ap isItem (sym e))
+
+pub refused-numbers : (i : Item) (r : Refusal) → Rejected r ≡ answered i → (r .number ≡ readNumber i) × (places r ≡ readValues i)
+unfolding answered readNumber readValues isItem rejectedIn
+refused-numbers (item x u) r e = false-true _ (ap isItem e)
+refused-numbers (refused q) r e = (ap (λ (x : Refusal). x .number) (ap (rejectedIn r) e), ap places (ap (rejectedIn r) e))
+
+-- the run over no buffer leaves the lent one as it was
+pub nothing-lent : (xs l : List ℕ) → length xs ≡ 0 → xs ++ l ≡ l
+nothing-lent [] l h = refl
+nothing-lent (x ∷ xs) l h = absurd (omega (arith, h))
+
+module _ (kind : ℕ) (text : List ℕ) (at : ℕ) (h : length text ≤ textLimit) (g : at ≤ length text) (k : (eqb kind 0 || ltb 5 kind) ≡ false) (l m : List ℕ) (d : m ≡ l) where
+  pub dry-refused : (r : Refusal) → Refused r ≡ given stored (admittedPart (readKind kind) text at) → Call kind text at l m (Rejected r)
+  dry-refused r e = rw d (call-refused kind text at h g k l r e)
+
+  module _ (p : Part) (e : Read p ≡ given stored (admittedPart (readKind kind) text at)) (b : Bool) (z : b ≡ (ltb (length m) (p .len) || ltb 65535 (p .len))) where
+    pub dry-long : (a : Answer) → b ≡ true → a ≡ Rejected (refusal 4 0 0) → Call kind text at l m a
+    dry-long a y f = rw d (call-long kind text at h g k l p e b (rw d at z) a y f)
+
+    pub then-done : (m₂ : List ℕ) (q : Parsed) → b ≡ false → Gives stored (admittedPart (readKind kind) text at) 0 m m₂ q → Call kind text at l m₂ (Accepted (p .len) (p .next))
+    then-done m₂ q y f = call-done kind text at h g k l p e b (rw d at z) m₂ q y (rw d at f)

@@ -1,0 +1,443 @@
+-- What each return of the code of types gives, from what its callees gave.
+-- Assumes nothing.
+use mathlib.Core.Path.{_≡_, refl, ap, sym, _∙_}
+use mathlib.Core.Bool.{false, cond}
+use mathlib.Core.List.{List, [], _++_, append-nil, append-assoc}
+use Prim.Native.Nat.{ℕ, zero, suc, _+_, _-_, _*_, _^_, _<_, _≤_}
+use native.Mathlib.Omega.{arith}
+use borrow.Author.Tests.{eq-eqb, ne-eqb}
+use lib.Dec.{eqb}
+use lib.ListN.{length, take, drop, length-append}
+use lib.Seq.{sets}
+use Rattle.tokens.specs.Answers.{refusal}
+use Rattle.tokens.specs.Token.{Scanned, bad, lex}
+use Rattle.tokens.specs.Calls.{lexed, nextToken}
+use Rattle.tokens.specs.declared.Refusal.{Refusal}
+use Rattle.tokens.specs.declared.Token.{Token}
+use Rattle.tokens.specs.declared.Lexed.the-variants.{Found, Refused as Bad}
+use Rattle.records.specs.Tree.{typeKind, functionKind, unitKind, tupleKind, Tree, leaf, node, Trees, none, more, behind, respan}
+use Rattle.records.specs.Stored.{two, span, header, stored, storedAll}
+use Rattle.buffer.proofs.Sets.{sets-append}
+use Rattle.records.proofs.Pieces.{both, header-long}
+use Rattle.records.proofs.Children.{node-last, only, first-then}
+use Rattle.records.proofs.Shift.{sets-below, sets-over, shifted-pieces}
+use Rattle.records.proofs.Sizes.{leaf-size, node-size, size-none, size-more}
+use Rattle.names.specs.Reading.{Ans, ok, no, then, look, when, listBehind}
+use Rattle.names.specs.Names.{chain}
+use Rattle.names.specs.Parsed.{Stands, AtToken, scanned, follow, given, onToken}
+use Rattle.names.specs.Lists.{Passed, listStep, goOn}
+use Rattle.names.specs.declared.Part.{Part}
+use Rattle.names.specs.declared.Parsed.{Parsed}
+use Rattle.names.specs.declared.Parsed.the-variants.{Read, Refused}
+use Rattle.names.specs.declared.Step.the-variants.{Item, Last, Refused as Stopped}
+use Rattle.names.proofs.Sure.{Read as Sound-read, Reads}
+use Rattle.names.proofs.Steps.{found-token, refused-token, Gives, gives-no, gives-as}
+use Rattle.names.proofs.Entries.{on-token}
+use Rattle.names.proofs.Opening.{Here, here, Next, next-of, opened-item, opened-list, opened-chain}
+use Rattle.names.proofs.Listing.{StepGives, Opened, opened, gives-refused, then-refused, then-opened, wrote, gives-done, gives-finish, LastStep, with-none, with-one, ItemStep, last-step, item-step, refused-by, by-step}
+use Rattle.types.specs.Types.{bracketed, withArguments, named, brackets, reference, function, typeOver, readType}
+use Rattle.types.specs.Written.{tooDeep, closedBrackets, tupled}
+use Rattle.types.proofs.Sure.{respan-size, behind-size, read-type-sure}
+
+stored-behind : (ts : Trees) (t : Tree) → storedAll (behind ts t) ≡ storedAll ts ++ stored t
+unfolding storedAll behind
+stored-behind none t = append-nil (stored t)
+stored-behind (more u ts) t = ap (λ (x : List ℕ). stored u ++ x) (stored-behind ts t) ∙ sym (append-assoc (stored u) (storedAll ts) (stored t))
+
+pub then-last : (l m n : List ℕ) (i : ℕ) (ts : Trees) (t : Tree) (k : ℕ) → k ≡ length (storedAll ts) → m ≡ sets l i (storedAll ts) → n ≡ sets m (i + k) (stored t) → n ≡ sets l i (storedAll (behind ts t))
+then-last l m n i ts t k z f g = both l m n (storedAll ts) (stored t) i f (g ∙ ap (λ (j : ℕ). sets m (i + j) (stored t)) z) ∙ ap (sets l i) (sym (stored-behind ts t))
+
+-- the first token's refusal is the type's
+pub type-bads : (n : ℕ) (r : Refusal) → readType n (bad r) ≡ no r
+unfolding readType typeOver look
+type-bads zero r = refl
+type-bads (suc n) r = refl
+
+-- an item takes the span of the brackets round it
+four : (len k : ℕ) → length (two len ++ two k) ≡ 4
+unfolding two
+four len k = refl
+
+four-span : (s e : ℕ) → length (span s e) ≡ 4
+unfolding span two
+four-span s e = refl
+
+spanned : (l m n xs ss zs : List ℕ) (rs : List ℕ) (i : ℕ) → length xs ≡ 4 → length ss ≡ 4 → length zs ≡ 4 → m ≡ sets l i (xs ++ (ss ++ rs)) → n ≡ sets m (i + 4) zs → n ≡ sets l i (xs ++ (zs ++ rs))
+spanned l m n xs ss zs rs i ex es ez e f =
+    let q : i + length xs ≡ i + 4 = omega arith in
+    let x : i + 4 + length ss ≡ i + 4 + 4 = omega arith in
+    let y : i + 4 + length zs ≡ i + 4 + 4 = omega arith in
+    f
+    ∙ rw (e, sets-append xs (ss ++ rs) l i, q, sets-append ss rs (sets l i xs) (i + 4), x, sets-append xs (zs ++ rs) l i, q, sets-append zs rs (sets l i xs) (i + 4), y)
+    (sets-below zs rs (sets (sets l i xs) (i + 4) ss) (i + 4) (i + 4 + 4) (omega arith)
+    ∙ ap (λ (k : List ℕ). sets k (i + 4 + 4) rs) (sets-over ss zs (sets l i xs) (i + 4) (omega arith)))
+
+header-parts : (len k s e : ℕ) (rs : List ℕ) → header len k s e ++ rs ≡ (two len ++ two k) ++ (span s e ++ rs)
+unfolding header two
+header-parts len k s e rs = refl
+
+pub respanned : (l m n : List ℕ) (i s e : ℕ) (t : Tree) → m ≡ sets l i (stored t) → n ≡ sets m (i + 4) (span s e) → n ≡ sets l i (stored (respan s e t))
+unfolding stored respan
+respanned l m n i s e (leaf k s₀ e₀ w) f g =
+    spanned l m n (two 8 ++ two k) (span s₀ e₀) (span s e) [] i (four 8 k) (four-span s₀ e₀) (four-span s e) (f ∙ ap (sets l i) (sym (append-nil (header 8 k s₀ e₀)) ∙ header-parts 8 k s₀ e₀ [])) g
+    ∙ ap (sets l i) (sym (header-parts 8 k s e []) ∙ append-nil (header 8 k s e))
+respanned l m n i s e (node k s₀ e₀ ts) f g =
+    let n₈ : ℕ = length (storedAll ts) + 8 in
+    spanned l m n (two n₈ ++ two k) (span s₀ e₀) (span s e) (storedAll ts) i (four n₈ k) (four-span s₀ e₀) (four-span s e) (f ∙ ap (sets l i) (header-parts n₈ k s₀ e₀ (storedAll ts))) g
+    ∙ ap (sets l i) (sym (header-parts n₈ k s e (storedAll ts)))
+
+pub some-bytes : (t : Tree) → 8 ≤ length (stored t)
+some-bytes (leaf k s e w) = omega (arith, leaf-size k s e w)
+some-bytes (node k s e ts) = omega (arith, node-size k s e ts)
+
+-- brackets round more than one: the first is moved up
+tuple-bytes : (l m n o : List ℕ) (i k j s e : ℕ) (t : Tree) (ts : Trees) → k ≡ length (stored t) → j ≡ length (storedAll ts) → m ≡ sets l i (stored t) → n ≡ sets m (i + 8 + k) (storedAll ts)
+    → o ≡ sets (sets n (i + 8) (take k (drop i n))) i (header (k + j + 8) tupleKind s e) → o ≡ sets l i (stored (node tupleKind s e (more t ts)))
+unfolding stored storedAll
+tuple-bytes l m n o i k j s e t ts z y f g w =
+    let x : length (stored t ++ storedAll ts) + 8 ≡ k + j + 8 = omega (arith, length-append (stored t) (storedAll ts)) in
+    rw x
+    (shifted-pieces l m n (sets n (i + 8) (take (length (stored t)) (drop i n))) o (stored t) (storedAll ts) (header (k + j + 8) tupleKind s e) i (header-long (k + j + 8) tupleKind s e) f
+    (g ∙ ap (λ (v : ℕ). sets m (i + 8 + v) (storedAll ts)) z) refl (w ∙ ap (λ (v : ℕ). sets (sets n (i + 8) (take v (drop i n))) i (header (k + j + 8) tupleKind s e)) z))
+
+-- a position leaves room for a head
+pub type-room : (text : List ℕ) (a : Token) (pos : ℕ) → AtToken text a pos → pos < 2 ^ 63 + 2000000
+type-room text a pos h = let d = here text a (h .0) in omega (arith, h .1, d .fits, d .standing .1, d .standing .2)
+
+module _ (text : List ℕ) (left : ℕ) where
+  abbrev rd : Scanned → Ans Tree
+  rd = readType left
+
+  -- the length of what was read
+  pub type-small : (a : Token) → Stands text a → (p : Part) → Read p ≡ given stored (rd (scanned text a)) → (p .len + 24 * a .start ≤ 24 * p .end) × (p .end ≤ 65535)
+  type-small a h p e =
+      let d = opened stored (rd (scanned text a)) p e in
+      let f = here text a h in
+      let g = opened-item text rd (read-type-sure text left) a p f d in
+      (omega (arith, g .small, g .from, d .len), omega (arith, g .on .inside, f .fits))
+
+  -- references
+  module _ (k : ℕ) (a : Token) (h : Here text a) (pos : ℕ) (l m : List ℕ) where
+    abbrev ref : Ans Tree
+    ref = reference rd k (a .start) (a .end) (drop (a .end) text)
+
+    pub ref-refused : (r : Refusal) → nextToken text (a .end) ≡ Bad r → Gives stored ref pos l m (Refused r)
+    unfolding reference then
+    ref-refused r e = gives-no stored ref pos l m r (Refused r) refl (rw (refused-token text (h .fits) (a .end) (h .standing .2) r e, type-bads left r))
+
+    module _ (b : Token) (f : nextToken text (a .end) ≡ Found b) where
+      abbrev inner : Ans Tree
+      inner = rd (scanned text b)
+
+      ref-inner : ref ≡ then inner (λ t q u. ok (node k (a .start) q (more t none)) q u)
+      unfolding reference
+      ref-inner = rw (found-token text (h .fits) (a .end) (h .standing .2) b f .0)
+
+      pub ref-failed : (r : Refusal) → Refused r ≡ given stored inner → Gives stored ref pos l m (Refused r)
+      unfolding given follow lexed
+      ref-failed r g = gives-refused stored ref pos l m r (then-refused stored stored inner (λ t q u. ok (node k (a .start) q (more t none)) q u) r g (λ t q u e. rw e) ∙ ap (given stored) (sym ref-inner))
+
+      pub ref-read : (n : List ℕ) (p : Part) → Gives stored inner (pos + 8) l m (Read p) → n ≡ sets m pos (header (p .len + 8) k (a .start) (p .end))
+          → Gives stored ref pos l n (Read (record { len = p .len + 8; end = p .end; next = p .next }))
+      ref-read n p g w =
+          let d = opened stored inner p (g .0) in
+          let z : p .len ≡ length (storedAll (more (d .what) none)) = d .len ∙ omega (arith, size-more (d .what) none, size-none) in
+          gives-done stored ref (node k (a .start) (p .end) (more (d .what) none)) (p .end) (d .rest) pos (p .len + 8) l n (p .next)
+          (ref-inner ∙ then-opened stored inner p d (λ t q u. ok (node k (a .start) q (more t none)) q u)) (d .next)
+          (omega (arith, z, node-size k (a .start) (p .end) (more (d .what) none)))
+          (node-last l m n pos (p .len + 8) k (a .start) (p .end) (more (d .what) none) (omega (arith, z)) (only l m (pos + 8) (d .what) (wrote stored inner (pos + 8) l m p d (g .1))) w)
+
+  -- functions
+  module _ (a : Token) (pos : ℕ) (l m : List ℕ) where
+    abbrev args : Ans Trees
+    args = listBehind rd 59 (a .start) (a .end) (drop (a .end) text)
+
+    abbrev fun : Ans Tree
+    fun = function rd (a .start) (a .end) (drop (a .end) text)
+
+    abbrev result : Trees → ℕ → List ℕ → Ans Tree
+    result ts q u = then (rd (lex q u)) λ t q₂ u₂. ok (node functionKind (a .start) q₂ (behind ts t)) q₂ u₂
+
+    fun-args : fun ≡ then args result
+    unfolding function
+    fun-args = refl
+
+    pub fun-failed : (r : Refusal) → Refused r ≡ given storedAll args → Gives stored fun pos l m (Refused r)
+    unfolding then given
+    fun-failed r g = gives-refused stored fun pos l m r (then-refused storedAll stored args result r g (λ ts q u e. rw (e, type-bads left r)) ∙ ap (given stored) (sym fun-args))
+
+    module _ (i : Part) (g : Gives storedAll args (pos + 8) l m (Read i)) where
+      abbrev inner-type : Ans Tree
+      inner-type = rd (scanned text (i .next))
+
+      module _ (h : Here text a) where
+        args-read : Opened storedAll args i
+        args-read = opened storedAll args i (g .0)
+
+        args-sure : Reads text (a .end) (args-read .what) (i .end) (args-read .rest)
+        args-sure = opened-list text rd (read-type-sure text left) 59 (a .start) (a .end) i (omega arith) (omega (arith, h .standing .1, h .standing .2)) (h .standing .2) args-read
+
+        pub args-next : Next text i
+        args-next = next-of text (h .fits) i (args-read .rest) (args-sure .on .rest) (args-sure .on .inside) (args-read .next)
+
+        pub args-small : i .len + 24 * a .end ≤ 24 * i .end
+        args-small = omega (arith, args-sure .small, args-read .len)
+
+        fun-type : fun ≡ then inner-type (λ t q₂ u₂. ok (node functionKind (a .start) q₂ (behind (args-read .what) t)) q₂ u₂)
+        fun-type = fun-args ∙ then-opened storedAll args i args-read result ∙ rw (args-sure .on .rest, args-next .scans)
+
+        pub fun-type-failed : (n : List ℕ) (r : Refusal) → Refused r ≡ given stored inner-type → Gives stored fun pos l n (Refused r)
+        unfolding given follow lexed
+        fun-type-failed n r e =
+            gives-refused stored fun pos l n r
+            (then-refused stored stored inner-type (λ t q₂ u₂. ok (node functionKind (a .start) q₂ (behind (args-read .what) t)) q₂ u₂) r e (λ t q u e. rw e) ∙ ap (given stored) (sym fun-type))
+
+        pub fun-read : (n o : List ℕ) (p : Part) → Gives stored inner-type (pos + 8 + i .len) m n (Read p) → o ≡ sets n pos (header (i .len + p .len + 8) 13 (a .start) (p .end))
+            → Gives stored fun pos l o (Read (record { len = i .len + p .len + 8; end = p .end; next = p .next }))
+        fun-read n o p e w =
+            let d = opened stored inner-type p (e .0) in
+            let z : i .len + p .len ≡ length (storedAll (behind (args-read .what) (d .what))) = omega (arith, args-read .len, d .len, behind-size (args-read .what) (d .what)) in
+            gives-done stored fun (node functionKind (a .start) (p .end) (behind (args-read .what) (d .what))) (p .end) (d .rest) pos (i .len + p .len + 8) l o (p .next)
+            (fun-type ∙ then-opened stored inner-type p d (λ t q₂ u₂. ok (node functionKind (a .start) q₂ (behind (args-read .what) t)) q₂ u₂)) (d .next)
+            (omega (arith, z, node-size functionKind (a .start) (p .end) (behind (args-read .what) (d .what))))
+            (node-last l n o pos (i .len + p .len + 8) functionKind (a .start) (p .end) (behind (args-read .what) (d .what)) (omega (arith, z))
+            (then-last l m n (pos + 8) (args-read .what) (d .what) (i .len) (args-read .len) (wrote storedAll args (pos + 8) l m i args-read (g .1)) (wrote stored inner-type (pos + 8 + i .len) m n p d (e .1))) w)
+
+  -- names with arguments
+  module _ (a : Token) (h : Here text a) (pos : ℕ) (l m : List ℕ) where
+    abbrev nam : Ans Tree
+    nam = named rd (a .start) (scanned text a)
+
+    abbrev path : Ans Tree
+    path = chain (scanned text a)
+
+    -- what the code of names gave, whose token stands in the text
+    pub of-chain : (c : Parsed) → Gives stored (onToken text a path) (pos + 8) l m c → Gives stored path (pos + 8) l m c
+    of-chain c g = gives-as stored path (onToken text a path) (pos + 8) l m c (sym (on-token text a path (h .standing))) g
+
+    pub name-failed : (r : Refusal) → Gives stored path (pos + 8) l m (Refused r) → Gives stored nam pos l m (Refused r)
+    unfolding named withArguments look given
+    name-failed r g = gives-refused stored nam pos l m r (then-refused stored stored path (λ c q u. withArguments rd (a .start) c q u) r (g .0) (λ c q u e. rw e))
+
+    module _ (p : Part) (g : Gives stored path (pos + 8) l m (Read p)) where
+      name-read : Opened stored path p
+      name-read = opened stored path p (g .0)
+
+      name-sure : Sound-read text 16 (a .start) (name-read .what) (p .end) (name-read .rest)
+      name-sure = opened-chain text a p h name-read
+
+      pub name-next : Next text p
+      name-next = next-of text (h .fits) p (name-read .rest) (name-sure .on .rest) (name-sure .on .inside) (name-read .next)
+
+      pub name-small : p .len + 16 + 24 * a .start ≤ 24 * p .end
+      name-small = omega (arith, name-sure .small, name-sure .from, name-read .len)
+
+      with-path : nam ≡ withArguments rd (a .start) (name-read .what) (p .end) (drop (p .end) text)
+      unfolding named
+      with-path = then-opened stored path p name-read (λ c q u. withArguments rd (a .start) c q u) ∙ rw (name-sure .on .rest)
+
+      pub plain-read : (n : List ℕ) → (p .next .kind ≡ 25 → ⊥) → n ≡ sets m pos (header (p .len + 8) 10 (a .start) (p .end))
+          → Gives stored nam pos l n (Read (record { len = p .len + 8; end = p .end; next = p .next }))
+      unfolding withArguments look when
+      plain-read n k w =
+          let z : p .len ≡ length (storedAll (more (name-read .what) none)) = name-read .len ∙ omega (arith, size-more (name-read .what) none, size-none) in
+          gives-done stored nam (node typeKind (a .start) (p .end) (more (name-read .what) none)) (p .end) (drop (p .end) text) pos (p .len + 8) l n (p .next)
+          (with-path ∙ rw (name-next .scans, ne-eqb (p .next .kind) 25 k)) (rw (name-sure .on .rest) at (name-read .next))
+          (omega (arith, z, node-size typeKind (a .start) (p .end) (more (name-read .what) none)))
+          (node-last l m n pos (p .len + 8) typeKind (a .start) (p .end) (more (name-read .what) none) (omega (arith, z)) (only l m (pos + 8) (name-read .what) (wrote stored path (pos + 8) l m p name-read (g .1))) w)
+
+      module _ (k : p .next .kind ≡ 25) where
+        abbrev targs : Ans Trees
+        targs = listBehind rd 32 (p .next .start) (p .next .end) (drop (p .next .end) text)
+
+        with-list : nam ≡ then targs (λ ts q₃ u₃. ok (node typeKind (a .start) q₃ (more (name-read .what) ts)) q₃ u₃)
+        unfolding withArguments look when
+        with-list = with-path ∙ rw (name-next .scans, eq-eqb (p .next .kind) 25 k)
+
+        pub args-failed : (n : List ℕ) (r : Refusal) → Refused r ≡ given storedAll targs → Gives stored nam pos l n (Refused r)
+        unfolding given follow lexed
+        args-failed n r e =
+            gives-refused stored nam pos l n r
+            (then-refused storedAll stored targs (λ ts q₃ u₃. ok (node typeKind (a .start) q₃ (more (name-read .what) ts)) q₃ u₃) r e (λ t q u e. rw e) ∙ ap (given stored) (sym with-list))
+
+        pub targs-small : (i : Part) → Read i ≡ given storedAll targs → i .len + 24 * p .next .end ≤ 24 * i .end
+        targs-small i e =
+            let d = opened storedAll targs i e in
+            let n = here text (p .next) (name-next .stands) in
+            let y = opened-list text rd (read-type-sure text left) 32 (p .next .start) (p .next .end) i (omega arith) (omega (arith, n .standing .1, n .standing .2)) (n .standing .2) d in
+            omega (arith, y .small, d .len)
+
+        pub targs-inside : (i : Part) → Read i ≡ given storedAll targs → i .end ≤ length text
+        targs-inside i e =
+            let d = opened storedAll targs i e in
+            let n = here text (p .next) (name-next .stands) in
+            opened-list text rd (read-type-sure text left) 32 (p .next .start) (p .next .end) i (omega arith) (omega (arith, n .standing .1, n .standing .2)) (n .standing .2) d .on .inside
+
+        pub applied-read : (n o : List ℕ) (i : Part) → Gives storedAll targs (pos + 8 + p .len) m n (Read i) → o ≡ sets n pos (header (p .len + i .len + 8) 10 (a .start) (i .end))
+            → Gives stored nam pos l o (Read (record { len = p .len + i .len + 8; end = i .end; next = i .next }))
+        applied-read n o i e w =
+            let d = opened storedAll targs i (e .0) in
+            let z : p .len + i .len ≡ length (storedAll (more (name-read .what) (d .what))) = omega (arith, name-read .len, d .len, size-more (name-read .what) (d .what)) in
+            gives-done stored nam (node typeKind (a .start) (i .end) (more (name-read .what) (d .what))) (i .end) (d .rest) pos (p .len + i .len + 8) l o (i .next)
+            (with-list ∙ then-opened storedAll targs i d (λ ts q₃ u₃. ok (node typeKind (a .start) q₃ (more (name-read .what) ts)) q₃ u₃)) (d .next)
+            (omega (arith, z, node-size typeKind (a .start) (i .end) (more (name-read .what) (d .what))))
+            (node-last l n o pos (p .len + i .len + 8) typeKind (a .start) (i .end) (more (name-read .what) (d .what)) (omega (arith, z))
+            (first-then l m n (pos + 8) (name-read .what) (d .what) (p .len) (name-read .len) (wrote stored path (pos + 8) l m p name-read (g .1)) (wrote storedAll targs (pos + 8 + p .len) m n i d (e .1))) w)
+
+  -- brackets
+  module _ (a : Token) (h : Here text a) (pos : ℕ) (l m : List ℕ) where
+    abbrev inside : Ans Trees
+    inside = listBehind rd 12 (a .start) (a .end) (drop (a .end) text)
+
+    abbrev brk : Ans Tree
+    brk = brackets rd (a .start) (a .end) (drop (a .end) text)
+
+    abbrev first : Ans Passed
+    first = listStep rd 12 (a .start) (lex (a .end) (drop (a .end) text))
+
+    abbrev boxed : Trees → ℕ → List ℕ → Ans Tree
+    boxed ts q u = ok (bracketed (a .start) q ts) q u
+
+    brk-inside : brk ≡ then inside boxed
+    unfolding brackets
+    brk-inside = refl
+
+    by-first : inside ≡ then first (goOn (listBehind rd 12 (a .start)))
+    by-first = by-step text (h .fits) rd (read-type-sure text left) 12 (a .start) (omega arith) (a .end) (h .standing .2)
+
+    pub brk-stopped : (r : Refusal) → StepGives first pos l m (Stopped r) → Gives stored brk pos l m (Refused r)
+    unfolding then
+    brk-stopped r g =
+        gives-no stored brk pos l m r (Refused r) refl
+        (brk-inside ∙ rw (by-first, refused-by text (h .fits) rd (read-type-sure text left) 12 (a .start) (omega arith) first r (g .0)))
+
+    module _ (n q : ℕ) (o : List ℕ) (p : Parsed) (f : p ≡ follow (cond (eqb n 0) 8 n) q (nextToken text q)) (w : o ≡ closedBrackets (a .start) q n pos m) where
+      closed-by : LastStep text rd 12 (a .start) (a .end) pos l m n q → Gives stored brk pos l o p
+      unfolding then goOn bracketed closedBrackets stored
+      closed-by (with-none e i z x) =
+          gives-finish stored text (h .fits) brk (leaf unitKind (a .start) q []) q pos 8 l o p (i .inside) (brk-inside ∙ rw (by-first, e)) (f ∙ rw z) (sym (leaf-size unitKind (a .start) q [])) (w ∙ rw (z, x))
+      closed-by (with-one t e i z y x) =
+          let k : eqb n 0 ≡ false = ne-eqb n 0 (λ (j : n ≡ 0). absurd (omega (arith, some-bytes t, z))) in
+          gives-finish stored text (h .fits) brk (respan (a .start) q t) q pos n l o p (i .inside) (brk-inside ∙ rw (by-first, e)) (f ∙ rw k) (z ∙ sym (respan-size (a .start) q t)) (respanned l m o pos (a .start) q t x (w ∙ rw k))
+
+      pub brk-closed : StepGives first pos l m (Last n q) → Gives stored brk pos l o p
+      brk-closed g = closed-by (last-step text (h .fits) rd (read-type-sure text left) 12 (a .start) (omega arith) (a .end) pos l m n q (h .standing .2) g)
+
+    module _ (n e : ℕ) (g : StepGives first pos l m (Item n e)) where
+      abbrev others : Ans Trees
+      others = listBehind rd 12 (a .start) e (drop e text)
+
+      item-there : ItemStep text rd 12 (a .start) (a .end) pos l m n e
+      item-there = item-step text (h .fits) rd (read-type-sure text left) 12 (a .start) (omega arith) (a .end) pos l m n e (h .standing .2) g
+
+      pub first-small : n + 24 * a .end ≤ 24 * e
+      first-small = item-there .small
+
+      pub first-inside : e ≤ length text
+      first-inside = item-there .on .inside
+
+      brk-others : brk ≡ then (then others λ ts q u. ok (more (item-there .tree) ts) q u) boxed
+      unfolding then goOn
+      brk-others = brk-inside ∙ rw (by-first, item-there .is)
+
+      pub brk-failed : (o : List ℕ) (r : Refusal) → Refused r ≡ given storedAll others → Gives stored brk pos l o (Refused r)
+      unfolding given follow lexed
+      brk-failed o r z =
+          gives-refused stored brk pos l o r
+          (then-refused storedAll stored (then others λ ts q u. ok (more (item-there .tree) ts) q u) boxed r
+          (then-refused storedAll storedAll others (λ ts q u. ok (more (item-there .tree) ts) q u) r z (λ ts q u x. rw x))
+          (λ ts q u x. rw x)
+          ∙ ap (given stored) (sym brk-others))
+
+      module _ (m₂ : List ℕ) (p : Part) (f : Gives storedAll others (pos + 8 + n) m m₂ (Read p)) where
+        others-read : Opened storedAll others p
+        others-read = opened storedAll others p (f .0)
+
+        others-sure : Reads text e (others-read .what) (p .end) (others-read .rest)
+        others-sure = opened-list text rd (read-type-sure text left) 12 (a .start) e p (omega arith) (omega (arith, h .standing .1, h .standing .2)) (item-there .on .inside) others-read
+
+        pub others-small : p .len + 24 * e ≤ 24 * p .end
+        others-small = omega (arith, others-sure .small, others-read .len)
+
+        pub others-inside : p .end ≤ length text
+        others-inside = others-sure .on .inside
+
+        boxed-as : brk ≡ boxed (more (item-there .tree) (others-read .what)) (p .end) (others-read .rest)
+        unfolding then
+        boxed-as = brk-others ∙ rw (others-read .is)
+
+        module _ (o : List ℕ) (w : o ≡ tupled (a .start) n p pos m₂) where
+          tuple-by : (ts : Trees) → brk ≡ boxed (more (item-there .tree) ts) (p .end) (others-read .rest) → p .len ≡ length (storedAll ts) → m₂ ≡ sets m (pos + 8 + n) (storedAll ts)
+              → Gives stored brk pos l o (Read (record { len = cond (eqb (p .len) 0) n (n + p .len + 8); end = p .end; next = p .next }))
+          unfolding bracketed tupled storedAll
+          tuple-by none b z x =
+              let k : p .len ≡ 0 = z in
+              rw (eq-eqb (p .len) 0 k)
+              (gives-done stored brk (respan (a .start) (p .end) (item-there .tree)) (p .end) (others-read .rest) pos n l o (p .next) b (others-read .next)
+              (item-there .len ∙ sym (respan-size (a .start) (p .end) (item-there .tree)))
+              (respanned l m o pos (a .start) (p .end) (item-there .tree) (item-there .holds) (w ∙ rw (eq-eqb (p .len) 0 k, x))))
+          tuple-by (more u us) b z x =
+              let t : Tree = item-there .tree in
+              let y : length (storedAll (more t (more u us))) ≡ n + p .len = size-more t (more u us) ∙ omega (arith, item-there .len, z, size-more u us, length-append (stored u) (storedAll us)) in
+              let k : eqb (p .len) 0 ≡ false = ne-eqb (p .len) 0 (λ (j : p .len ≡ 0). absurd (omega (arith, some-bytes u, z, length-append (stored u) (storedAll us)))) in
+              rw k
+              (gives-done stored brk (node tupleKind (a .start) (p .end) (more t (more u us))) (p .end) (others-read .rest) pos (n + p .len + 8) l o (p .next) b (others-read .next)
+              (omega (arith, y, node-size tupleKind (a .start) (p .end) (more t (more u us))))
+              (tuple-bytes l m m₂ o pos n (p .len) (a .start) (p .end) t (more u us) (item-there .len) z (item-there .holds) x (w ∙ rw k)))
+
+          pub brk-tuple : Gives stored brk pos l o (Read (record { len = cond (eqb (p .len) 0) n (n + p .len + 8); end = p .end; next = p .next }))
+          brk-tuple = tuple-by (others-read .what) boxed-as (others-read .len) (wrote storedAll others (pos + 8 + n) m m₂ p others-read (f .1))
+
+-- the two ways to end brackets behind a comma
+module _ (o n : ℕ) (p : Part) (pos : ℕ) (l : List ℕ) where
+  abbrev Tupled : List ℕ → Part → Type 0
+  Tupled m q = (q ≡ record { len = cond (eqb (p .len) 0) n (n + p .len + 8); end = p .end; next = p .next }) × (m ≡ tupled o n p pos l)
+
+  pub tuple-none : (m : List ℕ) → p .len ≡ 0 → m ≡ sets l (pos + 4) (span o (p .end)) → Tupled m (record { len = n; end = p .end; next = p .next })
+  unfolding tupled
+  tuple-none m z w = rw (eq-eqb (p .len) 0 z) (refl, w)
+
+  pub tuple-some : (m m₂ : List ℕ) → (p .len ≡ 0 → ⊥) → m ≡ sets l (pos + 8) (take n (drop pos l)) → m₂ ≡ sets m pos (header (n + p .len + 8) 15 o (p .end))
+      → Tupled m₂ (record { len = n + p .len + 8; end = p .end; next = p .next })
+  unfolding tupled
+  tuple-some m m₂ z w x = rw (ne-eqb (p .len) 0 z) (refl, x ∙ rw w)
+
+pub tuple-told : (a : Ans Tree) (pos : ℕ) (l m : List ℕ) (p q : Part) → p ≡ q → Gives stored a pos l m (Read q) → Gives stored a pos l m (Read p)
+tuple-told a pos l m p q e g = rw e g
+
+-- a type by its first token
+module _ (text : List ℕ) (a : Token) where
+  pub type-deep : (left pos : ℕ) (l m : List ℕ) (p : Parsed) → left ≡ 0 → p ≡ tooDeep a → Gives stored (readType left (scanned text a)) pos l m p
+  unfolding readType look
+  type-deep left pos l m p z e = rw z (gives-no stored (readType 0 (scanned text a)) pos l m (refusal 14 (a .start) (a .end)) p e refl)
+
+  module _ (left pos : ℕ) (l m : List ℕ) (p : Parsed) (z : left ≡ 0 → ⊥) where
+    abbrev n : ℕ
+    n = left - 1
+
+    over : readType left (scanned text a) ≡ typeOver (readType n) (scanned text a)
+    unfolding readType
+    over = let e : left ≡ suc n = omega (arith, z) in ap (λ (k : ℕ). readType k (scanned text a)) e
+
+    pub type-brackets : a .kind ≡ 11 → Gives stored (brackets (readType n) (a .start) (a .end) (drop (a .end) text)) pos l m p → Gives stored (readType left (scanned text a)) pos l m p
+    unfolding typeOver look when
+    type-brackets k g = gives-as stored (readType left (scanned text a)) _ pos l m p (over ∙ rw (eq-eqb (a .kind) 11 k)) g
+
+    module _ (k₁ : a .kind ≡ 11 → ⊥) where
+      pub type-reference : a .kind ≡ 8 → Gives stored (reference (readType n) 11 (a .start) (a .end) (drop (a .end) text)) pos l m p → Gives stored (readType left (scanned text a)) pos l m p
+      unfolding typeOver look when
+      type-reference k g = gives-as stored (readType left (scanned text a)) _ pos l m p (over ∙ rw (ne-eqb (a .kind) 11 k₁, eq-eqb (a .kind) 8 k)) g
+
+      module _ (k₂ : a .kind ≡ 8 → ⊥) where
+        pub type-mutable : a .kind ≡ 10 → Gives stored (reference (readType n) 12 (a .start) (a .end) (drop (a .end) text)) pos l m p → Gives stored (readType left (scanned text a)) pos l m p
+        unfolding typeOver look when
+        type-mutable k g = gives-as stored (readType left (scanned text a)) _ pos l m p (over ∙ rw (ne-eqb (a .kind) 11 k₁, ne-eqb (a .kind) 8 k₂, eq-eqb (a .kind) 10 k)) g
+
+        module _ (k₃ : a .kind ≡ 10 → ⊥) where
+          pub type-function : a .kind ≡ 59 → Gives stored (function (readType n) (a .start) (a .end) (drop (a .end) text)) pos l m p → Gives stored (readType left (scanned text a)) pos l m p
+          unfolding typeOver look when
+          type-function k g = gives-as stored (readType left (scanned text a)) _ pos l m p (over ∙ rw (ne-eqb (a .kind) 11 k₁, ne-eqb (a .kind) 8 k₂, ne-eqb (a .kind) 10 k₃, eq-eqb (a .kind) 59 k)) g
+
+          pub type-named : (a .kind ≡ 59 → ⊥) → Gives stored (named (readType n) (a .start) (scanned text a)) pos l m p → Gives stored (readType left (scanned text a)) pos l m p
+          unfolding typeOver look when
+          type-named k g = gives-as stored (readType left (scanned text a)) _ pos l m p (over ∙ rw (ne-eqb (a .kind) 11 k₁, ne-eqb (a .kind) 8 k₂, ne-eqb (a .kind) 10 k₃, ne-eqb (a .kind) 59 k)) g
