@@ -1,6 +1,8 @@
 //! Measures the port against the Rust: a walk over the tokens of a text, in one
 //! process, on the same texts.
 
+mod items;
+mod reads;
 #[path = "../../oracle/src/station.rs"]
 mod station;
 mod texts;
@@ -32,6 +34,11 @@ usage: bench [--check] [--help]
 
 Prints a table in nanoseconds a byte: the median of the runs and, in brackets, the
 fastest. The 1 KB are sixty different texts, so that both read as many bytes.
+
+Reads of items are measured too: see bench/README.md. --check fails where the port
+is slower than the Rust on types, bindings or nests, where its time a byte grows by
+more than a fifth from 2 KB to 60 KB of flat list, or where 60 brackets round such a
+list cost more than 60 times as much as none.
 ";
 
 const LONG: usize = 60_000;
@@ -61,6 +68,7 @@ fn main() {
         println!("| {name} | {tokens} | {} |", row.cells());
         failed |= row.fails();
     }
+    failed |= reads::measure_all();
     if check && failed {
         eprintln!("bench: the port is slower than the Rust, or its time a byte grows too much");
         exit(1);
@@ -160,7 +168,7 @@ fn measure(long: &[String], short: &[String]) -> Row {
 }
 
 /// Walks over all the texts again and again; the time a byte.
-fn run(texts: &[String], walk: fn(&str)) -> f64 {
+fn run(texts: &[String], mut walk: impl FnMut(&str)) -> f64 {
     let bytes: usize = texts.iter().map(String::len).sum();
     let start = Instant::now();
     let mut rounds = 0;

@@ -46,12 +46,25 @@ impl Answer {
         }
     }
 
+    /// A read that is accepted: the length of its tree, and the token that follows.
+    pub fn read(length: usize, kind: u64, start: usize, end: usize) -> Answer {
+        Answer {
+            result: 0,
+            numbers: [length as u64, kind, start as u64, end as u64, 0, 0],
+        }
+    }
+
     /// A refusal whose second place is its place, as all refusals of the lexer are.
     pub fn refused(number: u32, start: usize, end: usize) -> Answer {
-        let (start, end) = (start as u64, end as u64);
+        Answer::refused_at_two(number, (start, end), (start, end))
+    }
+
+    pub fn refused_at_two(number: u32, place: (usize, usize), second: (usize, usize)) -> Answer {
+        let [start, end] = [place.0 as u64, place.1 as u64];
+        let [second_start, second_end] = [second.0 as u64, second.1 as u64];
         Answer {
             result: number,
-            numbers: [start, end, start, end, 0, 0],
+            numbers: [start, end, second_start, second_end, 0, 0],
         }
     }
 }

@@ -70,8 +70,13 @@ impl<'t> Text<'t> {
     pub fn for_the_rust(&self, at: usize) -> &str {
         match self.utf8 {
             Some(text) if text.is_char_boundary(at) => &text[at..],
-            _ => &self.replaced.get_or_init(|| ascii(self.bytes))[at..],
+            _ => &self.in_ascii()[at..],
         }
+    }
+
+    /// The text with each byte of 128 or more replaced by 1.
+    pub fn in_ascii(&self) -> &str {
+        self.replaced.get_or_init(|| ascii(self.bytes))
     }
 }
 
@@ -126,23 +131,36 @@ pub fn token_of(text: &Text, at: usize, outcome: Outcome) -> Expected {
     match outcome {
         Outcome::Panicked => after_a_panic(Call::Token, text, at),
         Outcome::Token { kind, start, end } => {
-            if kind == Tok::ByteStringValue as u64 {
-                if let Some(high) = high_byte_in_string(text.bytes, start) {
-                    let refusal = Answer::refused(9, high, high + 1);
-                    return by_document_01(Cause::HighByteInString, refusal);
-                }
+            if let Some(high) = high_byte_in_token(text, kind, start) {
+                let refusal = Answer::refused(9, high, high + 1);
+                return by_document_01(Cause::HighByteInString, refusal);
             }
             from_the_rust(Answer::token(kind, start, end))
         }
         Outcome::Refused { number, start, end } => {
-            // Some versions of Rust end the last line before a CR that no LF follows.
-            let length = text.bytes.len();
-            if (number == 7 || number == 8) && end + 1 == length && text.bytes[end] == b'\r' {
-                let refusal = Answer::refused(number, start, length);
+            if let Some(refusal) = whole_last_line(text, number, start, end) {
                 return by_document_01(Cause::LastCarriageReturn, refusal);
             }
             from_the_rust(Answer::refused(number, start, end))
         }
+    }
+}
+
+/// Some versions of Rust end the last line before a CR that no LF follows. For such
+/// a refusal, the one whose place takes in the CR.
+pub fn whole_last_line(text: &Text, number: u32, start: usize, end: usize) -> Option<Answer> {
+    let length = text.bytes.len();
+    let unclosed = number == 7 || number == 8;
+    (unclosed && end + 1 == length && text.bytes[end] == b'\r')
+        .then(|| Answer::refused(number, start, length))
+}
+
+/// The first byte of 128 or more in a token that is a string.
+pub fn high_byte_in_token(text: &Text, kind: u64, start: usize) -> Option<usize> {
+    if kind == Tok::ByteStringValue as u64 {
+        high_byte_in_string(text.bytes, start)
+    } else {
+        None
     }
 }
 
@@ -194,7 +212,7 @@ fn after_a_panic(call: Call, text: &Text, at: usize) -> Expected {
 }
 
 /// Where each top-level `/**/` of the gap at `at` starts.
-fn empty_blocks(text: &[u8], mut at: usize) -> Vec<usize> {
+pub fn empty_blocks(text: &[u8], mut at: usize) -> Vec<usize> {
     let mut found = vec![];
     loop {
         let rest = &text[at..];

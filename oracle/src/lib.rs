@@ -13,11 +13,16 @@ pub use shims::{
 
 pub mod answer;
 pub mod expected;
+pub mod items;
+pub mod levels;
+pub mod parsing;
 pub mod random;
 pub mod reading;
+pub mod reads;
 #[cfg(test)]
 mod sha256;
 pub mod texts;
+pub mod tree;
 
 /// The sha256 of each included file, to which the build held it.
 pub const SOURCES: &str = include_str!("../SHA256SUMS");
@@ -48,5 +53,27 @@ pub mod parser {
 
     pub mod syntax {
         include!(concat!(env!("MOVE_PARSER"), "/syntax.rs"));
+
+        // The five private functions that read an item. The first token is read.
+
+        pub fn read_name(tokens: &mut Lexer) -> Result<NameAccessChain, Diagnostic> {
+            parse_name_access_chain(&mut Context::new(&mut CompilationEnv, tokens), || "a name")
+        }
+
+        pub fn read_value(tokens: &mut Lexer) -> Result<Option<Value>, Diagnostic> {
+            maybe_parse_value(&mut Context::new(&mut CompilationEnv, tokens))
+        }
+
+        pub fn read_type(tokens: &mut Lexer) -> Result<Type, Diagnostic> {
+            parse_type(&mut Context::new(&mut CompilationEnv, tokens))
+        }
+
+        pub fn read_bind_list(tokens: &mut Lexer) -> Result<BindList, Diagnostic> {
+            parse_bind_list(&mut Context::new(&mut CompilationEnv, tokens))
+        }
+
+        pub fn read_lambda_bind_list(tokens: &mut Lexer) -> Result<BindList, Diagnostic> {
+            parse_lambda_bind_list(&mut Context::new(&mut CompilationEnv, tokens))
+        }
     }
 }

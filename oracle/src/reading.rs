@@ -76,7 +76,7 @@ impl<'t> Reading<'t> {
 }
 
 /// The number that document 01 gives to a refusal of the lexer.
-fn refusal_number(diagnostic: &Diagnostic) -> u32 {
+pub fn refusal_number(diagnostic: &Diagnostic) -> u32 {
     match diagnostic.code {
         Code::Syntax(Syntax::InvalidCharacter) => 5,
         Code::Syntax(Syntax::InvalidDocComment) => 6,
@@ -91,7 +91,7 @@ thread_local! {
 }
 
 /// Runs `ask`; None where it panicked.
-fn caught<T>(ask: impl FnOnce() -> T) -> Option<T> {
+pub fn caught<T>(ask: impl FnOnce() -> T) -> Option<T> {
     ASKING.set(true);
     let given = catch_unwind(AssertUnwindSafe(ask));
     ASKING.set(false);

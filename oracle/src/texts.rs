@@ -37,7 +37,7 @@ pub const MARKS: [&str; 37] = [
     "||", "#", "@",
 ];
 
-const NAMES: [&str; 24] = [
+pub const NAMES: [&str; 24] = [
     "x",
     "b",
     "_",
@@ -69,7 +69,7 @@ const NUMBERS: [&str; 24] = [
     "1u64", "1u128", "1u88", "1u6", "1u12", "0x1u8", "0xBu64", "0xbu128", "0X1", "123_456", "9u",
 ];
 
-const STRINGS: [&str; 14] = [
+pub const STRINGS: [&str; 14] = [
     r#"b"""#,
     r#"x"""#,
     r#"b"a""#,
@@ -86,7 +86,7 @@ const STRINGS: [&str; 14] = [
     "b\"a\rb\"",
 ];
 
-const GAPS: [&str; 12] = [
+pub const GAPS: [&str; 12] = [
     " ", " ", " ", " ", "\n", "\n", "\r\n", "\t", "  ", "\n\n", "\r\n\r\n", " \t\n",
 ];
 
@@ -163,7 +163,7 @@ fn push_piece(random: &mut Random, text: &mut String, faults: bool) {
     }
 }
 
-fn push_name(random: &mut Random, text: &mut String) {
+pub fn push_name(random: &mut Random, text: &mut String) {
     const LETTERS: &[u8] = b"abcdefghijklmnopqrstuvwxyzABCDEFGHIJKLMNOPQRSTUVWXYZ_0123456789";
     text.push(random.pick(&LETTERS[..53]) as char);
     for _ in 0..random.below(12) {
@@ -171,7 +171,7 @@ fn push_name(random: &mut Random, text: &mut String) {
     }
 }
 
-fn push_comment(random: &mut Random, text: &mut String) {
+pub fn push_comment(random: &mut Random, text: &mut String) {
     match random.below(8) {
         0 => *text += "/**/",
         1 => *text += random.pick(&["/***/", "/*/*/ */*/", "/****/", "/*** */", "/** /**/ */"]),
@@ -241,12 +241,17 @@ pub fn not_utf8(random: &mut Random, length: usize) -> Vec<u8> {
         let faults = random.once_in(2);
         move_like(random, length, faults)
     };
-    if length > 0 {
+    make_not_utf8(random, &mut text);
+    text
+}
+
+/// Changes some bytes, at least one if there are any, to 128 or more.
+pub fn make_not_utf8(random: &mut Random, text: &mut [u8]) {
+    if !text.is_empty() {
         for _ in 0..1 + random.below(3) {
-            text[random.below(length)] = 128 | random.byte();
+            text[random.below(text.len())] = 128 | random.byte();
         }
     }
-    text
 }
 
 /// One thing that fills a whole text of `length` bytes, for each kind of thing.

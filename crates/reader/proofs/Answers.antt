@@ -6,10 +6,10 @@ use mathlib.Core.List.{List, [], _∷_, _++_}
 use Prim.Native.Nat.{ℕ, suc, _<_, _≤_}
 use native.Mathlib.Omega.{arith}
 use native.Mathlib.Nat.{not-suc-le-zero, le-of-suc-le-suc}
-use borrow.Author.Tests.{lt-ltb, le-ltb, eq-eqb, ne-eqb, ltb-false}
-use lib.Dec.{eqb, ltb}
-use lib.ListN.{length, drop, set}
-use lib.Seq.{sets}
+use borrow.Author.Tests.{le-leb, lt-leb, leb-true, lt-ltb, le-ltb, eq-eqb, ne-eqb, ltb-false}
+use lib.Dec.{eqb, ltb, leb}
+use lib.ListN.{length, take, drop, set}
+use lib.Seq.{sets, take-append-le, take-all}
 use Rattle.classes.proofs.Bools.{false-true, or-left}
 use Rattle.tokens.specs.Answers.{refusal, places}
 use Rattle.tokens.specs.Token.{Scanned, tok, bad, lex}
@@ -24,7 +24,7 @@ use Rattle.records.specs.Stored.{stored}
 use Rattle.names.specs.Reading.{Ans, ok, no, when}
 use Rattle.names.specs.Names.{chain}
 use Rattle.names.specs.Values.{value}
-use Rattle.names.specs.Parsed.{given, follow, admittedPart}
+use Rattle.names.specs.Parsed.{given, follow, kept, put, admittedPart}
 use Rattle.names.specs.declared.Part.{Part}
 use Rattle.names.specs.declared.Parsed.{Parsed}
 use Rattle.names.specs.declared.Parsed.the-variants.{Read, Refused}
@@ -35,7 +35,7 @@ use Rattle.binds.specs.Binds.{readBindList, readLambdaList}
 use Rattle.reader.specs.declared.Answer.{Answer}
 use Rattle.reader.specs.declared.Answer.the-variants.{Item as Accepted, Refused as Rejected}
 use Rattle.reader.specs.Items.{Item, item, refused, readKind, followed, finished, readItem}
-use Rattle.reader.specs.Calls.{answerLimit, roomed, written, answered, readNumber, readValues, read, readBuffer}
+use Rattle.reader.specs.Calls.{answerLimit, copied, roomed, written, answered, readNumber, readValues, read, readBuffer}
 
 -- an item by its kind
 module _ (kind : ℕ) (text : List ℕ) (at pos : ℕ) (l m : List ℕ) (p : Parsed) where
@@ -197,18 +197,37 @@ unfolding answered readNumber readValues isItem rejectedIn
 refused-numbers (item x u) r e = false-true _ (ap isItem e)
 refused-numbers (refused q) r e = (ap (λ (x : Refusal). x .number) (ap (rejectedIn r) e), ap places (ap (rejectedIn r) e))
 
--- the run over no buffer leaves the lent one as it was
-pub nothing-lent : (xs l : List ℕ) → length xs ≡ 0 → xs ++ l ≡ l
-nothing-lent [] l h = refl
-nothing-lent (x ∷ xs) l h = absurd (omega (arith, h))
+-- what was read into a buffer of its own
+made-in : (xs z made : List ℕ) (n : ℕ) → made ≡ sets z 0 xs → n ≡ length xs → length made ≡ length z → n ≤ length made → take n made ≡ xs
+made-in xs z made n w e f h =
+    rw (w, e, sets-whole xs z (omega arith)) (take-append-le (length xs) xs (drop (length xs) z) (omega arith) ∙ take-all (length xs) xs (omega arith))
 
-module _ (kind : ℕ) (text : List ℕ) (at : ℕ) (h : length text ≤ textLimit) (g : at ≤ length text) (k : (eqb kind 0 || ltb 5 kind) ≡ false) (l m : List ℕ) (d : m ≡ l) where
-  pub dry-refused : (r : Refusal) → Refused r ≡ given stored (admittedPart (readKind kind) text at) → Call kind text at l m (Rejected r)
-  dry-refused r e = rw d (call-refused kind text at h g k l r e)
+module _ (found : Ans Tree) (l m : List ℕ) where
+  pub copy-made : (n : ℕ) (made : List ℕ) → n ≤ length made → m ≡ sets l 0 (take n made) → kept (given stored found) m ≡ kept (given stored found) (copied n made (put stored 0 found l) l)
+  unfolding copied
+  copy-made n made h e = rw (le-leb n (length made) h) (ap (kept (given stored found)) e)
 
-  module _ (p : Part) (e : Read p ≡ given stored (admittedPart (readKind kind) text at)) (b : Bool) (z : b ≡ (ltb (length m) (p .len) || ltb 65535 (p .len))) where
-    pub dry-long : (a : Answer) → b ≡ true → a ≡ Rejected (refusal 4 0 0) → Call kind text at l m a
-    dry-long a y f = rw d (call-long kind text at h g k l p e b (rw d at z) a y f)
+  pub read-again : (n : ℕ) (made : List ℕ) (q : Parsed) → length made < n → Gives stored found 0 l m q → kept (given stored found) m ≡ kept (given stored found) (copied n made (put stored 0 found l) l)
+  unfolding copied
+  read-again n made q h g = rw (lt-leb n (length made) h, ← g .0) (g .1)
 
-    pub then-done : (m₂ : List ℕ) (q : Parsed) → b ≡ false → Gives stored (admittedPart (readKind kind) text at) 0 m m₂ q → Call kind text at l m₂ (Accepted (p .len) (p .next))
-    then-done m₂ q y f = call-done kind text at h g k l p e b (rw d at z) m₂ q y (rw d at f)
+  module _ (p : Part) (e : Read p ≡ given stored found) (z made : List ℕ) (g : Gives stored found 0 z made (Read p)) where
+    put-as : (d : Opened stored found p) → put stored 0 found l ≡ sets l 0 (stored (d .what))
+    unfolding put
+    put-as d = rw (d .is)
+
+    pub made-gives : length made ≡ length z → kept (given stored found) m ≡ kept (given stored found) (copied (p .len) made (put stored 0 found l) l) → Gives stored found 0 l m (Read p)
+    unfolding copied kept
+    made-gives f h = go (leb (p .len) (length made)) refl
+      where
+        go : (b : Bool) → leb (p .len) (length made) ≡ b → Gives stored found 0 l m (Read p)
+        go true y =
+            let d = opened stored found p e in
+            (e, rw (← e, y) at h ∙ ap (sets l 0) (made-in (stored (d .what)) z made (p .len) (wrote stored found 0 z made p d (g .1)) (d .len) f (leb-true (p .len) (length made) y)) ∙ sym (put-as d))
+        go false y = (e, rw (← e, y) at h)
+
+module _ (kind : ℕ) (text : List ℕ) (at : ℕ) (h : length text ≤ textLimit) (g : at ≤ length text) (k : (eqb kind 0 || ltb 5 kind) ≡ false) (l : List ℕ) (p : Part) (e : Read p ≡ given stored (admittedPart (readKind kind) text at)) (b : Bool) (z : b ≡ (ltb (length l) (p .len) || ltb 65535 (p .len))) (y : b ≡ false) where
+  pub made-done : (m blank made : List ℕ) → Gives stored (admittedPart (readKind kind) text at) 0 blank made (Read p) → length made ≡ length blank
+      → kept (given stored (admittedPart (readKind kind) text at)) m ≡ kept (given stored (admittedPart (readKind kind) text at)) (copied (p .len) made (put stored 0 (admittedPart (readKind kind) text at) l) l)
+      → Call kind text at l m (Accepted (p .len) (p .next))
+  made-done m blank made f n w = call-done kind text at h g k l p e b z m (Read p) y (made-gives (admittedPart (readKind kind) text at) l m p e blank made f n w)

@@ -1,10 +1,11 @@
 -- The answer and the final buffer of a call that writes an item: its stored tree for a read, its line for a display.
 -- Assumes nothing.
 use Prim.Native.Nat.{ℕ}
-use mathlib.Core.Bool.{_||_}
+use mathlib.Core.Bool.{cond, _||_}
 use mathlib.Core.List.{List, [], _∷_, _++_}
-use lib.Dec.{ltb}
-use lib.ListN.{length, drop}
+use lib.Dec.{ltb, leb}
+use lib.ListN.{length, take, drop}
+use lib.Seq.{sets}
 use Rattle.tokens.specs.Answers.{refusal, places}
 use Rattle.records.specs.Tree.{Tree}
 use Rattle.records.specs.Stored.{stored}
@@ -34,6 +35,10 @@ readNumber (refused r) = r .number
 unfoldable pub readValues : Item → List ℕ
 readValues (item t n) = length (stored t) ∷ n .kind ∷ n .start ∷ n .end ∷ 0 ∷ 0 ∷ []
 readValues (refused r) = places r
+
+-- the buffer l with the n bytes that `made` begins with in front, where it has them, and m otherwise
+unfoldable pub copied : ℕ → List ℕ → List ℕ → List ℕ → List ℕ
+copied n made m l = cond (leb n (length made)) (sets l 0 (take n made)) m
 
 -- the same as the code has it
 unfoldable pub answered : Item → Answer

@@ -7,7 +7,7 @@ ghost use lib.ListN.{length};
 ghost use Rattle.records.specs.Stored.{stored};
 ghost use Rattle.names.specs.Parsed.{given, kept, put, admittedPart};
 ghost use Rattle.reader.specs.Items.{readKind};
-ghost use Rattle.reader.specs.Calls.{answered, readBuffer};
+ghost use Rattle.reader.specs.Calls.{copied, answered, readBuffer};
 use names::Parsed;
 use tokens::Refusal;
 use tokens::TEXT_LIMIT;
@@ -78,8 +78,20 @@ fn refused(number: u32) -> Answer
     Answer::Refused(tokens::refuse(number, 0, 0))
 }
 
-// Reads the item of the kind from `at` on into the buffer. It is read once over no buffer, and again over
-// the lent one where the answer is accepted: a refused call writes no byte.
+// Writes an item whose answer was accepted: the n bytes that `made` begins with, or, where it has no room
+// for them, by reading the item again.
+fn write_item(kind: u64, text: &[u8], at: usize, made: &[u8], n: usize, out: &mut [u8])
+    ensures { λ _. ⌜ kept (given stored (admittedPart (readKind kind) (now (text .entry)) at)) (now (out .exit)) ≡ kept (given stored (admittedPart (readKind kind) (now (text .entry)) at)) (copied n (now (made .entry)) (put stored 0 (admittedPart (readKind kind) (now (text .entry)) at) (now (out .entry))) (now (out .entry))) ⌝ }
+{
+    if n <= made.len() {
+        buffer::copy(out, &made[..n]);
+        return;
+    }
+    read_kind(kind, text, at, out);
+}
+
+// Reads the item of the kind from `at` on into a buffer of its own, and from there into the lent one where
+// the answer is accepted: a refused call writes no byte. Most items are short enough to be read once.
 fn read_admitted(kind: u64, text: &[u8], at: usize, out: &mut [u8]) -> Answer
     requires { ⌜ length (now text) ≤ 65535 ⌝ }
     requires { ⌜ at ≤ length (now text) ⌝ }
@@ -87,7 +99,8 @@ fn read_admitted(kind: u64, text: &[u8], at: usize, out: &mut [u8]) -> Answer
     ensures answer { λ r. ⌜ r ≡ answered (Rattle.reader.specs.Calls.read kind (now (text .entry)) at (length (now (out .entry)))) ⌝ }
     ensures buffer { λ r. ⌜ now (out .exit) ≡ readBuffer kind (now (text .entry)) at (now (out .entry)) ⌝ }
 {
-    let d = read_kind(kind, text, at, &mut out[..0]);
+    let mut made = [0u8; 1024];
+    let d = read_kind(kind, text, at, &mut made);
     match d {
         Parsed::Refused(r) => Answer::Refused(r),
         Parsed::Read(p) => {
@@ -95,7 +108,7 @@ fn read_admitted(kind: u64, text: &[u8], at: usize, out: &mut [u8]) -> Answer
             if too_long(out.len(), p.len) {
                 return refused(4);
             }
-            read_kind(kind, text, at, out);
+            write_item(kind, text, at, &made, p.len, out);
             Answer::Item(p.len, n)
         }
     }

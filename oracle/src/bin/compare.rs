@@ -1,5 +1,7 @@
 //! Compares the port with the Rust, answer by answer.
 
+#[path = "../read_comparison.rs"]
+mod read_comparison;
 #[path = "../station.rs"]
 mod station;
 
@@ -13,13 +15,15 @@ use oracle::{
 use std::{env, process::exit, time::Instant};
 
 const HELP: &str = "\
-Compares the port's answers with those of the Rust lexer.
+Compares the port's answers with those of the Rust lexer and parser: tokens,
+comments, and reads with the bytes that they write.
 
-usage: compare [--quick] [--seed N] [--help]
+usage: compare [--quick] [--seed N] [--reads-only] [--help]
 
-  --quick   a few million answers, in seconds
-  --seed N  another choice of random texts (default 1)
-  --help    these words
+  --quick       a few million answers, in seconds
+  --seed N      another choice of random texts (default 1)
+  --reads-only  no tokens and comments
+  --help        these words
 
 Prints the sha256 of the Rust sources, how many answers were compared, those that
 docs/DIFFERENCES.md lists by class (there document 01 decides, and the port is
@@ -38,25 +42,37 @@ fn main() {
     println!("Rust sources (sha256):\n{SOURCES}");
     println!("seed {}\n", options.seed);
 
-    let start = Instant::now();
-    let mut comparison = Comparison::default();
-    run_sets(&mut comparison, &options);
-    comparison.print_summary();
-    println!("\n{:.1} s", start.elapsed().as_secs_f64());
-    if comparison.different > 0 {
+    let mut different = 0;
+    if !options.reads_only {
+        different += run(&options);
+    }
+    different += read_comparison::run(options.quick, options.seed);
+    if different > 0 {
         exit(1);
     }
+}
+
+/// Compares tokens and comments; how many differences were found.
+fn run(options: &Options) -> u64 {
+    let start = Instant::now();
+    let mut comparison = Comparison::default();
+    run_sets(&mut comparison, options);
+    comparison.print_summary();
+    println!("\n{:.1} s", start.elapsed().as_secs_f64());
+    comparison.different
 }
 
 struct Options {
     quick: bool,
     seed: u64,
+    reads_only: bool,
 }
 
 fn options() -> Options {
     let mut options = Options {
         quick: false,
         seed: 1,
+        reads_only: false,
     };
     let mut words = env::args().skip(1);
     while let Some(word) = words.next() {
@@ -66,6 +82,7 @@ fn options() -> Options {
                 Some(seed) => options.seed = seed,
                 None => bad_usage("--seed needs a number"),
             },
+            "--reads-only" => options.reads_only = true,
             "--help" => {
                 print!("{HELP}");
                 exit(0);
@@ -317,29 +334,41 @@ fn difference(call: Call, text: &[u8], at: usize) -> Option<Difference> {
     })
 }
 
-/// Takes bytes out of the text, long pieces first, as long as a difference stays.
-fn smallest(mut found: Difference) -> Difference {
-    let mut piece = found.text.len();
+/// A difference of the smallest text that is found.
+fn smallest(found: Difference) -> Difference {
+    let call = found.call;
+    let (text, at) = shrunk(found.text.clone(), found.at, |text, at| {
+        difference(call, text, at).is_some()
+    });
+    difference(call, &text, at).unwrap_or(found)
+}
+
+/// Takes bytes out of the text, long pieces first, as long as it still differs.
+fn shrunk(
+    mut text: Vec<u8>,
+    mut at: usize,
+    mut differs: impl FnMut(&[u8], usize) -> bool,
+) -> (Vec<u8>, usize) {
+    let mut piece = text.len();
     while piece > 0 {
         let mut start = 0;
-        let mut shrunk = false;
-        while start + piece <= found.text.len() {
-            let mut text = found.text.clone();
-            text.drain(start..start + piece);
-            let before = found.at.clamp(start, start + piece) - start;
-            match difference(found.call, &text, found.at - before) {
-                Some(smaller) => {
-                    found = smaller;
-                    shrunk = true;
-                }
-                None => start += piece,
+        let mut smaller = false;
+        while start + piece <= text.len() {
+            let mut shorter = text.clone();
+            shorter.drain(start..start + piece);
+            let before = at.clamp(start, start + piece) - start;
+            if differs(&shorter, at - before) {
+                (text, at) = (shorter, at - before);
+                smaller = true;
+            } else {
+                start += piece;
             }
         }
-        if !shrunk || piece > 1 {
+        if !smaller || piece > 1 {
             piece /= 2;
         }
     }
-    found
+    (text, at)
 }
 
 impl Difference {

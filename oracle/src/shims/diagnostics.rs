@@ -1,5 +1,6 @@
 //! Stands in for the diagnostics of the move-compiler crate. What is kept of a
-//! diagnostic is its code and its places; the messages are no part of the port.
+//! diagnostic is its code, its places and what is said of them. The port has no
+//! messages; here they tell apart the refusals that share a code.
 
 use super::location::Loc;
 
@@ -58,25 +59,30 @@ pub mod codes {
 pub struct Diagnostic {
     pub code: codes::Code,
     pub place: Loc,
-    pub second_places: Vec<Loc>,
+    pub message: String,
+    pub second_places: Vec<(Loc, String)>,
 }
 
 impl Diagnostic {
-    pub fn new<Message, SecondMessage, Note>(
+    pub fn new<Note>(
         code: impl Into<codes::Code>,
-        (place, _): (Loc, Message),
-        second_places: impl IntoIterator<Item = (Loc, SecondMessage)>,
+        (place, message): (Loc, impl Into<String>),
+        second_places: impl IntoIterator<Item = (Loc, impl Into<String>)>,
         _notes: impl IntoIterator<Item = Note>,
     ) -> Diagnostic {
         Diagnostic {
             code: code.into(),
             place,
-            second_places: second_places.into_iter().map(|(place, _)| place).collect(),
+            message: message.into(),
+            second_places: second_places
+                .into_iter()
+                .map(|(place, message)| (place, message.into()))
+                .collect(),
         }
     }
 
-    pub fn add_secondary_label<Message>(&mut self, (place, _): (Loc, Message)) {
-        self.second_places.push(place)
+    pub fn add_secondary_label(&mut self, (place, message): (Loc, impl Into<String>)) {
+        self.second_places.push((place, message.into()))
     }
 }
 

@@ -1,14 +1,9 @@
 use borrow.Author.Needs.{needs}
-use Rattle.reader.proofs.Answers.{nothing-lent, dry-refused, dry-long, then-done}
+use Rattle.reader.proofs.Answers.{call-refused, call-long, made-done}
 use Rattle.names.proofs.Listing.{told}
 use Rattle.records.specs.Stored.{stored}
-use lib.ListN.{length}
-use mathlib.Core.Path.{ap, _∙_}
 use Rattle.reader.proofs.read_admitted.Statement.{statement}
 use Rattle.reader.proofs.read_admitted.Tie as tie
-
-slice-relend-prefix-read-kind : tie.Need-slice-relend-prefix-read-kind
-slice-relend-prefix-read-kind c = search needs
 
 slice-aggregate-read-kind : tie.Need-slice-aggregate-read-kind
 slice-aggregate-read-kind c = search needs
@@ -28,42 +23,37 @@ too-long-requires c κs = search needs
 refused-requires : tie.Need-refused-requires
 refused-requires c κs = search needs
 
-same-length : tie.Need-same-length
-same-length c = ap length (nothing-lent (c .before .before .before .before .before .before .before .before .before .read-kind .last .1 .1 .1 .0) (c .before .before .before .before .before .before .before .before .before .before .before .before .before .args .out .now) (c .before .before .before .before .before .before .before .before .before .read-kind .kept .1 .1 .1 .0))
-
 returns : tie.Need-returns
-returns c = dry-long _ _ _ (c .before .before .before .before .before .before .before .before .before .before .before .before .before .pre .0) (c .before .before .before .before .before .before .before .before .before .before .before .before .before .pre .1 .0) (c .before .before .before .before .before .before .before .before .before .before .before .before .before .pre .1 .1) _ _ (nothing-lent (c .before .before .before .before .before .before .before .before .before .read-kind .last .1 .1 .1 .0) (c .before .before .before .before .before .before .before .before .before .before .before .before .before .args .out .now) (c .before .before .before .before .before .before .before .before .before .read-kind .kept .1 .1 .1 .0)) _ (told stored _ _ _ _ _ _ (c .before .before .before .before .before .before .before .before .before .read-kind .ensures) (c .before .before .before .before .before .d2 .given .1) .0) _ (c .before .before .too-long .ensures) _ (c .before .if1 .taken) (c .refused .ensures)
+returns c = call-long _ _ _ (c .before .before .before .before .before .before .before .before .before .before .before .before .pre .0) (c .before .before .before .before .before .before .before .before .before .before .before .before .pre .1 .0) (c .before .before .before .before .before .before .before .before .before .before .before .before .pre .1 .1) _ _ (told stored _ _ _ _ _ _ (c .before .before .before .before .before .before .before .before .read-kind .ensures) (c .before .before .before .before .before .d2 .given .1) .0) _ (c .before .before .too-long .ensures) _ (c .before .if1 .taken) (c .refused .ensures)
 
-read-kind-requires-2 : tie.Need-read-kind-requires-2
-read-kind-requires-2 c κs = search needs
+slice-aggregate-write-item : tie.Need-slice-aggregate-write-item
+slice-aggregate-write-item c = search needs
 
-same-length-2 : tie.Need-same-length-2
-same-length-2 c = ap length (nothing-lent (c .before .before .before .before .before .read-kind .last .1 .1 .1 .0) (c .before .before .before .before .before .before .before .before .before .args .out .now) (c .before .before .before .before .before .read-kind .kept .1 .1 .1 .0))
+write-item-requires : tie.Need-write-item-requires
+write-item-requires c κs = search needs
 
 returns-2 : tie.Need-returns-2
-returns-2 c = dry-refused _ _ _ (c .before .before .before .before .before .before .before .before .before .pre .0) (c .before .before .before .before .before .before .before .before .before .pre .1 .0) (c .before .before .before .before .before .before .before .before .before .pre .1 .1) _ _ (nothing-lent (c .before .before .before .before .before .read-kind .last .1 .1 .1 .0) (c .before .before .before .before .before .before .before .before .before .args .out .now) (c .before .before .before .before .before .read-kind .kept .1 .1 .1 .0)) _ (told stored _ _ _ _ _ _ (c .before .before .before .before .before .read-kind .ensures) (c .before .d .given .1) .0)
+returns-2 c = call-refused _ _ _ (c .before .before .before .before .before .before .before .before .pre .0) (c .before .before .before .before .before .before .before .before .pre .1 .0) (c .before .before .before .before .before .before .before .before .pre .1 .1) _ _ (told stored _ _ _ _ _ _ (c .before .before .before .before .read-kind .ensures) (c .before .d .given .1) .0)
 
-same-length-3 : tie.Need-same-length-3
-same-length-3 c = c .before .before .read-kind2 .kept .1 .1 .1 .0 ∙ ap length (nothing-lent (c .before .before .before .before .before .before .before .before .before .before .before .before .read-kind .last .1 .1 .1 .0) (c .before .before .before .before .before .before .before .before .before .before .before .before .before .before .before .before .args .out .now) (c .before .before .before .before .before .before .before .before .before .before .before .before .read-kind .kept .1 .1 .1 .0))
+same-length : tie.Need-same-length
+same-length c = search needs
 
 returns-3 : tie.Need-returns-3
-returns-3 c = then-done _ _ _ (c .before .before .before .before .before .before .before .before .before .before .before .before .before .before .before .before .pre .0) (c .before .before .before .before .before .before .before .before .before .before .before .before .before .before .before .before .pre .1 .0) (c .before .before .before .before .before .before .before .before .before .before .before .before .before .before .before .before .pre .1 .1) _ _ (nothing-lent (c .before .before .before .before .before .before .before .before .before .before .before .before .read-kind .last .1 .1 .1 .0) (c .before .before .before .before .before .before .before .before .before .before .before .before .before .before .before .before .args .out .now) (c .before .before .before .before .before .before .before .before .before .before .before .before .read-kind .kept .1 .1 .1 .0)) _ (told stored _ _ _ _ _ _ (c .before .before .before .before .before .before .before .before .before .before .before .before .read-kind .ensures) (c .before .before .before .before .before .before .before .before .d2 .given .1) .0) _ (c .before .before .before .before .before .too-long .ensures) _ _ (c .before .before .before .before .if1 .left) (c .before .before .read-kind2 .ensures)
+returns-3 c = made-done _ _ _ (c .before .before .before .before .before .before .before .before .before .before .before .before .before .before .before .before .pre .0) (c .before .before .before .before .before .before .before .before .before .before .before .before .before .before .before .before .pre .1 .0) (c .before .before .before .before .before .before .before .before .before .before .before .before .before .before .before .before .pre .1 .1) _ _ (told stored _ _ _ _ _ _ (c .before .before .before .before .before .before .before .before .before .before .before .before .read-kind .ensures) (c .before .before .before .before .before .before .before .before .before .d2 .given .1) .0) _ (c .before .before .before .before .before .before .too-long .ensures) (c .before .before .before .before .before .if1 .left) _ _ _ (told stored _ _ _ _ _ _ (c .before .before .before .before .before .before .before .before .before .before .before .before .read-kind .ensures) (c .before .before .before .before .before .before .before .before .before .d2 .given .1)) (c .before .before .before .before .before .before .before .before .before .before .before .before .read-kind .kept .1 .1 .1 .0) (c .before .before .write-item .ensures)
 
 pub read-admitted-spec : {M : Type 1} → statement M
 read-admitted-spec =
     tie.close
     (tie.spec
-    slice-relend-prefix-read-kind
     slice-aggregate-read-kind
     read-kind-requires
     enum-known-d
     enum-known-d-2
     too-long-requires
     refused-requires
-    same-length
     returns
-    read-kind-requires-2
-    same-length-2
+    slice-aggregate-write-item
+    write-item-requires
     returns-2
-    same-length-3
+    same-length
     returns-3)

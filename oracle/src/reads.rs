@@ -1,0 +1,404 @@
+//! What a read must answer and leave in the buffer: the Rust's tree or refusal or,
+//! where docs/DIFFERENCES.md lists that document 01 departs from it, the answer of
+//! document 01.
+
+use crate::{
+    answer::Answer,
+    expected::{self, Text, LONGEST},
+    levels::strike,
+    parsing::{parse, ItemKind, Parse},
+    reading::{Outcome, Reading},
+};
+
+/// The longest tree that is not refused.
+pub const LONGEST_TREE: usize = 65_535;
+
+/// Why document 01, and not the Rust, decides a read.
+#[derive(Clone, Copy, PartialEq, Eq, Debug)]
+pub enum Cause {
+    TextTooLong,
+    StartPastEnd,
+    UnknownKind,
+    EmptyBlock,
+    HighByteInString,
+    LastCarriageReturn,
+    TooManyLevels,
+    TreeTooLong,
+    RoomTooSmall,
+}
+
+impl Cause {
+    pub const ALL: [Cause; 9] = [
+        Cause::TextTooLong,
+        Cause::StartPastEnd,
+        Cause::UnknownKind,
+        Cause::EmptyBlock,
+        Cause::HighByteInString,
+        Cause::LastCarriageReturn,
+        Cause::TooManyLevels,
+        Cause::TreeTooLong,
+        Cause::RoomTooSmall,
+    ];
+
+    pub fn words(self) -> &'static str {
+        match self {
+            Cause::TextTooLong => expected::Cause::TextTooLong.words(),
+            Cause::StartPastEnd => expected::Cause::StartPastEnd.words(),
+            Cause::UnknownKind => "item kind not 1 to 5 (refusal 3; the Rust cannot be asked)",
+            Cause::EmptyBlock => expected::Cause::EmptyBlock.words(),
+            Cause::HighByteInString => expected::Cause::HighByteInString.words(),
+            Cause::LastCarriageReturn => expected::Cause::LastCarriageReturn.words(),
+            Cause::TooManyLevels => "more than 64 levels (here refusal 14)",
+            Cause::TreeTooLong => "tree over 65,535 bytes (here refusal 4)",
+            Cause::RoomTooSmall => "tree longer than the room lent (here refusal 4)",
+        }
+    }
+}
+
+/// What must come of a read.
+#[derive(Clone, PartialEq, Eq, Debug)]
+pub struct Expected {
+    /// None where the Rust panicked and no listed difference explains it.
+    pub answer: Option<Answer>,
+    /// The bytes that the buffer must start with; all others stay.
+    pub tree: Vec<u8>,
+    pub cause: Option<Cause>,
+}
+
+/// What must come of a read with room enough.
+pub fn expected(kind: u64, text: &Text, at: usize) -> Expected {
+    if text.bytes.len() > LONGEST {
+        return by_document_01(Cause::TextTooLong, Answer::refused(1, 0, 0));
+    }
+    if at > text.bytes.len() {
+        return by_document_01(Cause::StartPastEnd, Answer::refused(2, 0, 0));
+    }
+    match ItemKind::numbered(kind) {
+        Some(kind) => of_an_item(kind, text, at),
+        None => by_document_01(Cause::UnknownKind, Answer::refused(3, 0, 0)),
+    }
+}
+
+/// The same with a buffer lent.
+#[derive(Clone, Copy, PartialEq, Eq, Debug)]
+pub struct Lent<'e> {
+    pub answer: Option<Answer>,
+    pub tree: &'e [u8],
+    pub cause: Option<Cause>,
+}
+
+impl Expected {
+    pub fn within(&self, room: usize) -> Lent<'_> {
+        match self.limit(room) {
+            Some(cause) => Lent {
+                answer: Some(Answer::refused(4, 0, 0)),
+                tree: &[],
+                cause: Some(cause),
+            },
+            None => Lent {
+                answer: self.answer,
+                tree: &self.tree,
+                cause: self.cause,
+            },
+        }
+    }
+
+    /// Why the tree is too long, if it is.
+    fn limit(&self, room: usize) -> Option<Cause> {
+        if self.tree.len() > LONGEST_TREE {
+            Some(Cause::TreeTooLong)
+        } else if self.tree.len() > room {
+            Some(Cause::RoomTooSmall)
+        } else {
+            None
+        }
+    }
+}
+
+fn by_document_01(cause: Cause, answer: Answer) -> Expected {
+    Expected {
+        answer: Some(answer),
+        tree: vec![],
+        cause: Some(cause),
+    }
+}
+
+fn of_an_item(kind: ItemKind, text: &Text, at: usize) -> Expected {
+    let parse = parse(kind, text.for_the_rust(at), at);
+    if parse.answer.is_none() {
+        if let Some(blanked) = without_empty_blocks(text, at) {
+            let again = of_an_item(kind, &Text::new(&blanked), at);
+            let cause = again.cause.or(Some(Cause::EmptyBlock));
+            return Expected { cause, ..again };
+        }
+    }
+    let too_deep = strike(kind, text.for_the_rust(at), at);
+    let reached = too_deep.map_or(parse.reached, |(start, _)| start);
+    if let Some(high) = high_byte_in_a_string(text, at, reached) {
+        let refusal = Answer::refused(9, high, high + 1);
+        return by_document_01(Cause::HighByteInString, refusal);
+    }
+    match too_deep {
+        Some(span) => {
+            refused_no_earlier(&parse, span, text);
+            by_document_01(Cause::TooManyLevels, Answer::refused(14, span.0, span.1))
+        }
+        None => of_the_rust(parse, text),
+    }
+}
+
+/// The Rust's own answer; the end of the text's last line is document 01's.
+fn of_the_rust(parse: Parse, text: &Text) -> Expected {
+    if let Some(Answer { result, numbers }) = parse.answer {
+        let [start, end, ..] = numbers.map(|number| number as usize);
+        if let Some(whole) = expected::whole_last_line(text, result, start, end) {
+            return by_document_01(Cause::LastCarriageReturn, whole);
+        }
+    }
+    Expected {
+        answer: parse.answer,
+        tree: parse.tree,
+        cause: None,
+    }
+}
+
+/// The count of levels is the oracle's own. Where it strikes, the Rust must have
+/// come as far.
+fn refused_no_earlier(parse: &Parse, (start, _): (usize, usize), text: &Text) {
+    if let Some(answer) = parse.answer {
+        assert!(
+            answer.result == 0 || answer.numbers[0] >= start as u64,
+            "the walk over the levels went past a refusal ({answer}) to {start}: '{}'",
+            text.bytes.escape_ascii()
+        );
+    }
+}
+
+/// A copy with four tabs in place of each top-level `/**/` from `at` on, on which the
+/// Rust panics; None where there is none. (A space would make `&mut` before it one
+/// token with it.)
+fn without_empty_blocks(text: &Text, at: usize) -> Option<Vec<u8>> {
+    let mut copy = text.bytes.to_vec();
+    let mut gap = at;
+    let mut found = false;
+    loop {
+        for block in expected::empty_blocks(text.bytes, gap) {
+            copy[block..block + 4].fill(b'\t');
+            gap = block + 4;
+            found = true;
+        }
+        match Reading::new(&text.in_ascii()[gap..], gap).advance() {
+            Outcome::Token { kind, end, .. } if kind != 0 => gap = end,
+            _ => return found.then_some(copy),
+        }
+    }
+}
+
+/// The first byte of 128 or more in a closed string, among the tokens from `at` on
+/// that start no later than `reached`.
+fn high_byte_in_a_string(text: &Text, at: usize, reached: usize) -> Option<usize> {
+    if text.bytes.is_ascii() {
+        return None;
+    }
+    let mut reading = Reading::new(&text.in_ascii()[at..], at);
+    loop {
+        match reading.advance() {
+            Outcome::Token { kind, start, .. } if kind != 0 && start <= reached => {
+                if let Some(high) = expected::high_byte_in_token(text, kind, start) {
+                    return Some(high);
+                }
+            }
+            _ => return None,
+        }
+    }
+}
+
+#[cfg(test)]
+mod tests {
+    use super::*;
+    use crate::parsing::on_a_deep_stack;
+
+    const NAME: u64 = 1;
+    const VALUE: u64 = 2;
+    const TYPE: u64 = 3;
+    const BINDS: u64 = 4;
+    const LAMBDA: u64 = 5;
+
+    fn read(kind: u64, text: &str) -> Expected {
+        expected(kind, &Text::new(text.as_bytes()), 0)
+    }
+
+    fn refused(kind: u64, text: &str, number: u32, place: (usize, usize)) {
+        refused_at_two(kind, text, number, place, place);
+    }
+
+    fn refused_at_two(
+        kind: u64,
+        text: &str,
+        number: u32,
+        place: (usize, usize),
+        second: (usize, usize),
+    ) {
+        let answer = Answer::refused_at_two(number, place, second);
+        assert_eq!(read(kind, text).answer, Some(answer), "'{text}'");
+    }
+
+    /// Each record of the tree as kind, start, end; then the token that follows.
+    fn accepted(kind: u64, text: &str, records: &[[u16; 3]], next: [u64; 3]) {
+        let given = read(kind, text);
+        let words: Vec<u16> = given
+            .tree
+            .chunks(2)
+            .map(|pair| u16::from_le_bytes([pair[0], pair[1]]))
+            .collect();
+        let found: Vec<_> = words.chunks(4).map(|word| &word[1..]).collect();
+        assert_eq!(found, records, "'{text}'");
+        let [token, start, end] = next;
+        let length = 8 * records.len();
+        let answer = Answer::read(length, token, start as usize, end as usize);
+        assert_eq!(given.answer, Some(answer), "'{text}'");
+    }
+
+    #[test]
+    fn the_examples_of_document_01() {
+        let tree = [16, 0, 10, 0, 0, 0, 2, 0, 8, 0, 3, 0, 0, 0, 2, 0];
+        assert_eq!(read(TYPE, "u8").tree, tree);
+        refused_at_two(TYPE, "(u8", 12, (3, 3), (0, 0));
+        refused_at_two(NAME, "0x1", 10, (3, 3), (0, 3));
+        refused_at_two(TYPE, "a<u8>=", 12, (4, 4), (1, 1));
+        refused(TYPE, "(,", 11, (1, 1));
+        refused(TYPE, "||u8", 10, (0, 2));
+        refused(VALUE, "0x1::M", 13, (0, 3));
+        let brackets = |count, inner| format!("{}{inner}{}", "(".repeat(count), ")".repeat(count));
+        assert_eq!(read(TYPE, &brackets(63, "u8")).answer.unwrap().result, 0);
+        refused(TYPE, &brackets(64, "u8"), 14, (64, 66));
+        assert_eq!(read(TYPE, &brackets(64, "")).answer.unwrap().result, 0);
+    }
+
+    #[test]
+    fn levels() {
+        let openers = |count, inner: &str| "(".repeat(count) + inner;
+        refused(TYPE, &openers(64, ""), 14, (64, 64));
+        refused(TYPE, &openers(64, ","), 11, (64, 64));
+        refused(TYPE, &openers(64, "$"), 5, (64, 64));
+        refused(TYPE, &openers(64, ">>"), 14, (64, 66));
+        refused(TYPE, &openers(63, ""), 10, (63, 63));
+        refused(TYPE, &openers(64, "b\"\u{e9}\""), 9, (66, 67));
+        refused(TYPE, &openers(64, "a b\"\u{e9}\""), 14, (64, 65));
+        refused(TYPE, &openers(64, "/**/a"), 14, (68, 69));
+        refused(
+            TYPE,
+            &("&".to_string() + &" &".repeat(63) + " ,"),
+            14,
+            (128, 129),
+        );
+        refused(TYPE, &("| | ".repeat(64) + ")"), 14, (256, 257));
+        refused(TYPE, &("|a| ".repeat(64) + ")"), 14, (253, 254));
+        let structs =
+            |count, inner| format!("{}{inner}{}", "S{f:".repeat(count), "}".repeat(count));
+        assert_eq!(read(BINDS, &structs(63, "x")).answer.unwrap().result, 0);
+        refused(BINDS, &structs(64, "x"), 14, (254, 255));
+        refused(BINDS, &structs(63, "S{f}"), 14, (254, 255));
+        refused(BINDS, &structs(63, "S<u8>{}"), 14, (254, 256));
+        assert_eq!(read(BINDS, &structs(63, "S<>{}")).answer.unwrap().result, 0);
+        assert_eq!(read(LAMBDA, &format!("|{}|", structs(63, "x"))).cause, None);
+        on_a_deep_stack(|| refused(TYPE, &openers(65_535, ""), 14, (64, 65)));
+    }
+
+    #[test]
+    fn refusals() {
+        refused(TYPE, "&,", 10, (1, 2));
+        refused(TYPE, "|a|,", 10, (3, 4));
+        refused(BINDS, "S{f:,}", 10, (4, 5));
+        refused(TYPE, "(a,,", 11, (3, 3));
+        refused_at_two(NAME, "0x1  ", 10, (5, 5), (0, 3));
+        refused(NAME, "a::", 10, (3, 3));
+        refused(NAME, "1u8::a", 10, (0, 3));
+        refused_at_two(BINDS, "1{}", 10, (1, 2), (0, 1));
+        refused_at_two(TYPE, "a<1>", 10, (3, 4), (2, 3));
+        refused(BINDS, "S<u8>", 10, (5, 5));
+        refused(VALUE, "1::$", 13, (0, 1));
+        refused(VALUE, "1 /*", 6, (2, 4));
+        refused(VALUE, "@", 10, (1, 1));
+        refused_at_two(TYPE, "(a b $", 12, (3, 3), (0, 0));
+        refused(TYPE, "u8 $", 5, (3, 3));
+        refused_at_two(TYPE, "a<b<c>>=", 12, (6, 6), (1, 1));
+        refused_at_two(TYPE, "a<0>>", 10, (3, 5), (2, 3));
+        refused_at_two(TYPE, "|a||b|c", 12, (2, 2), (0, 0));
+        refused(TYPE, "|u8,||u8", 10, (4, 6));
+        refused(LAMBDA, "||", 10, (0, 2));
+        refused(TYPE, "&&a", 10, (0, 2));
+        refused(BINDS, "((x))", 10, (1, 2));
+    }
+
+    #[test]
+    fn trees() {
+        let name = |start, end| [[10, start, end], [3, start, end]];
+        accepted(VALUE, "1u8::a", &[[31, 0, 3]], [23, 3, 5]);
+        accepted(VALUE, "@0x1::a", &[[30, 0, 4], [2, 1, 4]], [23, 4, 6]);
+        accepted(VALUE, "x\"0\"", &[[34, 0, 4]], [0, 4, 4]);
+        accepted(TYPE, "a<>>>", &[[10, 0, 3], [3, 0, 1]], [34, 3, 5]);
+        accepted(TYPE, "(u8,)", &[[10, 0, 5], [3, 1, 3]], [0, 5, 5]);
+        accepted(TYPE, "( ( ) )", &[[14, 0, 7]], [0, 7, 7]);
+        accepted(TYPE, "a<<b>", &name(0, 1), [27, 1, 3]);
+        let argument = [[10, 0, 4], [3, 0, 1], [10, 2, 3], [3, 2, 3]];
+        accepted(TYPE, "a<b>>=", &argument, [33, 4, 6]);
+        accepted(BINDS, "S<=x", &[[25, 0, 1], [20, 0, 1]], [26, 1, 3]);
+        accepted(
+            BINDS,
+            "S<>{ f }",
+            &[
+                [25, 0, 8],
+                [22, 0, 8],
+                [3, 0, 1],
+                [24, 5, 6],
+                [1, 5, 6],
+                [20, 5, 6],
+            ],
+            [0, 8, 8],
+        );
+        accepted(
+            NAME,
+            "1 :: b::c<",
+            &[[5, 0, 9], [6, 0, 6], [2, 0, 1], [1, 5, 6], [1, 8, 9]],
+            [25, 9, 10],
+        );
+    }
+
+    #[test]
+    fn what_the_caller_is_refused() {
+        let long = "a".repeat(LONGEST + 1);
+        assert_eq!(read(9, &long).cause, Some(Cause::TextTooLong));
+        let past_end = expected(9, &Text::new(b"a"), 2);
+        assert_eq!(past_end.answer, Some(Answer::refused(2, 0, 0)));
+        assert_eq!(read(0, "$").answer, Some(Answer::refused(3, 0, 0)));
+        let list = |count| format!("({})", "a,".repeat(count));
+        let longest = read(BINDS, &list(8_190));
+        assert_eq!(longest.within(65_528).tree.len(), 65_528);
+        let refused = (Some(Answer::refused(4, 0, 0)), &[][..]);
+        let small = longest.within(65_527);
+        assert_eq!((small.answer, small.tree), refused);
+        assert_eq!(small.cause, Some(Cause::RoomTooSmall));
+        let too_long = read(BINDS, &list(8_191));
+        let long = too_long.within(1 << 20);
+        assert_eq!((long.answer, long.tree), refused);
+        assert_eq!(long.cause, Some(Cause::TreeTooLong));
+    }
+
+    #[test]
+    fn empty_blocks_and_high_bytes() {
+        let given = read(TYPE, "/**/a/**/<//\n/**/b /**/>/**/");
+        assert_eq!(given.answer, Some(Answer::read(32, 0, 28, 28)));
+        assert_eq!(given.cause, Some(Cause::EmptyBlock));
+        accepted(
+            TYPE,
+            "&mut/**/",
+            &[[11, 0, 4], [10, 1, 4], [3, 1, 4]],
+            [0, 8, 8],
+        );
+        refused(TYPE, "a b\"\u{e9}\"/**/", 9, (4, 5));
+        refused(VALUE, "b\"\u{e9}\" $", 9, (2, 3));
+        refused_at_two(TYPE, "(a b b\"\u{e9}\"", 12, (3, 3), (0, 0));
+        refused(TYPE, "a b\"\u{e9}", 8, (2, 6));
+    }
+}

@@ -1,0 +1,169 @@
+//! The stored tree of document 01, built from the Rust's trees.
+
+use crate::{
+    location::Loc,
+    parser::ast::{
+        Bind, BindList, Bind_, Field, LeadingNameAccess, LeadingNameAccess_, NameAccessChain,
+        NameAccessChain_, Type, Type_, Value, Value_,
+    },
+    shared::{Identifier, Name},
+};
+
+/// Records, one behind the other. All their places are raised by `base`.
+pub struct Tree {
+    base: usize,
+    bytes: Vec<u8>,
+}
+
+type Span = (usize, usize);
+
+fn span(loc: Loc) -> Span {
+    (loc.start() as usize, loc.end() as usize)
+}
+
+impl Tree {
+    pub fn of_name(chain: &NameAccessChain, base: usize) -> Vec<u8> {
+        Tree::made(base, |tree| tree.chain(chain))
+    }
+
+    pub fn of_value(value: &Value, base: usize) -> Vec<u8> {
+        Tree::made(base, |tree| tree.value(value))
+    }
+
+    pub fn of_type(given: &Type, base: usize) -> Vec<u8> {
+        Tree::made(base, |tree| tree.type_(given))
+    }
+
+    pub fn of_bind_list(list: &BindList, base: usize) -> Vec<u8> {
+        Tree::made(base, |tree| tree.list(25, list))
+    }
+
+    pub fn of_lambda_bind_list(list: &BindList, base: usize) -> Vec<u8> {
+        Tree::made(base, |tree| tree.list(26, list))
+    }
+
+    fn made(base: usize, fill: impl FnOnce(&mut Tree)) -> Vec<u8> {
+        let mut tree = Tree {
+            base,
+            bytes: vec![],
+        };
+        fill(&mut tree);
+        tree.bytes
+    }
+
+    /// One record. Its length is only right where it fits two bytes; where it does
+    /// not, the tree is refused and none of its bytes are looked at.
+    fn record(&mut self, kind: u16, (start, end): Span, children: impl FnOnce(&mut Tree)) {
+        let at = self.bytes.len();
+        let [start, end] = [(self.base + start) as u16, (self.base + end) as u16];
+        for number in [0, kind, start, end] {
+            self.bytes.extend(number.to_le_bytes());
+        }
+        children(self);
+        let length = (self.bytes.len() - at) as u16;
+        self.bytes[at..at + 2].copy_from_slice(&length.to_le_bytes());
+    }
+
+    fn leaf(&mut self, kind: u16, loc: Loc) {
+        self.record(kind, span(loc), |_| ())
+    }
+
+    fn name(&mut self, name: &Name) {
+        self.leaf(1, name.loc)
+    }
+
+    fn first_part(&mut self, first: &LeadingNameAccess) {
+        match &first.value {
+            LeadingNameAccess_::Name(_) => self.leaf(1, first.loc),
+            LeadingNameAccess_::AnonymousAddress(_) => self.leaf(2, first.loc),
+        }
+    }
+
+    fn chain(&mut self, chain: &NameAccessChain) {
+        match &chain.value {
+            NameAccessChain_::One(_) => self.leaf(3, chain.loc),
+            NameAccessChain_::Two(first, name) => self.record(4, span(chain.loc), |tree| {
+                tree.first_part(first);
+                tree.name(name);
+            }),
+            NameAccessChain_::Three(pair, name) => self.record(5, span(chain.loc), |tree| {
+                tree.record(6, span(pair.loc), |tree| {
+                    tree.first_part(&pair.value.0);
+                    tree.name(&pair.value.1);
+                });
+                tree.name(name);
+            }),
+        }
+    }
+
+    fn value(&mut self, value: &Value) {
+        match &value.value {
+            Value_::Address(first) => {
+                self.record(30, span(value.loc), |tree| tree.first_part(first))
+            }
+            Value_::Num(_) => self.leaf(31, value.loc),
+            Value_::Bool(true) => self.leaf(32, value.loc),
+            Value_::Bool(false) => self.leaf(33, value.loc),
+            Value_::HexString(_) => self.leaf(34, value.loc),
+            Value_::ByteString(_) => self.leaf(35, value.loc),
+        }
+    }
+
+    fn type_(&mut self, given: &Type) {
+        let span = span(given.loc);
+        match &given.value {
+            Type_::Apply(chain, arguments) => self.record(10, span, |tree| {
+                tree.chain(chain);
+                tree.types(arguments);
+            }),
+            Type_::Ref(false, inner) => self.record(11, span, |tree| tree.type_(inner)),
+            Type_::Ref(true, inner) => self.record(12, span, |tree| tree.type_(inner)),
+            Type_::Fun(arguments, result) => self.record(13, span, |tree| {
+                tree.types(arguments);
+                tree.type_(result);
+            }),
+            Type_::Unit => self.record(14, span, |_| ()),
+            Type_::Multiple(types) => self.record(15, span, |tree| tree.types(types)),
+        }
+    }
+
+    fn types(&mut self, types: &[Type]) {
+        for given in types {
+            self.type_(given);
+        }
+    }
+
+    fn bind(&mut self, bind: &Bind) {
+        match &bind.value {
+            Bind_::Var(_) => self.leaf(20, bind.loc),
+            Bind_::Unpack(chain, types, fields) => {
+                let kind = if types.is_some() { 22 } else { 21 };
+                self.record(kind, span(bind.loc), |tree| {
+                    tree.chain(chain);
+                    tree.types(types.as_deref().unwrap_or_default());
+                    for (field, bind) in fields {
+                        tree.field(field, bind);
+                    }
+                });
+            }
+        }
+    }
+
+    /// A field has no span in the Rust: it runs from its name to its binding's end.
+    fn field(&mut self, field: &Field, bind: &Bind) {
+        let (start, _) = span(field.loc());
+        let (_, end) = span(bind.loc);
+        self.record(24, (start, end), |tree| {
+            tree.name(&field.0);
+            tree.bind(bind);
+        });
+    }
+
+    fn list(&mut self, kind: u16, list: &BindList) {
+        self.record(kind, span(list.loc), |tree| {
+            for bind in &list.value {
+                tree.bind(bind);
+            }
+        });
+    }
+}
