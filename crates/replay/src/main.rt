@@ -1,7 +1,10 @@
-// Replays a stored sample of the Rust lexer's answers (oracle/README.md says how it is made) and
-// counts those that the calls answer otherwise. A line of the sample is a call, `t` for the token call
-// or `c` for the comment call, the start offset, the result, the six numbers of the answer and the
-// text in hexadecimal, or `-` for none.
+// Replays a stored sample of the Rust's answers (oracle/README.md says how it is made) and counts
+// those that the calls answer otherwise. A line of the sample is one call, single blanks between:
+// - `t` for the token call or `c` for the comment call, the start offset, the result, the six numbers
+//   of the answer and the text;
+// - `r` for the read call, the item kind, the start offset, the room lent, the result, the six
+//   numbers, the text and the bytes that must be written.
+// Texts and bytes are in hexadecimal, `-` for none.
 ghost use Prim.Native.Nat.{_≤_, _<_};
 ghost use lib.ListN.{length};
 use libc::STDIN_FILENO;
@@ -10,6 +13,13 @@ use libc::STDOUT_FILENO;
 // A number, and where the next field starts.
 struct Field {
     value: u64,
+    next: usize,
+}
+
+// The result and the six numbers that a line holds, and where the next field starts.
+struct Expected {
+    number: u64,
+    values: [u64; 6],
     next: usize,
 }
 
@@ -71,21 +81,21 @@ fn nibble(b: u8) -> u8
     0
 }
 
-// Writes the bytes that the line holds in hexadecimal from `at` on, and answers how many.
-fn decode(line: &[u8], at: usize, text: &mut [u8]) -> usize
-    requires { ⌜ at ≤ length (now line) ⌝ }
-    ensures { λ r. ⌜ r ≤ length (now (text .exit)) ⌝ }
+// Writes the bytes that the line holds in hexadecimal between two places, and answers how many.
+fn decode(line: &[u8], from: usize, to: usize, bytes: &mut [u8]) -> usize
+    requires { ⌜ (from ≤ to) × (to ≤ length (now line)) ⌝ }
+    ensures { λ r. ⌜ r ≤ length (now (bytes .exit)) ⌝ }
 {
-    let mut i = at;
+    let mut i = from;
     let mut k = 0;
-    while i < line.len() {
-        if line.len() - i < 2 {
+    while i < to {
+        if to - i < 2 {
             return k;
         }
-        if text.len() <= k {
+        if bytes.len() <= k {
             return k;
         }
-        text[k] = nibble(line[i]) * 16 + nibble(line[i + 1]);
+        bytes[k] = nibble(line[i]) * 16 + nibble(line[i + 1]);
         i += 2;
         k += 1;
     }
@@ -103,59 +113,151 @@ fn same(a: &[u64; 6], b: &[u64; 6]) -> bool {
     true
 }
 
-// Whether the line's call is answered as the line says.
-fn holds(line: &[u8]) -> bool {
-    if line.len() < 2 {
-        return false;
-    }
-    let at = field_at(line, 2);
-    let number = field_at(line, at.next);
+// The result and the six numbers from `at` on.
+fn expected_at(line: &[u8], at: usize) -> Expected
+    requires { ⌜ at ≤ length (now line) ⌝ }
+    ensures { λ r. ⌜ r .next ≤ length (now (line .entry)) ⌝ }
+{
+    let number = field_at(line, at);
     let a = field_at(line, number.next);
     let b = field_at(line, a.next);
     let c = field_at(line, b.next);
     let d = field_at(line, c.next);
     let e = field_at(line, d.next);
     let f = field_at(line, e.next);
-    let expected = [a.value, b.value, c.value, d.value, e.value, f.value];
+    Expected {
+        number: number.value,
+        values: [a.value, b.value, c.value, d.value, e.value, f.value],
+        next: f.next,
+    }
+}
+
+// Whether the line's call is answered as the line says.
+fn holds(line: &[u8]) -> bool {
+    if line.len() < 2 {
+        return false;
+    }
+    if line[0] == b'r' {
+        return read_holds(line);
+    }
+    let at = field_at(line, 2);
+    let due = expected_at(line, at.next);
     let mut text = [0u8; 128];
-    let n = decode(line, f.next, &mut text);
-    answers(
-        line[0],
-        &text[..n],
-        at.value as usize,
-        number.value,
-        &expected,
-    )
+    let n = decode(line, due.next, line.len(), &mut text);
+    answers(line[0], &text[..n], at.value as usize, due)
 }
 
 // Whether the call gives this number and these values.
-fn answers(call: u8, text: &[u8], at: usize, number: u64, expected: &[u64; 6]) -> bool {
-    let mut answer = [0u64; 6];
+fn answers(call: u8, text: &[u8], at: usize, due: Expected) -> bool {
+    let mut answer = [77u64; 6];
     if call == b't' {
         let r = station::movesig_next_token(text, at, &mut answer);
-        if r as u64 != number {
-            return false;
-        }
-        return same(&answer, expected);
+        return as_due(r, &answer, due);
     }
     if call == b'c' {
         let r = station::movesig_next_comment(text, at, &mut answer);
-        if r as u64 != number {
-            return false;
-        }
-        return same(&answer, expected);
+        return as_due(r, &answer, due);
     }
     false
 }
 
-// Where the line at `at` ends.
-fn line_end(sample: &[u8], at: usize) -> usize
-    requires { ⌜ at < length (now sample) ⌝ }
-    ensures { λ r. ⌜ (at ≤ r) × (r ≤ length (now (sample .entry))) ⌝ }
+// Whether the result and the six numbers are those of the line.
+fn as_due(r: u32, answer: &[u64; 6], due: Expected) -> bool {
+    if r as u64 != due.number {
+        return false;
+    }
+    same(answer, &due.values)
+}
+
+// Whether the line's read is answered as the line says.
+fn read_holds(line: &[u8]) -> bool
+    requires { ⌜ 2 ≤ length (now line) ⌝ }
+{
+    let kind = field_at(line, 2);
+    let at = field_at(line, kind.next);
+    let room = field_at(line, at.next);
+    let due = expected_at(line, room.next);
+    let e = end_at(line, due.next, 32);
+    if e == line.len() {
+        return false;
+    }
+    let mut text = [0u8; 512];
+    let n = decode(line, due.next, e, &mut text);
+    let mut tree = [0u8; 2048];
+    let m = decode(line, e + 1, line.len(), &mut tree);
+    read_answers(
+        kind.value,
+        &text[..n],
+        at.value as usize,
+        room.value as usize,
+        due,
+        &tree[..m],
+    )
+}
+
+// Whether the read gives this result, these numbers and these bytes, and leaves all others alone.
+fn read_answers(
+    kind: u64,
+    text: &[u8],
+    at: usize,
+    room: usize,
+    due: Expected,
+    tree: &[u8],
+) -> bool {
+    if 2048 < room {
+        return false;
+    }
+    let mut out = [0u8; 2048];
+    fill(&mut out);
+    let mut answer = [77u64; 6];
+    let r = station::movesig_read(kind, text, at, &mut out[..room], &mut answer);
+    if !as_due(r, &answer, due) {
+        return false;
+    }
+    as_written(&out, tree)
+}
+
+// The byte that stands at place i of the buffer before a read.
+fn byte_before(i: usize) -> u8 {
+    200 + (i % 31) as u8
+}
+
+fn fill(out: &mut [u8]) {
+    let mut i = 0;
+    while i < out.len() {
+        out[i] = byte_before(i);
+        i += 1;
+    }
+}
+
+// The byte that must stand at place i after a read that writes the tree.
+fn byte_after(tree: &[u8], i: usize) -> u8 {
+    if i < tree.len() {
+        return tree[i];
+    }
+    byte_before(i)
+}
+
+// Whether the tree stands at the buffer's start and every byte behind it is as it was before.
+fn as_written(out: &[u8], tree: &[u8]) -> bool {
+    let mut i = 0;
+    while i < out.len() {
+        if out[i] != byte_after(tree, i) {
+            return false;
+        }
+        i += 1;
+    }
+    true
+}
+
+// Where the byte next stands from `at` on, or else the end.
+fn end_at(bytes: &[u8], at: usize, byte: u8) -> usize
+    requires { ⌜ at ≤ length (now bytes) ⌝ }
+    ensures { λ r. ⌜ (at ≤ r) × (r ≤ length (now (bytes .entry))) ⌝ }
 {
     let mut i = at;
-    while i < sample.len() {
-        if sample[i] == 10 {
+    while i < bytes.len() {
+        if bytes[i] == byte {
             return i;
         }
         i += 1;
@@ -177,7 +279,7 @@ fn replayed(sample: &[u8]) -> Tally {
     let mut differ: u64 = 0;
     let mut at: usize = 0;
     while at < sample.len() {
-        let e = line_end(sample, at);
+        let e = end_at(sample, at, 10);
         let ok = holds(&sample[at..e]);
         differ += one_if(!ok);
         lines += 1;
@@ -190,7 +292,7 @@ fn replayed(sample: &[u8]) -> Tally {
 }
 
 fn main() {
-    let mut sample = [0u8; 131072];
+    let mut sample = [0u8; 524288];
     let n = io::read_full(STDIN_FILENO, &mut sample);
     let t = replayed(&sample[..n]);
     io::print_decimal(STDOUT_FILENO, t.lines);

@@ -7,10 +7,10 @@ use Rattle.replay.proofs.decode.Statement.{statement}
 use Rattle.replay.proofs.decode.Tie as tie
 
 abbrev Inv-loop : tie.InvT-loop
-Inv-loop line at text₀ i₀ k₀ text i k = (i ≤ length line) × (length text ≡ length text₀) × (k ≤ length text)
+Inv-loop line from to bytes₀ i₀ k₀ bytes i k = (i ≤ to) × (length bytes ≡ length bytes₀) × (k ≤ length bytes)
 
 abbrev μ-loop : tie.MeasureT-loop
-μ-loop line at text₀ i₀ k₀ text i k = length line - i
+μ-loop line from to bytes₀ i₀ k₀ bytes i k = to - i
 
 loop-holds : tie.Need-loop-holds Inv-loop μ-loop
 loop-holds c = search needs
@@ -36,8 +36,8 @@ shared-slice-read-nibble c = search needs
 nibble-requires : tie.Need-nibble-requires Inv-loop μ-loop
 nibble-requires c κs = search needs
 
-mul-text : tie.Need-mul-text Inv-loop μ-loop
-mul-text c = search needs
+mul-bytes : tie.Need-mul-bytes Inv-loop μ-loop
+mul-bytes c = search needs
 
 add-nibble : tie.Need-add-nibble Inv-loop μ-loop
 add-nibble c = search needs
@@ -48,11 +48,11 @@ shared-slice-read-nibble-2 c = search needs
 nibble-requires-2 : tie.Need-nibble-requires-2 Inv-loop μ-loop
 nibble-requires-2 c κs = search needs
 
-add-text : tie.Need-add-text Inv-loop μ-loop
-add-text c = search needs
+add-bytes : tie.Need-add-bytes Inv-loop μ-loop
+add-bytes c = search needs
 
-slice-write-text : tie.Need-slice-write-text Inv-loop μ-loop
-slice-write-text c = search needs
+slice-write-bytes : tie.Need-slice-write-bytes Inv-loop μ-loop
+slice-write-bytes c = search needs
 
 add-i : tie.Need-add-i Inv-loop μ-loop
 add-i c = search needs
@@ -86,12 +86,12 @@ decode-spec =
     returns-2
     shared-slice-read-nibble
     nibble-requires
-    mul-text
+    mul-bytes
     add-nibble
     shared-slice-read-nibble-2
     nibble-requires-2
-    add-text
-    slice-write-text
+    add-bytes
+    slice-write-bytes
     add-i
     add-k
     loop-less

@@ -7,29 +7,20 @@ use Rattle.replay.proofs.holds.Tie as tie
 returns : tie.Need-returns
 returns c = search needs
 
+shared-slice-read-if2 : tie.Need-shared-slice-read-if2
+shared-slice-read-if2 c = search needs
+
+read-holds-requires : tie.Need-read-holds-requires
+read-holds-requires c κs = search needs
+
+returns-2 : tie.Need-returns-2
+returns-2 c = search needs
+
 field-at-requires : tie.Need-field-at-requires
 field-at-requires c κs = search needs
 
-field-at-requires-2 : tie.Need-field-at-requires-2
-field-at-requires-2 c κs = search needs
-
-field-at-requires-3 : tie.Need-field-at-requires-3
-field-at-requires-3 c κs = search needs
-
-field-at-requires-4 : tie.Need-field-at-requires-4
-field-at-requires-4 c κs = search needs
-
-field-at-requires-5 : tie.Need-field-at-requires-5
-field-at-requires-5 c κs = search needs
-
-field-at-requires-6 : tie.Need-field-at-requires-6
-field-at-requires-6 c κs = search needs
-
-field-at-requires-7 : tie.Need-field-at-requires-7
-field-at-requires-7 c κs = search needs
-
-field-at-requires-8 : tie.Need-field-at-requires-8
-field-at-requires-8 c κs = search needs
+expected-at-requires : tie.Need-expected-at-requires
+expected-at-requires c κs = search needs
 
 slice-aggregate-decode : tie.Need-slice-aggregate-decode
 slice-aggregate-decode c = search needs
@@ -44,31 +35,28 @@ array-share-prefix-text : tie.Need-array-share-prefix-text
 array-share-prefix-text c = search needs
 
 slice-aggregate-answers : tie.Need-slice-aggregate-answers
-slice-aggregate-answers c = sym (length-take-le (c .before .before .before .decode .result) (c .before .before .before .decode .last .1 .1 .0) (c .before .before .before .decode .ensures))
+slice-aggregate-answers c = sym (length-take-le (c .before .before .before .decode .result) (c .before .before .before .decode .last .1 .1 .1 .0) (c .before .before .before .decode .ensures))
 
 answers-requires : tie.Need-answers-requires
 answers-requires c κs = search needs
 
-returns-2 : tie.Need-returns-2
-returns-2 c = search needs
+returns-3 : tie.Need-returns-3
+returns-3 c = search needs
 
 pub holds-spec : {M : Type 1} → statement M
 holds-spec =
     tie.close
     (tie.spec
     returns
+    shared-slice-read-if2
+    read-holds-requires
+    returns-2
     field-at-requires
-    field-at-requires-2
-    field-at-requires-3
-    field-at-requires-4
-    field-at-requires-5
-    field-at-requires-6
-    field-at-requires-7
-    field-at-requires-8
+    expected-at-requires
     slice-aggregate-decode
     decode-requires
     shared-slice-read-answers
     array-share-prefix-text
     slice-aggregate-answers
     answers-requires
-    returns-2)
+    returns-3)

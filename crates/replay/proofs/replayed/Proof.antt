@@ -13,8 +13,8 @@ abbrev μ-loop : tie.MeasureT-loop
 loop-holds : tie.Need-loop-holds Inv-loop μ-loop
 loop-holds c = search needs
 
-line-end-requires : tie.Need-line-end-requires Inv-loop μ-loop
-line-end-requires c κs = search needs
+end-at-requires : tie.Need-end-at-requires Inv-loop μ-loop
+end-at-requires c κs = search needs
 
 sub-holds : tie.Need-sub-holds Inv-loop μ-loop
 sub-holds c = search needs
@@ -56,7 +56,7 @@ replayed-spec =
     Inv-loop
     μ-loop
     loop-holds
-    line-end-requires
+    end-at-requires
     sub-holds
     part-holds-start
     part-holds-end

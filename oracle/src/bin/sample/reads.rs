@@ -1,33 +1,25 @@
-//! Writes a fixed sample of reads, for the program that replays it.
-//!
-//! One case a line, single blanks between: `r`, the item kind, the start offset, the
-//! room lent, the result, the six numbers, the text in hex and the bytes that must be
-//! written in hex (`-` where there are none). The answers are the Rust's; refusals 2,
-//! 3, 4 and 14, which it does not have, are document 01's. Other cases that the Rust
-//! cannot answer are left out.
+//! The read call. The answers are the Rust's; refusals 2, 3, 4 and 14, which it does not
+//! have, are document 01's. Other cases that the Rust cannot answer are left out.
 
+use crate::hex;
 use oracle::{
     expected::Text,
     items,
-    parsing::{on_a_deep_stack, ItemKind},
+    parsing::ItemKind,
     random::Random,
-    reading::silence_the_rust,
     reads::{expected, Cause, Expected},
 };
 use std::collections::BTreeSet;
 
-fn main() {
-    silence_the_rust();
-    on_a_deep_stack(|| {
-        let mut sample = Sample::default();
-        each_kind(&mut sample);
-        each_room(&mut sample);
-        wrong_calls(&mut sample);
-        offsets(&mut sample);
-        levels(&mut sample);
-        random_items(&mut sample);
-        print!("{}", sample.lines);
-    })
+pub fn lines() -> String {
+    let mut sample = Sample::default();
+    each_kind(&mut sample);
+    each_room(&mut sample);
+    wrong_calls(&mut sample);
+    offsets(&mut sample);
+    levels(&mut sample);
+    random_items(&mut sample);
+    sample.lines
 }
 
 #[derive(Default)]
@@ -75,13 +67,6 @@ impl Sample {
             self.read(kind as u64, text.as_bytes(), 0);
         }
     }
-}
-
-fn hex(bytes: &[u8]) -> String {
-    if bytes.is_empty() {
-        return "-".to_string();
-    }
-    bytes.iter().map(|byte| format!("{byte:02x}")).collect()
 }
 
 /// Short texts, each read as every kind.

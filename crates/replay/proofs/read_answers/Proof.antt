@@ -1,0 +1,62 @@
+use Prim.Native.Nat.{ℕ, _≤_}
+use mathlib.Core.Path.{_≡_, sym}
+use mathlib.Core.List.{List, _++_}
+use lib.ListN.{length, drop, take, length-append, length-drop}
+use lib.Seq.{length-take-le}
+use native.Mathlib.Omega.{arith}
+use borrow.Author.Needs.{needs}
+use Rattle.replay.proofs.read_answers.Statement.{statement}
+use Rattle.replay.proofs.read_answers.Tie as tie
+
+-- A buffer whose front is written anew with as many bytes has the length that it had.
+patched : (n room : ℕ) (front base : List ℕ) → length front ≡ length (take room base) → room ≤ length base → n ≡ length base → n ≡ length (front ++ drop room base)
+patched n room front base p q r = omega (arith, length-append front (drop room base), length-drop room base, length-take-le room base q, p, q, r)
+
+returns : tie.Need-returns
+returns c = search needs
+
+slice-aggregate-fill : tie.Need-slice-aggregate-fill
+slice-aggregate-fill c = search needs
+
+fill-requires : tie.Need-fill-requires
+fill-requires c κs = search needs
+
+array-borrow-prefix-out : tie.Need-array-borrow-prefix-out
+array-borrow-prefix-out c = search needs
+
+slice-aggregate-movesig-read : tie.Need-slice-aggregate-movesig-read
+slice-aggregate-movesig-read c = sym (length-take-le (c .before .before .before .before .before .before .before .args .room) (c .before .before .fill .last .0) (omega (arith, c .before .before .fill .kept .0, c .before .before .before .before .if1 .left)))
+
+movesig-read-requires : tie.Need-movesig-read-requires
+movesig-read-requires c κs = search needs
+
+as-due-requires : tie.Need-as-due-requires
+as-due-requires c κs = search needs
+
+returns-2 : tie.Need-returns-2
+returns-2 c = search needs
+
+slice-aggregate-as-written : tie.Need-slice-aggregate-as-written
+slice-aggregate-as-written c = patched 2048 (c .before .before .before .before .before .before .before .before .before .before .before .before .before .before .args .room) (c .before .before .before .before .before .movesig-read .last .1 .1 .1 .0) (c .before .before .before .before .before .before .before .before .before .fill .last .0) (c .before .before .before .before .before .movesig-read .kept .1 .1 .1 .0) (omega (arith, c .before .before .before .before .before .before .before .before .before .fill .kept .0, c .before .before .before .before .before .before .before .before .before .before .before .if1 .left)) (omega (arith, c .before .before .before .before .before .before .before .before .before .fill .kept .0))
+
+as-written-requires : tie.Need-as-written-requires
+as-written-requires c κs = search needs
+
+returns-3 : tie.Need-returns-3
+returns-3 c = search needs
+
+pub read-answers-spec : {M : Type 1} → statement M
+read-answers-spec =
+    tie.close
+    (tie.spec
+    returns
+    slice-aggregate-fill
+    fill-requires
+    array-borrow-prefix-out
+    slice-aggregate-movesig-read
+    movesig-read-requires
+    as-due-requires
+    returns-2
+    slice-aggregate-as-written
+    as-written-requires
+    returns-3)

@@ -1,0 +1,49 @@
+//! Writes a fixed sample of the Rust's answers, for the program that replays it.
+//!
+//! One case a line, single blanks between: `t` (token) or `c` (comment), the start
+//! offset, the result, the six numbers and the text; or `r` (read), the item kind, the
+//! start offset, the room lent, the result, the six numbers, the text and the bytes that
+//! must be written. Texts and bytes are in hex (`-` where there are none). Behind them
+//! stand some wrong answers, so that a replay that finds none of them is seen.
+
+mod calls;
+mod reads;
+
+use oracle::{parsing::on_a_deep_stack, reading::silence_the_rust};
+
+fn main() {
+    silence_the_rust();
+    print!("{}", calls::lines());
+    print!("{}", on_a_deep_stack(reads::lines));
+    for line in WRONG_READS.iter().chain(WRONG_CALLS) {
+        println!("{line}");
+    }
+}
+
+fn hex(bytes: &[u8]) -> String {
+    if bytes.is_empty() {
+        return "-".to_string();
+    }
+    bytes.iter().map(|byte| format!("{byte:02x}")).collect()
+}
+
+/// Wrong in a byte of the tree, in the kind and in the end of the token that follows, in
+/// a refusal's second place, and in what is written: a byte of the tree not told, one
+/// told behind it, one told of a refused read.
+const WRONG_READS: &[&str] = &[
+    "r 3 0 16 0 16 0 1 1 0 0 61 10000a00000001000800030000000101",
+    "r 3 0 16 0 16 5 1 1 0 0 61 10000a00000001000800030000000100",
+    "r 3 0 16 0 16 0 1 2 0 0 61 10000a00000001000800030000000100",
+    "r 3 0 80 12 3 3 1 2 0 0 613c62 -",
+    "r 3 0 16 0 16 0 1 1 0 0 61 10000a000000010008000300000001",
+    "r 3 0 17 0 16 0 1 1 0 0 61 10000a0000000100080003000000010000",
+    "r 3 0 80 12 3 3 1 1 0 0 613c62 00",
+];
+
+/// Wrong in the result, in the first and in the last number.
+const WRONG_CALLS: &[&str] = &[
+    "t 0 5 4 0 1 0 0 0 61",
+    "t 0 0 5 0 1 0 0 0 61",
+    "t 0 0 4 0 1 0 0 1 61",
+    "c 0 0 1 0 0 0 0 0 61",
+];
