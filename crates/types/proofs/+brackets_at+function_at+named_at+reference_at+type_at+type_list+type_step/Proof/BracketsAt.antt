@@ -19,7 +19,7 @@ abbrev pub claims : ℕ → lts.Claims
 claims t = (type-step-below t, type-step.Post, close-brackets-reads.Asked, close-brackets-reads.Learnt, type-list-below t, type-list.Post, make-tuple-reads.Asked, make-tuple-reads.Learnt)
 
 pub type-step-requires : (t : ℕ) → lts.Need-type-step-requires (claims t) (brackets-at-at t) brackets-at.Post
-type-step-requires t c κs = (omega (arith, c .before .before .before .pre .0), ((here _ _ (c .before .before .before .pre .1 .0 .0)) .fits, (here _ _ (c .before .before .before .pre .1 .0 .0)) .standing .2, omega arith, omega (arith, c .before .before .before .pre .1 .0 .1, (here _ _ (c .before .before .before .pre .1 .0 .0)) .takes (omega (arith, c .before .before .before .pre .1 .1)))))
+type-step-requires t c κs = let h = here _ _ (c .before .before .before .pre .1 .0 .0) in (omega (arith, c .before .before .before .pre .0), (h .fits, h .standing .2, omega arith, omega (arith, c .before .before .before .pre .1 .0 .1, h .takes (omega (arith, c .before .before .before .pre .1 .1)))))
 
 pub enum-known-s : (t : ℕ) → lts.Need-enum-known-s (claims t) (brackets-at-at t) brackets-at.Post
 enum-known-s t c = search needs
@@ -37,10 +37,10 @@ pub add-type-list : (t : ℕ) → lts.Need-add-type-list (claims t) (brackets-at
 add-type-list t c = omega (arith, type-room _ _ _ (c .before .before .before .before .before .before .before .before .before .before .pre .1 .0))
 
 pub add-type-list-2 : (t : ℕ) → lts.Need-add-type-list-2 (claims t) (brackets-at-at t) brackets-at.Post
-add-type-list-2 t c = omega (arith, type-room _ _ _ (c .before .before .before .before .before .before .before .before .before .before .pre .1 .0), first-small _ _ (c .before .before .before .before .before .before .before .before .before .before .args .a) (here _ _ (c .before .before .before .before .before .before .before .before .before .before .pre .1 .0 .0)) _ _ _ _ _ (step-told _ _ _ _ _ _ (c .before .before .before .before .before .before .type-step .ensures) (c .before .before .s3 .given .1)), first-inside _ _ (c .before .before .before .before .before .before .before .before .before .before .args .a) (here _ _ (c .before .before .before .before .before .before .before .before .before .before .pre .1 .0 .0)) _ _ _ _ _ (step-told _ _ _ _ _ _ (c .before .before .before .before .before .before .type-step .ensures) (c .before .before .s3 .given .1)), (here _ _ (c .before .before .before .before .before .before .before .before .before .before .pre .1 .0 .0)) .fits)
+add-type-list-2 t c = let h = here _ _ (c .before .before .before .before .before .before .before .before .before .before .pre .1 .0 .0) in let g = step-told _ _ _ _ _ _ (c .before .before .before .before .before .before .type-step .ensures) (c .before .before .s3 .given .1) in omega (arith, type-room _ _ _ (c .before .before .before .before .before .before .before .before .before .before .pre .1 .0), first-small _ _ (c .before .before .before .before .before .before .before .before .before .before .args .a) h _ _ _ _ _ g, first-inside _ _ (c .before .before .before .before .before .before .before .before .before .before .args .a) h _ _ _ _ _ g, h .fits)
 
 pub type-list-requires : (t : ℕ) → lts.Need-type-list-requires (claims t) (brackets-at-at t) brackets-at.Post
-type-list-requires t c κs = (omega (arith, c .before .before .before .before .before .before .before .before .before .before .pre .0), ((here _ _ (c .before .before .before .before .before .before .before .before .before .before .pre .1 .0 .0)) .fits, first-inside _ _ (c .before .before .before .before .before .before .before .before .before .before .args .a) (here _ _ (c .before .before .before .before .before .before .before .before .before .before .pre .1 .0 .0)) _ _ _ _ _ (step-told _ _ _ _ _ _ (c .before .before .before .before .before .before .type-step .ensures) (c .before .before .s3 .given .1)), omega arith, omega (arith, c .before .before .before .before .before .before .before .before .before .before .pre .1 .0 .1, (here _ _ (c .before .before .before .before .before .before .before .before .before .before .pre .1 .0 .0)) .takes (omega (arith, c .before .before .before .before .before .before .before .before .before .before .pre .1 .1)), first-small _ _ (c .before .before .before .before .before .before .before .before .before .before .args .a) (here _ _ (c .before .before .before .before .before .before .before .before .before .before .pre .1 .0 .0)) _ _ _ _ _ (step-told _ _ _ _ _ _ (c .before .before .before .before .before .before .type-step .ensures) (c .before .before .s3 .given .1)))))
+type-list-requires t c κs = let h = here _ _ (c .before .before .before .before .before .before .before .before .before .before .pre .1 .0 .0) in let g = step-told _ _ _ _ _ _ (c .before .before .before .before .before .before .type-step .ensures) (c .before .before .s3 .given .1) in (omega (arith, c .before .before .before .before .before .before .before .before .before .before .pre .0), (h .fits, first-inside _ _ (c .before .before .before .before .before .before .before .before .before .before .args .a) h _ _ _ _ _ g, omega arith, omega (arith, c .before .before .before .before .before .before .before .before .before .before .pre .1 .0 .1, h .takes (omega (arith, c .before .before .before .before .before .before .before .before .before .before .pre .1 .1)), first-small _ _ (c .before .before .before .before .before .before .before .before .before .before .args .a) h _ _ _ _ _ g)))
 
 pub enum-known-l : (t : ℕ) → lts.Need-enum-known-l (claims t) (brackets-at-at t) brackets-at.Post
 enum-known-l t c = search needs
@@ -49,7 +49,7 @@ pub enum-known-l-2 : (t : ℕ) → lts.Need-enum-known-l-2 (claims t) (brackets-
 enum-known-l-2 t c = search needs
 
 pub make-tuple-requires : (t : ℕ) → lts.Need-make-tuple-requires (claims t) (brackets-at-at t) brackets-at.Post
-make-tuple-requires t c κs = omega (arith, type-room _ _ _ (c .before .before .before .before .before .before .before .before .before .before .before .before .before .before .before .before .before .pre .1 .0), first-small _ _ (c .before .before .before .before .before .before .before .before .before .before .before .before .before .before .before .before .before .args .a) (here _ _ (c .before .before .before .before .before .before .before .before .before .before .before .before .before .before .before .before .before .pre .1 .0 .0)) _ _ _ _ _ (step-told _ _ _ _ _ _ (c .before .before .before .before .before .before .before .before .before .before .before .before .before .type-step .ensures) (c .before .before .before .before .before .before .before .before .before .s3 .given .1)), first-inside _ _ (c .before .before .before .before .before .before .before .before .before .before .before .before .before .before .before .before .before .args .a) (here _ _ (c .before .before .before .before .before .before .before .before .before .before .before .before .before .before .before .before .before .pre .1 .0 .0)) _ _ _ _ _ (step-told _ _ _ _ _ _ (c .before .before .before .before .before .before .before .before .before .before .before .before .before .type-step .ensures) (c .before .before .before .before .before .before .before .before .before .s3 .given .1)), (here _ _ (c .before .before .before .before .before .before .before .before .before .before .before .before .before .before .before .before .before .pre .1 .0 .0)) .fits, others-small _ _ (c .before .before .before .before .before .before .before .before .before .before .before .before .before .before .before .before .before .args .a) (here _ _ (c .before .before .before .before .before .before .before .before .before .before .before .before .before .before .before .before .before .pre .1 .0 .0)) _ _ _ _ _ (step-told _ _ _ _ _ _ (c .before .before .before .before .before .before .before .before .before .before .before .before .before .type-step .ensures) (c .before .before .before .before .before .before .before .before .before .s3 .given .1)) _ _ (told storedAll _ _ _ _ _ _ (c .before .before .before .before .before .before .type-list .ensures) (c .before .before .l2 .given .1)), others-inside _ _ (c .before .before .before .before .before .before .before .before .before .before .before .before .before .before .before .before .before .args .a) (here _ _ (c .before .before .before .before .before .before .before .before .before .before .before .before .before .before .before .before .before .pre .1 .0 .0)) _ _ _ _ _ (step-told _ _ _ _ _ _ (c .before .before .before .before .before .before .before .before .before .before .before .before .before .type-step .ensures) (c .before .before .before .before .before .before .before .before .before .s3 .given .1)) _ _ (told storedAll _ _ _ _ _ _ (c .before .before .before .before .before .before .type-list .ensures) (c .before .before .l2 .given .1)))
+make-tuple-requires t c κs = let h = here _ _ (c .before .before .before .before .before .before .before .before .before .before .before .before .before .before .before .before .before .pre .1 .0 .0) in let g = step-told _ _ _ _ _ _ (c .before .before .before .before .before .before .before .before .before .before .before .before .before .type-step .ensures) (c .before .before .before .before .before .before .before .before .before .s3 .given .1) in let l = told storedAll _ _ _ _ _ _ (c .before .before .before .before .before .before .type-list .ensures) (c .before .before .l2 .given .1) in omega (arith, type-room _ _ _ (c .before .before .before .before .before .before .before .before .before .before .before .before .before .before .before .before .before .pre .1 .0), first-small _ _ (c .before .before .before .before .before .before .before .before .before .before .before .before .before .before .before .before .before .args .a) h _ _ _ _ _ g, first-inside _ _ (c .before .before .before .before .before .before .before .before .before .before .before .before .before .before .before .before .before .args .a) h _ _ _ _ _ g, h .fits, others-small _ _ (c .before .before .before .before .before .before .before .before .before .before .before .before .before .before .before .before .before .args .a) h _ _ _ _ _ g _ _ l, others-inside _ _ (c .before .before .before .before .before .before .before .before .before .before .before .before .before .before .before .before .before .args .a) h _ _ _ _ _ g _ _ l)
 
 pub same-length : (t : ℕ) → lts.Need-same-length (claims t) (brackets-at-at t) brackets-at.Post
 same-length t c = search needs
@@ -67,10 +67,10 @@ pub same-length-3 : (t : ℕ) → lts.Need-same-length-3 (claims t) (brackets-at
 same-length-3 t c = search needs
 
 pub returns-3 : (t : ℕ) → lts.Need-returns-3 (claims t) (brackets-at-at t) brackets-at.Post
-returns-3 t c = brk-failed _ _ (c .before .before .before .before .before .before .before .before .before .before .before .before .before .before .before .before .args .a) (here _ _ (c .before .before .before .before .before .before .before .before .before .before .before .before .before .before .before .before .pre .1 .0 .0)) _ _ _ _ _ (step-told _ _ _ _ _ _ (c .before .before .before .before .before .before .before .before .before .before .before .before .type-step .ensures) (c .before .before .before .before .before .before .before .before .s3 .given .1)) _ _ (told storedAll _ _ _ _ _ _ (c .before .before .before .before .before .type-list .ensures) (c .before .l .given .1) .0)
+returns-3 t c = let h = here _ _ (c .before .before .before .before .before .before .before .before .before .before .before .before .before .before .before .before .pre .1 .0 .0) in let g = step-told _ _ _ _ _ _ (c .before .before .before .before .before .before .before .before .before .before .before .before .type-step .ensures) (c .before .before .before .before .before .before .before .before .s3 .given .1) in brk-failed _ _ (c .before .before .before .before .before .before .before .before .before .before .before .before .before .before .before .before .args .a) h _ _ _ _ _ g _ _ (told storedAll _ _ _ _ _ _ (c .before .before .before .before .before .type-list .ensures) (c .before .l .given .1) .0)
 
 pub same-length-4 : (t : ℕ) → lts.Need-same-length-4 (claims t) (brackets-at-at t) brackets-at.Post
 same-length-4 t c = search needs
 
 pub returns-4 : (t : ℕ) → lts.Need-returns-4 (claims t) (brackets-at-at t) brackets-at.Post
-returns-4 t c = tuple-told _ _ _ _ _ _ (c .before .before .make-tuple .ensures .0) (brk-tuple _ _ (c .before .before .before .before .before .before .before .before .before .before .before .before .before .before .before .before .before .before .before .before .args .a) (here _ _ (c .before .before .before .before .before .before .before .before .before .before .before .before .before .before .before .before .before .before .before .before .pre .1 .0 .0)) _ _ _ _ _ (step-told _ _ _ _ _ _ (c .before .before .before .before .before .before .before .before .before .before .before .before .before .before .before .before .type-step .ensures) (c .before .before .before .before .before .before .before .before .before .before .before .before .s3 .given .1)) _ _ (told storedAll _ _ _ _ _ _ (c .before .before .before .before .before .before .before .before .before .type-list .ensures) (c .before .before .before .before .before .l2 .given .1)) _ (c .before .before .make-tuple .ensures .1))
+returns-4 t c = let h = here _ _ (c .before .before .before .before .before .before .before .before .before .before .before .before .before .before .before .before .before .before .before .before .pre .1 .0 .0) in let g = step-told _ _ _ _ _ _ (c .before .before .before .before .before .before .before .before .before .before .before .before .before .before .before .before .type-step .ensures) (c .before .before .before .before .before .before .before .before .before .before .before .before .s3 .given .1) in let l = told storedAll _ _ _ _ _ _ (c .before .before .before .before .before .before .before .before .before .type-list .ensures) (c .before .before .before .before .before .l2 .given .1) in tuple-told _ _ _ _ _ _ (c .before .before .make-tuple .ensures .0) (brk-tuple _ _ (c .before .before .before .before .before .before .before .before .before .before .before .before .before .before .before .before .before .before .before .before .args .a) h _ _ _ _ _ g _ _ l _ (c .before .before .make-tuple .ensures .1))
