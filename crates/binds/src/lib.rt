@@ -39,13 +39,6 @@ const PIPE: u8 = 59;
 
 const R_BRACE: u8 = 61;
 
-// The refusal of the token t.
-fn unexpected(t: Token) -> Parsed
-    ensures { λ r. ⌜ r ≡ Rattle.names.specs.Parsed.unexpected t ⌝ }
-{
-    Parsed::Refused(tokens::refuse(10, t.start, t.end))
-}
-
 // Whether a binding that begins with an identifier is a struct, by the kind of the token behind it.
 fn is_struct(kind: u8) -> bool
     ensures { λ r. ⌜ r ≡ isStruct kind ⌝ }
@@ -174,7 +167,7 @@ fn fields_at(text: &[u8], b: Token, left: u8, out: &mut [u8], pos: usize) -> Par
     if b.kind == L_BRACE {
         return item_list(text, b.start, b.end, R_BRACE, true, left, out, pos);
     }
-    unexpected(b)
+    names::unexpected(b)
 }
 
 // The field whose first token is a; its level is tested before its name is read.
@@ -187,7 +180,7 @@ fn field_at(text: &[u8], a: Token, left: u8, out: &mut [u8], pos: usize) -> Pars
         return types::too_deep(a);
     }
     if a.kind != IDENTIFIER {
-        return unexpected(a);
+        return names::unexpected(a);
     }
     let l = tokens::next_token(text, a.end);
     match l {
@@ -328,7 +321,7 @@ pub fn parse_lambda_bind_list(text: &[u8], at: usize, out: &mut [u8]) -> Parsed
                 let f = item_list(text, a.start, a.end, PIPE, false, LEVELS, out, 8);
                 return close_record(26, a.start, 0, f, out, 0);
             }
-            unexpected(a)
+            names::unexpected(a)
         }
     }
 }

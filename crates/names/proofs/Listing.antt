@@ -145,11 +145,11 @@ partIn : Part → Parsed → Part
 partIn d (Read p) = p
 partIn d (Refused r) = d
 
-refusedIn : Refusal → Parsed → Refusal
+unfoldable pub refusedIn : Refusal → Parsed → Refusal
 refusedIn d (Refused r) = r
 refusedIn d (Read p) = d
 
-isRead : Parsed → Bool
+unfoldable pub isRead : Parsed → Bool
 isRead (Read p) = true
 isRead (Refused r) = false
 

@@ -19,7 +19,7 @@ use Rattle.names.specs.declared.Parsed.{Parsed}
 use Rattle.names.specs.declared.Parsed.the-variants.{Read, Refused}
 
 -- an answer of the token call, taken apart
-tokenIn : Token → Lexed → Token
+unfoldable pub tokenIn : Token → Lexed → Token
 tokenIn d (Found t) = t
 tokenIn d (Bad r) = d
 

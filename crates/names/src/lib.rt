@@ -70,8 +70,8 @@ const TRUE: u8 = 55;
 
 const AT_SIGN: u8 = 67;
 
-// The refusal of the token t.
-fn unexpected(t: Token) -> Parsed
+// The refusal of the token t, where another was due.
+pub fn unexpected(t: Token) -> Parsed
     ensures { λ r. ⌜ r ≡ Rattle.names.specs.Parsed.unexpected t ⌝ }
 {
     Parsed::Refused(tokens::refuse(10, t.start, t.end))

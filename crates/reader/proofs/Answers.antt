@@ -1,14 +1,14 @@
 -- What each return of the read call's code gives.
 -- Assumes nothing.
-use mathlib.Core.Path.{_≡_, refl, ap, sym, _∙_}
+use mathlib.Core.Path.{_≡_, refl, ap, sym, _∙_, subst}
 use mathlib.Core.Bool.{Bool, true, false, _||_}
 use mathlib.Core.List.{List, [], _∷_, _++_}
-use Prim.Native.Nat.{ℕ, suc, _<_, _≤_}
+use Prim.Native.Nat.{ℕ, _<_, _≤_}
 use native.Mathlib.Omega.{arith}
 use native.Mathlib.Nat.{not-suc-le-zero, le-of-suc-le-suc}
 use borrow.Author.Tests.{le-leb, lt-leb, leb-true, lt-ltb, le-ltb, eq-eqb, ne-eqb, ltb-false}
 use lib.Dec.{eqb, ltb, leb}
-use lib.ListN.{length, take, drop, set}
+use lib.ListN.{length, take, drop}
 use lib.Seq.{sets, take-append-le, take-all}
 use Rattle.classes.proofs.Bools.{false-true, or-left}
 use Rattle.tokens.specs.Answers.{refusal, places}
@@ -16,11 +16,11 @@ use Rattle.tokens.specs.Token.{Scanned, tok, bad, lex}
 use Rattle.tokens.specs.Calls.{textLimit, admitted, lexed}
 use Rattle.tokens.specs.declared.Refusal.{Refusal}
 use Rattle.tokens.specs.declared.Token.{Token}
-use Rattle.tokens.specs.declared.Lexed.{Lexed}
-use Rattle.tokens.specs.declared.Lexed.the-variants.{Found, Refused as Bad}
+use Rattle.tokens.specs.declared.Lexed.the-variants.{Found}
 use Rattle.tokens.proofs.Again.{admitted-in}
 use Rattle.records.specs.Tree.{Tree}
 use Rattle.records.specs.Stored.{stored}
+use Rattle.records.proofs.Shift.{sets-front}
 use Rattle.names.specs.Reading.{Ans, ok, no, when}
 use Rattle.names.specs.Names.{chain}
 use Rattle.names.specs.Values.{value}
@@ -28,8 +28,8 @@ use Rattle.names.specs.Parsed.{given, follow, kept, put, admittedPart}
 use Rattle.names.specs.declared.Part.{Part}
 use Rattle.names.specs.declared.Parsed.{Parsed}
 use Rattle.names.specs.declared.Parsed.the-variants.{Read, Refused}
-use Rattle.names.proofs.Steps.{Gives, gives-as}
-use Rattle.names.proofs.Listing.{Opened, opened, wrote}
+use Rattle.names.proofs.Steps.{tokenIn, IsFound, Gives, gives-as}
+use Rattle.names.proofs.Listing.{refusedIn, isRead, Opened, opened, wrote}
 use Rattle.types.specs.Types.{levels, readType}
 use Rattle.binds.specs.Binds.{readBindList, readLambdaList}
 use Rattle.reader.specs.declared.Answer.{Answer}
@@ -93,26 +93,10 @@ module _ (kind : ℕ) (text : List ℕ) (at : ℕ) (l : List ℕ) (a : Answer) w
       call-kind b z k e = call-by kind text at l a (refusal 3 0 0) (rw (le-ltb textLimit (length text) h, le-ltb (length text) at g, sym z ∙ k)) e
 
 -- the item by what the readers' code answers
-isFound : Lexed → Bool
-isFound (Found t) = true
-isFound (Bad r) = false
-
-isRead : Parsed → Bool
-isRead (Read p) = true
-isRead (Refused r) = false
-
-tokenIn : Token → Lexed → Token
-tokenIn d (Found t) = t
-tokenIn d (Bad r) = d
-
-refusedIn : Refusal → Parsed → Refusal
-refusedIn d (Refused r) = r
-refusedIn d (Read p) = d
-
 followed-found : (l : Scanned) (t : Tree) (n : Token) → lexed l ≡ Found n → followed t l ≡ item t n
-unfolding lexed followed tokenIn isFound
+unfolding lexed followed tokenIn
 followed-found (tok k s e w r) t n h = ap (item t) (ap (tokenIn n) h)
-followed-found (bad r) t n h = false-true _ (ap isFound h)
+followed-found (bad r) t n h = absurd (subst IsFound (sym h) tt)
 
 finished-read : (a : Ans Tree) (p : Part) (d : Opened stored a p) → finished a ≡ item (d .what) (p .next)
 unfolding finished
@@ -129,14 +113,10 @@ finished-refused (ok t q u) r h = followed-refused (length (stored t)) q (lex q 
 finished-refused (no r₀) r h = ap refused (ap (refusedIn r) (sym h))
 
 -- a run of bytes at the front of a buffer that has room for it
-sets-cons : (xs l : List ℕ) (a : ℕ) (i : ℕ) → sets (a ∷ l) (suc i) xs ≡ a ∷ sets l i xs
-sets-cons [] l a i = refl
-sets-cons (x ∷ xs) l a i = sets-cons xs (set l i x) a (suc i)
-
 sets-whole : (xs l : List ℕ) → length xs ≤ length l → sets l 0 xs ≡ xs ++ drop (length xs) l
 sets-whole [] l h = refl
 sets-whole (x ∷ xs) [] h = absurd (not-suc-le-zero h)
-sets-whole (x ∷ xs) (a ∷ l) h = sets-cons xs l x 0 ∙ ap (λ (y : List ℕ). x ∷ y) (sets-whole xs l (le-of-suc-le-suc h))
+sets-whole (x ∷ xs) (a ∷ l) h = sets-front xs x l 0 ∙ ap (λ (y : List ℕ). x ∷ y) (sets-whole xs l (le-of-suc-le-suc h))
 
 -- where the three refusals do not apply
 module _ (kind : ℕ) (text : List ℕ) (at : ℕ) (h : length text ≤ textLimit) (g : at ≤ length text) (k : (eqb kind 0 || ltb 5 kind) ≡ false) where

@@ -42,7 +42,7 @@ parts-below [] l i k j h = refl
 parts-below (v ∷ vs) l i k j h = parts-below vs (set l j v) i k (suc j) (omega arith) ∙ part-below l i k j v h
 
 -- what a run of stores leaves at its own place
-sets-front : (vs : List ℕ) (a : ℕ) (l : List ℕ) (i : ℕ) → sets (a ∷ l) (suc i) vs ≡ a ∷ sets l i vs
+pub sets-front : (vs : List ℕ) (a : ℕ) (l : List ℕ) (i : ℕ) → sets (a ∷ l) (suc i) vs ≡ a ∷ sets l i vs
 sets-front [] a l i = refl
 sets-front (v ∷ vs) a l i = sets-front vs a (set l i v) (suc i)
 

@@ -16,7 +16,7 @@ use Rattle.binds.proofs.+bind_at+field_at+fields_at+item_at+item_list+i
 use Rattle.binds.proofs.bind_at.Reads as bind-at
 use Rattle.binds.proofs.close_record.Reads as close-record-reads
 use Rattle.binds.proofs.put_short.Reads as put-short-reads
-use Rattle.binds.proofs.unexpected.Reads as unexpected-reads
+use Rattle.names.proofs.unexpected.Reads as unexpected-reads
 use Rattle.binds.proofs.+bind_at+field_at+fields_at+item_at+item_list+item_step_at+unpack_at+variable_at.Proof.Common.{field-at-at, bind-at-below}
 
 abbrev pub claims : ℕ → lts.Claims

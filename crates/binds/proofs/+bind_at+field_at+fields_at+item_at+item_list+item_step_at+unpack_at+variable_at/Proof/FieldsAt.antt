@@ -7,7 +7,7 @@ use Rattle.binds.proofs.Returns.{list-at, fields-other, fields-list}
 use Rattle.binds.proofs.fields_at.Reads as fields-at
 use Rattle.binds.proofs.+bind_at+field_at+fields_at+item_at+item_list+item_step_at+unpack_at+variable_at.Lts-fields_at as lts
 use Rattle.binds.proofs.item_list.Reads as item-list
-use Rattle.binds.proofs.unexpected.Reads as unexpected-reads
+use Rattle.names.proofs.unexpected.Reads as unexpected-reads
 use Rattle.binds.proofs.+bind_at+field_at+fields_at+item_at+item_list+item_step_at+unpack_at+variable_at.Proof.Common.{fields-at-at, item-list-below}
 
 abbrev pub claims : ℕ → lts.Claims
