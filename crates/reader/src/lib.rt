@@ -90,17 +90,16 @@ fn write_item(kind: u64, text: &[u8], at: usize, made: &[u8], n: usize, out: &mu
     read_kind(kind, text, at, out);
 }
 
-// Reads the item of the kind from `at` on into a buffer of its own, and from there into the lent one where
-// the answer is accepted: a refused call writes no byte. Most items are short enough to be read once.
-fn read_admitted(kind: u64, text: &[u8], at: usize, out: &mut [u8]) -> Answer
+// Reads the item of the kind from `at` on into `made`, and writes it into the lent buffer where the answer
+// is accepted: a refused call writes no byte.
+fn read_over(kind: u64, text: &[u8], at: usize, made: &mut [u8], out: &mut [u8]) -> Answer
     requires { ⌜ length (now text) ≤ 65535 ⌝ }
     requires { ⌜ at ≤ length (now text) ⌝ }
     requires { ⌜ (eqb kind 0 || ltb 5 kind) ≡ false ⌝ }
     ensures answer { λ r. ⌜ r ≡ answered (Rattle.reader.specs.Calls.read kind (now (text .entry)) at (length (now (out .entry)))) ⌝ }
     ensures buffer { λ r. ⌜ now (out .exit) ≡ readBuffer kind (now (text .entry)) at (now (out .entry)) ⌝ }
 {
-    let mut made = [0u8; 1024];
-    let d = read_kind(kind, text, at, &mut made);
+    let d = read_kind(kind, text, at, made);
     match d {
         Parsed::Refused(r) => Answer::Refused(r),
         Parsed::Read(p) => {
@@ -108,10 +107,27 @@ fn read_admitted(kind: u64, text: &[u8], at: usize, out: &mut [u8]) -> Answer
             if too_long(out.len(), p.len) {
                 return refused(4);
             }
-            write_item(kind, text, at, &made, p.len, out);
+            write_item(kind, text, at, made, p.len, out);
             Answer::Item(p.len, n)
         }
     }
+}
+
+// Reads the item of the kind from `at` on, over a buffer of its own: most items are short enough to be read
+// once. Short texts may be deeply nested and have longer trees for their bytes.
+fn read_admitted(kind: u64, text: &[u8], at: usize, out: &mut [u8]) -> Answer
+    requires { ⌜ length (now text) ≤ 65535 ⌝ }
+    requires { ⌜ at ≤ length (now text) ⌝ }
+    requires { ⌜ (eqb kind 0 || ltb 5 kind) ≡ false ⌝ }
+    ensures answer { λ r. ⌜ r ≡ answered (Rattle.reader.specs.Calls.read kind (now (text .entry)) at (length (now (out .entry)))) ⌝ }
+    ensures buffer { λ r. ⌜ now (out .exit) ≡ readBuffer kind (now (text .entry)) at (now (out .entry)) ⌝ }
+{
+    if text.len() - at <= 1536 {
+        let mut made = [0u8; 2048];
+        return read_over(kind, text, at, &mut made, out);
+    }
+    let mut made = [0u8; 1024];
+    read_over(kind, text, at, &mut made, out)
 }
 
 // The read call.
