@@ -1,8 +1,10 @@
-//! Measures the port against the Rust: a walk over the tokens of a text, in one
-//! process, on the same texts.
+//! Measures the port against the Rust: a walk over the tokens of a text, reads and
+//! displays, in one process, on the same texts.
 
+mod displays;
 mod items;
 mod reads;
+mod runs;
 #[path = "../../oracle/src/station.rs"]
 mod station;
 mod texts;
@@ -25,12 +27,13 @@ use std::{
 const HELP: &str = "\
 Measures a walk over all tokens of a text, by the Rust lexer and by the port.
 
-usage: bench [--check] [--help]
+usage: bench [--check] [--displays-only] [--help]
 
-  --check  exit status 1 where the port is slower than the Rust on some text, or
-           its time a byte grows by more than a fifth from 1 KB to 60 KB; by the
-           fastest runs, since other work on the machine can only add time
-  --help   these words
+  --check          exit status 1 where the port is slower than the Rust on some text,
+                   or its time a byte grows by more than a fifth from 1 KB to 60 KB; by
+                   the fastest runs, since other work on the machine can only add time
+  --displays-only  no tokens and reads
+  --help           these words
 
 Prints a table in nanoseconds a byte: the median of the runs and, in brackets, the
 fastest. The 1 KB are sixty different texts, so that both read as many bytes.
@@ -38,7 +41,8 @@ fastest. The 1 KB are sixty different texts, so that both read as many bytes.
 Reads of items are measured too: see bench/README.md. --check fails where the port
 is slower than the Rust on types, bindings or nests, where its time a byte grows by
 more than a fifth from 2 KB to 60 KB of flat list, or where 60 brackets round such a
-list cost more than 60 times as much as none.
+list cost more than 60 times as much as none. Displays of the same items are measured
+against reads: --check fails where one takes more than 1.5 times as long.
 ";
 
 const LONG: usize = 60_000;
@@ -52,8 +56,22 @@ const RUN: Duration = Duration::from_millis(20);
 const GROWTH: f64 = 0.2;
 
 fn main() {
-    let check = check_is_asked();
+    let options = options();
     println!("Rust sources (sha256):\n\n```\n{SOURCES}```\n");
+    let mut failed = false;
+    if !options.displays_only {
+        failed |= walks();
+        failed |= reads::measure_all();
+    }
+    failed |= displays::measure_all();
+    if options.check && failed {
+        eprintln!("bench: the port is too slow, or its time a byte grows too much");
+        exit(1);
+    }
+}
+
+/// Walks over tokens; whether the port is too slow somewhere.
+fn walks() -> bool {
     println!("| text | tokens | Rust 60 KB | port 60 KB | port/Rust | port 1 KB | growth |");
     println!("|---|---:|---:|---:|---:|---:|---:|");
     let mut failed = false;
@@ -68,27 +86,32 @@ fn main() {
         println!("| {name} | {tokens} | {} |", row.cells());
         failed |= row.fails();
     }
-    failed |= reads::measure_all();
-    if check && failed {
-        eprintln!("bench: the port is slower than the Rust, or its time a byte grows too much");
-        exit(1);
-    }
+    failed
 }
 
-fn check_is_asked() -> bool {
-    let words: Vec<String> = env::args().skip(1).collect();
-    match words.iter().map(String::as_str).collect::<Vec<_>>()[..] {
-        [] => false,
-        ["--check"] => true,
-        ["--help"] => {
-            print!("{HELP}");
-            exit(0)
-        }
-        _ => {
-            eprintln!("bench: bad usage\n\n{HELP}");
-            exit(2)
+#[derive(Default)]
+struct Options {
+    check: bool,
+    displays_only: bool,
+}
+
+fn options() -> Options {
+    let mut options = Options::default();
+    for word in env::args().skip(1) {
+        match word.as_str() {
+            "--check" => options.check = true,
+            "--displays-only" => options.displays_only = true,
+            "--help" => {
+                print!("{HELP}");
+                exit(0)
+            }
+            _ => {
+                eprintln!("bench: bad usage\n\n{HELP}");
+                exit(2)
+            }
         }
     }
+    options
 }
 
 /// How many tokens the texts have. Stops where the port and the Rust do not agree.

@@ -8,6 +8,13 @@ pub enum Call {
     Comment,
 }
 
+/// The calls that take the kind of an item and a buffer.
+#[derive(Clone, Copy, PartialEq, Eq, Debug)]
+pub enum ItemCall {
+    Read,
+    Display,
+}
+
 /// What a call returns and the six numbers that it writes.
 #[derive(Clone, Copy, PartialEq, Eq, Debug)]
 pub struct Answer {
@@ -51,6 +58,14 @@ impl Answer {
         Answer {
             result: 0,
             numbers: [length as u64, kind, start as u64, end as u64, 0, 0],
+        }
+    }
+
+    /// A display that is accepted: the length of its line.
+    pub fn display(length: usize) -> Answer {
+        Answer {
+            result: 0,
+            numbers: [length as u64, 0, 0, 0, 0, 0],
         }
     }
 

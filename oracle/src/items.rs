@@ -318,7 +318,7 @@ impl Speller<'_> {
 }
 
 /// Whether two bytes that meet belong, or may belong, to one token.
-fn meet(last: u8, next: u8) -> bool {
+pub fn meet(last: u8, next: u8) -> bool {
     let word = |byte: u8| byte.is_ascii_alphanumeric() || byte == b'_';
     match (last, next) {
         (b'|', b'|') | (b'&', b'&') | (b':', b':') | (b'<', b'<') | (b'/', b'/' | b'*') => true,
@@ -493,6 +493,47 @@ pub fn counted(count: usize) -> Vec<Case> {
         (ItemKind::LambdaBindList, "|", "a,", "|"),
     ] {
         cases.push(whole(kind, open.to_string() + &item.repeat(count) + close));
+    }
+    cases
+}
+
+/// Items whose lines have 65,535 bytes or, by up to `around` items or bytes, more or less.
+pub fn with_long_lines(around: usize) -> Vec<Case> {
+    let (types, binds, lambda) = (ItemKind::Type, ItemKind::BindList, ItemKind::LambdaBindList);
+    let list = |count| format!("({})", "a,".repeat(count));
+    // Trees that are too long, and lines that are not.
+    let mut cases = vec![whole(types, list(5_000)), whole(binds, list(10_000))];
+    for step in 0..=2 * around {
+        // An item takes 3 bytes of line: `a, `.
+        let count = 21_845 + step - around;
+        let items = "a,".repeat(count);
+        let fewer = &items[2..];
+        // A field that binds its own name shows it twice.
+        let field = "f".repeat(32_763 + step - around);
+        let name = "a".repeat(65_535 + step - around);
+        for (kind, text) in [
+            (types, list(count)),
+            (types, format!("a<{fewer}>")),
+            (types, format!("|{fewer}|a")),
+            (binds, list(count)),
+            (binds, format!("S<{fewer}>{{}}")),
+            (binds, format!("S{{{field}}}")),
+            (binds, format!("SS{{{field}}}")),
+            (binds, format!("a::S<u8>{{{field}}}")),
+            (lambda, format!("|{items}|")),
+            (lambda, format!("|S{{{field},}}|")),
+            (lambda, format!("|SS{{{field},}}|")),
+            // Leaves that fill the text.
+            (ItemKind::Name, name.clone()),
+            (ItemKind::Value, format!("@{}", &name[1..])),
+            (types, name.clone()),
+            (types, format!("&{}", &name[1..])),
+            (types, format!("| |{}", &name[3..])),
+            (binds, name[2..].to_string()),
+            (lambda, format!("|{}|", &name[2..])),
+        ] {
+            cases.push(whole(kind, text));
+        }
     }
     cases
 }

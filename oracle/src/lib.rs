@@ -12,10 +12,15 @@ pub use shims::{
 };
 
 pub mod answer;
+pub mod builds;
+pub mod displays;
 pub mod expected;
 pub mod items;
+pub mod lent;
 pub mod levels;
+pub mod line;
 pub mod parsing;
+pub mod properties;
 pub mod random;
 pub mod reading;
 pub mod reads;
@@ -23,6 +28,7 @@ pub mod reads;
 mod sha256;
 pub mod texts;
 pub mod tree;
+pub mod variants;
 
 /// The sha256 of each included file, to which the build held it.
 pub const SOURCES: &str = include_str!("../SHA256SUMS");

@@ -9,7 +9,11 @@ use crate::{
     },
     files::THE_FILE,
     location::Loc,
-    parser::{lexer::Lexer, syntax},
+    parser::{
+        ast::{BindList, NameAccessChain, Type, Value},
+        lexer::Lexer,
+        syntax,
+    },
     reading::{caught, refusal_number},
     tree::Tree,
 };
@@ -41,10 +45,22 @@ impl ItemKind {
     }
 }
 
+/// An item as the Rust's own tree.
+#[derive(Clone, PartialEq, Debug)]
+pub enum Item {
+    Name(NameAccessChain),
+    Value(Value),
+    Type(Type),
+    BindList(BindList),
+    LambdaBindList(BindList),
+}
+
 /// What the Rust gave for one item.
 pub struct Parse {
     /// None where the Rust panicked. The room for the tree is not looked at.
     pub answer: Option<Answer>,
+    /// None where the item is refused.
+    pub item: Option<Item>,
     /// The stored tree; empty where the item is refused.
     pub tree: Vec<u8>,
     /// Where the last token that was read starts.
@@ -54,12 +70,13 @@ pub struct Parse {
 /// Reads an item of the text from `base` on, all places raised by `base`.
 pub fn parse(kind: ItemKind, text_from_base: &str, base: usize) -> Parse {
     let mut lexer = Lexer::new(text_from_base, THE_FILE);
-    let mut tree = vec![];
+    let mut item = None;
     let outcome = caught(|| {
         lexer.advance()?;
-        let read = tree_of(kind, &mut lexer, base)?;
-        Ok(read.map(|bytes| tree = bytes).is_some())
+        item = item_of(kind, &mut lexer)?;
+        Ok(item.is_some())
     });
+    let tree = item.as_ref().map_or(vec![], |item| Tree::of(item, base));
     let (start, end) = (base + lexer.start_loc(), base + lexer.end_loc());
     let answer = outcome.map(|given| match given {
         Ok(true) => Answer::read(tree.len(), lexer.peek() as u64, start, end),
@@ -68,21 +85,21 @@ pub fn parse(kind: ItemKind, text_from_base: &str, base: usize) -> Parse {
     });
     Parse {
         answer,
+        item,
         tree,
         reached: start,
     }
 }
 
-/// The stored tree of an item; None where the Rust finds no value.
-fn tree_of(kind: ItemKind, lexer: &mut Lexer, base: usize) -> Result<Option<Vec<u8>>, Diagnostic> {
+/// The item that the lexer stands before; None where the Rust finds no value.
+fn item_of(kind: ItemKind, lexer: &mut Lexer) -> Result<Option<Item>, Diagnostic> {
     Ok(match kind {
-        ItemKind::Name => Some(Tree::of_name(&syntax::read_name(lexer)?, base)),
-        ItemKind::Value => syntax::read_value(lexer)?.map(|value| Tree::of_value(&value, base)),
-        ItemKind::Type => Some(Tree::of_type(&syntax::read_type(lexer)?, base)),
-        ItemKind::BindList => Some(Tree::of_bind_list(&syntax::read_bind_list(lexer)?, base)),
+        ItemKind::Name => Some(Item::Name(syntax::read_name(lexer)?)),
+        ItemKind::Value => syntax::read_value(lexer)?.map(Item::Value),
+        ItemKind::Type => Some(Item::Type(syntax::read_type(lexer)?)),
+        ItemKind::BindList => Some(Item::BindList(syntax::read_bind_list(lexer)?)),
         ItemKind::LambdaBindList => {
-            let list = syntax::read_lambda_bind_list(lexer)?;
-            Some(Tree::of_lambda_bind_list(&list, base))
+            Some(Item::LambdaBindList(syntax::read_lambda_bind_list(lexer)?))
         }
     })
 }

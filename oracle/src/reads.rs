@@ -1,19 +1,19 @@
 //! What a read must answer and leave in the buffer: the Rust's tree or refusal or,
 //! where docs/DIFFERENCES.md lists that document 01 departs from it, the answer of
-//! document 01.
+//! document 01. What a display must is told in the same form (displays.rs).
 
 use crate::{
     answer::Answer,
     expected::{self, Text, LONGEST},
     levels::strike,
-    parsing::{parse, ItemKind, Parse},
+    parsing::{parse, Item, ItemKind, Parse},
     reading::{Outcome, Reading},
 };
 
-/// The longest tree that is not refused.
-pub const LONGEST_TREE: usize = 65_535;
+/// The longest tree or line that is not refused.
+pub const LONGEST_WRITTEN: usize = 65_535;
 
-/// Why document 01, and not the Rust, decides a read.
+/// Why document 01, and not the Rust, decides a read or a display.
 #[derive(Clone, Copy, PartialEq, Eq, Debug)]
 pub enum Cause {
     TextTooLong,
@@ -23,7 +23,7 @@ pub enum Cause {
     HighByteInString,
     LastCarriageReturn,
     TooManyLevels,
-    TreeTooLong,
+    WrittenTooLong,
     RoomTooSmall,
 }
 
@@ -36,7 +36,7 @@ impl Cause {
         Cause::HighByteInString,
         Cause::LastCarriageReturn,
         Cause::TooManyLevels,
-        Cause::TreeTooLong,
+        Cause::WrittenTooLong,
         Cause::RoomTooSmall,
     ];
 
@@ -49,19 +49,21 @@ impl Cause {
             Cause::HighByteInString => expected::Cause::HighByteInString.words(),
             Cause::LastCarriageReturn => expected::Cause::LastCarriageReturn.words(),
             Cause::TooManyLevels => "more than 64 levels (here refusal 14)",
-            Cause::TreeTooLong => "tree over 65,535 bytes (here refusal 4)",
-            Cause::RoomTooSmall => "tree longer than the room lent (here refusal 4)",
+            Cause::WrittenTooLong => "tree or line over 65,535 bytes (here refusal 4)",
+            Cause::RoomTooSmall => "tree or line longer than the room lent (here refusal 4)",
         }
     }
 }
 
-/// What must come of a read.
-#[derive(Clone, PartialEq, Eq, Debug)]
+/// What must come of a read or a display.
+#[derive(Clone, PartialEq, Debug)]
 pub struct Expected {
     /// None where the Rust panicked and no listed difference explains it.
     pub answer: Option<Answer>,
-    /// The bytes that the buffer must start with; all others stay.
-    pub tree: Vec<u8>,
+    /// The tree or line that the buffer must start with; all other bytes stay.
+    pub written: Vec<u8>,
+    /// The Rust's own tree of what is accepted.
+    pub item: Option<Item>,
     pub cause: Option<Cause>,
 }
 
@@ -83,7 +85,7 @@ pub fn expected(kind: u64, text: &Text, at: usize) -> Expected {
 #[derive(Clone, Copy, PartialEq, Eq, Debug)]
 pub struct Lent<'e> {
     pub answer: Option<Answer>,
-    pub tree: &'e [u8],
+    pub written: &'e [u8],
     pub cause: Option<Cause>,
 }
 
@@ -92,22 +94,22 @@ impl Expected {
         match self.limit(room) {
             Some(cause) => Lent {
                 answer: Some(Answer::refused(4, 0, 0)),
-                tree: &[],
+                written: &[],
                 cause: Some(cause),
             },
             None => Lent {
                 answer: self.answer,
-                tree: &self.tree,
+                written: &self.written,
                 cause: self.cause,
             },
         }
     }
 
-    /// Why the tree is too long, if it is.
+    /// Why the tree or line is too long, if it is.
     fn limit(&self, room: usize) -> Option<Cause> {
-        if self.tree.len() > LONGEST_TREE {
-            Some(Cause::TreeTooLong)
-        } else if self.tree.len() > room {
+        if self.written.len() > LONGEST_WRITTEN {
+            Some(Cause::WrittenTooLong)
+        } else if self.written.len() > room {
             Some(Cause::RoomTooSmall)
         } else {
             None
@@ -118,7 +120,8 @@ impl Expected {
 fn by_document_01(cause: Cause, answer: Answer) -> Expected {
     Expected {
         answer: Some(answer),
-        tree: vec![],
+        written: vec![],
+        item: None,
         cause: Some(cause),
     }
 }
@@ -157,7 +160,8 @@ fn of_the_rust(parse: Parse, text: &Text) -> Expected {
     }
     Expected {
         answer: parse.answer,
-        tree: parse.tree,
+        written: parse.tree,
+        item: parse.item,
         cause: None,
     }
 }
@@ -247,7 +251,7 @@ mod tests {
     fn accepted(kind: u64, text: &str, records: &[[u16; 3]], next: [u64; 3]) {
         let given = read(kind, text);
         let words: Vec<u16> = given
-            .tree
+            .written
             .chunks(2)
             .map(|pair| u16::from_le_bytes([pair[0], pair[1]]))
             .collect();
@@ -262,7 +266,7 @@ mod tests {
     #[test]
     fn the_examples_of_document_01() {
         let tree = [16, 0, 10, 0, 0, 0, 2, 0, 8, 0, 3, 0, 0, 0, 2, 0];
-        assert_eq!(read(TYPE, "u8").tree, tree);
+        assert_eq!(read(TYPE, "u8").written, tree);
         refused_at_two(TYPE, "(u8", 12, (3, 3), (0, 0));
         refused_at_two(NAME, "0x1", 10, (3, 3), (0, 3));
         refused_at_two(TYPE, "a<u8>=", 12, (4, 4), (1, 1));
@@ -374,15 +378,15 @@ mod tests {
         assert_eq!(read(0, "$").answer, Some(Answer::refused(3, 0, 0)));
         let list = |count| format!("({})", "a,".repeat(count));
         let longest = read(BINDS, &list(8_190));
-        assert_eq!(longest.within(65_528).tree.len(), 65_528);
+        assert_eq!(longest.within(65_528).written.len(), 65_528);
         let refused = (Some(Answer::refused(4, 0, 0)), &[][..]);
         let small = longest.within(65_527);
-        assert_eq!((small.answer, small.tree), refused);
+        assert_eq!((small.answer, small.written), refused);
         assert_eq!(small.cause, Some(Cause::RoomTooSmall));
         let too_long = read(BINDS, &list(8_191));
         let long = too_long.within(1 << 20);
-        assert_eq!((long.answer, long.tree), refused);
-        assert_eq!(long.cause, Some(Cause::TreeTooLong));
+        assert_eq!((long.answer, long.written), refused);
+        assert_eq!(long.cause, Some(Cause::WrittenTooLong));
     }
 
     #[test]

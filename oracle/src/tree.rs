@@ -6,6 +6,7 @@ use crate::{
         Bind, BindList, Bind_, Field, LeadingNameAccess, LeadingNameAccess_, NameAccessChain,
         NameAccessChain_, Type, Type_, Value, Value_,
     },
+    parsing::Item,
     shared::{Identifier, Name},
 };
 
@@ -22,32 +23,18 @@ fn span(loc: Loc) -> Span {
 }
 
 impl Tree {
-    pub fn of_name(chain: &NameAccessChain, base: usize) -> Vec<u8> {
-        Tree::made(base, |tree| tree.chain(chain))
-    }
-
-    pub fn of_value(value: &Value, base: usize) -> Vec<u8> {
-        Tree::made(base, |tree| tree.value(value))
-    }
-
-    pub fn of_type(given: &Type, base: usize) -> Vec<u8> {
-        Tree::made(base, |tree| tree.type_(given))
-    }
-
-    pub fn of_bind_list(list: &BindList, base: usize) -> Vec<u8> {
-        Tree::made(base, |tree| tree.list(25, list))
-    }
-
-    pub fn of_lambda_bind_list(list: &BindList, base: usize) -> Vec<u8> {
-        Tree::made(base, |tree| tree.list(26, list))
-    }
-
-    fn made(base: usize, fill: impl FnOnce(&mut Tree)) -> Vec<u8> {
+    pub fn of(item: &Item, base: usize) -> Vec<u8> {
         let mut tree = Tree {
             base,
             bytes: vec![],
         };
-        fill(&mut tree);
+        match item {
+            Item::Name(chain) => tree.chain(chain),
+            Item::Value(value) => tree.value(value),
+            Item::Type(given) => tree.type_(given),
+            Item::BindList(list) => tree.list(25, list),
+            Item::LambdaBindList(list) => tree.list(26, list),
+        }
         tree.bytes
     }
 

@@ -40,7 +40,7 @@ const PIPE: u8 = 59;
 const R_BRACE: u8 = 61;
 
 // Whether a binding that begins with an identifier is a struct, by the kind of the token behind it.
-fn is_struct(kind: u8) -> bool
+pub fn is_struct(kind: u8) -> bool
     ensures { λ r. ⌜ r ≡ isStruct kind ⌝ }
 {
     if kind == L_BRACE {

@@ -36,7 +36,7 @@ unfolding then
 then-every Q P (ok x q u) f h g = g x q u h
 then-every Q P (no r) f h g = tt
 
-closed-every : {B : Type 0} (P : B → Type 0) (x : Close) (f : ℕ → List ℕ → Ans B) (g : Unit {0} → Ans B) → ((q : ℕ) (u : List ℕ) → Every P (f q u)) → Every P (g tt) → Every P (closed x f g)
+pub closed-every : {B : Type 0} (P : B → Type 0) (x : Close) (f : ℕ → List ℕ → Ans B) (g : Unit {0} → Ans B) → ((q : ℕ) (u : List ℕ) → Every P (f q u)) → Every P (g tt) → Every P (closed x f g)
 unfolding closed
 closed-every P (closes q u) f g h i = h q u
 closed-every P stays f g h i = i

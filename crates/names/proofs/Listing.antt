@@ -280,7 +280,7 @@ module _ (text : List ℕ) (fits : length text ≤ textLimit) (item : Scanned �
     pub on : On text at q u
     pub small : length (passedBytes x) + 24 * at ≤ 24 * q
 
-  abbrev SureStep : ℕ → Ans Passed → Type 0
+  abbrev pub SureStep : ℕ → Ans Passed → Type 0
   SureStep at (ok x q u) = Stepped at x q u
   SureStep at (no r) = Unit {0}
 
@@ -361,7 +361,7 @@ module _ (text : List ℕ) (fits : length text ≤ textLimit) (item : Scanned �
     after-read s h = rw (found-token text fits (p .end) (d .on .inside) (p .next) f .0, h) (after-by (closesList close (p .next .kind)) (eqb (p .next .kind) commaTok) refl refl)
 
   -- the step by what the token before an item says
-  turned : ℕ → Turn → Ans Passed → Ans Passed
+  unfoldable pub turned : ℕ → Turn → Ans Passed → Ans Passed
   turned at (Closes q) x = ok empty q (drop q text)
   turned at (Wrong r) x = no r
   turned at Goes x = x
@@ -381,7 +381,7 @@ module _ (text : List ℕ) (fits : length text ≤ textLimit) (item : Scanned �
       by-turn false true e g = closed-no text fits at i a f close _ _ e ∙ rw g
       by-turn false false e g = closed-no text fits at i a f close _ _ e ∙ rw g
 
-      step-turn : step at ≡ turned at (beforeItem close a) (then (item (scanned text a)) λ t q u. stepAfter close o t q u)
+      pub step-turn : step at ≡ turned at (beforeItem close a) (then (item (scanned text a)) λ t q u. stepAfter close o t q u)
       unfolding listStep look beforeItem
       step-turn = rw (found-token text fits at i a f .0) (by-turn (closesList close (a .kind)) (eqb (a .kind) commaTok) refl refl)
 

@@ -116,11 +116,12 @@ module _ (one : Scanned → Ans Tree) (bads : (r : Refusal) → one (bad r) ≡ 
   by-limits false true l r h = ap no h
   by-limits false false l r h = by-scanned l r h
 
-  pub part-refused : (r : Refusal) → nextToken text at ≡ Bad r → (pos : ℕ) (l m : List ℕ) → Gives stored (admittedPart one text at) pos l m (Refused r)
+  pub part-no : (r : Refusal) → nextToken text at ≡ Bad r → admittedPart one text at ≡ no r
   unfolding nextToken admitted admittedPart
-  part-refused r e pos l m =
-      gives-no stored (admittedPart one text at) pos l m r (Refused r) refl
-      (by-limits (ltb textLimit (length text)) (ltb (length text) at) (lex at (drop at text)) r (subst (RefusedWith r) (sym e) refl))
+  part-no r e = by-limits (ltb textLimit (length text)) (ltb (length text) at) (lex at (drop at text)) r (subst (RefusedWith r) (sym e) refl)
+
+  pub part-refused : (r : Refusal) → nextToken text at ≡ Bad r → (pos : ℕ) (l m : List ℕ) → Gives stored (admittedPart one text at) pos l m (Refused r)
+  part-refused r e pos l m = gives-no stored (admittedPart one text at) pos l m r (Refused r) refl (part-no r e)
 
 -- a token that is found is one of the text
 module _ (text : List ℕ) (at : ℕ) (t : Token) where
@@ -130,11 +131,12 @@ module _ (text : List ℕ) (at : ℕ) (t : Token) where
   pub found-takes : nextToken text at ≡ Found t → 0 < t .kind → t .start < t .end
   found-takes h = let f = found-fits text at t h in found-token text (f .0) at (f .1) t h .3
 
-  pub part-goes : (one : Scanned → Ans Tree) → nextToken text at ≡ Found t → (pos : ℕ) (l m : List ℕ) (p : Parsed) → Gives stored (one (scanned text t)) pos l m p → Gives stored (admittedPart one text at) pos l m p
+  pub part-as : (one : Scanned → Ans Tree) → nextToken text at ≡ Found t → admittedPart one text at ≡ one (scanned text t)
   unfolding admittedPart
-  part-goes one h pos l m p g =
-      let f = found-fits text at t h in
-      gives-as stored (admittedPart one text at) (one (scanned text t)) pos l m p (admitted-in no text at (one (lex at (drop at text))) (f .0) (f .1) ∙ ap one (found-token text (f .0) at (f .1) t h .0)) g
+  part-as one h = let f = found-fits text at t h in admitted-in no text at (one (lex at (drop at text))) (f .0) (f .1) ∙ ap one (found-token text (f .0) at (f .1) t h .0)
+
+  pub part-goes : (one : Scanned → Ans Tree) → nextToken text at ≡ Found t → (pos : ℕ) (l m : List ℕ) (p : Parsed) → Gives stored (one (scanned text t)) pos l m p → Gives stored (admittedPart one text at) pos l m p
+  part-goes one h pos l m p g = gives-as stored (admittedPart one text at) (one (scanned text t)) pos l m p (part-as one h) g
 
 -- the refusal of a name's first token
 pub chain-bads : (r : Refusal) → chain (bad r) ≡ no r

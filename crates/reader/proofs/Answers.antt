@@ -77,23 +77,35 @@ call-by : (kind : ℕ) (text : List ℕ) (at : ℕ) (l : List ℕ) (a : Answer) 
 unfolding read readBuffer roomed written answered
 call-by kind text at l a r e f = rw (e, f) (refl, refl)
 
+-- the refusals of the caller
+module _ (kind : ℕ) (text : List ℕ) (at : ℕ) where
+  pub item-text : textLimit < length text → readItem kind text at ≡ refused (refusal 1 0 0)
+  unfolding readItem when
+  item-text h = rw (lt-ltb textLimit (length text) h)
+
+  module _ (h : length text ≤ textLimit) where
+    pub item-offset : length text < at → readItem kind text at ≡ refused (refusal 2 0 0)
+    unfolding readItem when
+    item-offset g = rw (le-ltb textLimit (length text) h, lt-ltb (length text) at g)
+
+    pub item-kind : at ≤ length text → (b : Bool) → b ≡ (eqb kind 0 || ltb 5 kind) → b ≡ true → readItem kind text at ≡ refused (refusal 3 0 0)
+    unfolding readItem when
+    item-kind g b z k = rw (le-ltb textLimit (length text) h, le-ltb (length text) at g, sym z ∙ k)
+
 module _ (kind : ℕ) (text : List ℕ) (at : ℕ) (l : List ℕ) (a : Answer) where
   pub call-text : textLimit < length text → a ≡ Rejected (refusal 1 0 0) → Call kind text at l l a
-  unfolding readItem when
-  call-text h e = call-by kind text at l a (refusal 1 0 0) (rw (lt-ltb textLimit (length text) h)) e
+  call-text h e = call-by kind text at l a (refusal 1 0 0) (item-text kind text at h) e
 
   module _ (h : length text ≤ textLimit) where
     pub call-offset : length text < at → a ≡ Rejected (refusal 2 0 0) → Call kind text at l l a
-    unfolding readItem when
-    call-offset g e = call-by kind text at l a (refusal 2 0 0) (rw (le-ltb textLimit (length text) h, lt-ltb (length text) at g)) e
+    call-offset g e = call-by kind text at l a (refusal 2 0 0) (item-offset kind text at h g) e
 
     module _ (g : at ≤ length text) where
       pub call-kind : (b : Bool) → b ≡ (eqb kind 0 || ltb 5 kind) → b ≡ true → a ≡ Rejected (refusal 3 0 0) → Call kind text at l l a
-      unfolding readItem when
-      call-kind b z k e = call-by kind text at l a (refusal 3 0 0) (rw (le-ltb textLimit (length text) h, le-ltb (length text) at g, sym z ∙ k)) e
+      call-kind b z k e = call-by kind text at l a (refusal 3 0 0) (item-kind kind text at h g b z k) e
 
 -- the item by what the readers' code answers
-followed-found : (l : Scanned) (t : Tree) (n : Token) → lexed l ≡ Found n → followed t l ≡ item t n
+pub followed-found : (l : Scanned) (t : Tree) (n : Token) → lexed l ≡ Found n → followed t l ≡ item t n
 unfolding lexed followed tokenIn
 followed-found (tok k s e w r) t n h = ap (item t) (ap (tokenIn n) h)
 followed-found (bad r) t n h = absurd (subst IsFound (sym h) tt)
@@ -113,7 +125,7 @@ finished-refused (ok t q u) r h = followed-refused (length (stored t)) q (lex q 
 finished-refused (no r₀) r h = ap refused (ap (refusedIn r) (sym h))
 
 -- a run of bytes at the front of a buffer that has room for it
-sets-whole : (xs l : List ℕ) → length xs ≤ length l → sets l 0 xs ≡ xs ++ drop (length xs) l
+pub sets-whole : (xs l : List ℕ) → length xs ≤ length l → sets l 0 xs ≡ xs ++ drop (length xs) l
 sets-whole [] l h = refl
 sets-whole (x ∷ xs) [] h = absurd (not-suc-le-zero h)
 sets-whole (x ∷ xs) (a ∷ l) h = sets-front xs x l 0 ∙ ap (λ (y : List ℕ). x ∷ y) (sets-whole xs l (le-of-suc-le-suc h))
@@ -123,7 +135,7 @@ module _ (kind : ℕ) (text : List ℕ) (at : ℕ) (h : length text ≤ textLimi
   abbrev found : Ans Tree
   found = admittedPart (readKind kind) text at
 
-  goes : readItem kind text at ≡ finished found
+  pub goes : readItem kind text at ≡ finished found
   unfolding readItem when admittedPart
   goes = rw (le-ltb textLimit (length text) h, le-ltb (length text) at g, k) (ap finished (sym (admitted-in no text at (readKind kind (lex at (drop at text))) h g)))
 
@@ -178,7 +190,7 @@ refused-numbers (item x u) r e = false-true _ (ap isItem e)
 refused-numbers (refused q) r e = (ap (λ (x : Refusal). x .number) (ap (rejectedIn r) e), ap places (ap (rejectedIn r) e))
 
 -- what was read into a buffer of its own
-made-in : (xs z made : List ℕ) (n : ℕ) → made ≡ sets z 0 xs → n ≡ length xs → length made ≡ length z → n ≤ length made → take n made ≡ xs
+pub made-in : (xs z made : List ℕ) (n : ℕ) → made ≡ sets z 0 xs → n ≡ length xs → length made ≡ length z → n ≤ length made → take n made ≡ xs
 made-in xs z made n w e f h =
     rw (w, e, sets-whole xs z (omega arith)) (take-append-le (length xs) xs (drop (length xs) z) (omega arith) ∙ take-all (length xs) xs (omega arith))
 

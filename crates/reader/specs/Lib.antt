@@ -1,4 +1,3 @@
 pub mod Items
 pub mod Calls
 pub mod Raise
-pub mod Examples

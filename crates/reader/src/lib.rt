@@ -52,7 +52,7 @@ fn read_kind(kind: u64, text: &[u8], at: usize, out: &mut [u8]) -> Parsed
 }
 
 // Whether the number is no kind of item.
-fn no_kind(kind: u64) -> bool
+pub fn no_kind(kind: u64) -> bool
     ensures { λ r. ⌜ r ≡ (eqb kind 0 || ltb 5 kind) ⌝ }
 {
     if kind == 0 {
@@ -62,7 +62,7 @@ fn no_kind(kind: u64) -> bool
 }
 
 // Whether an answer of n bytes is too long for the room or the limit.
-fn too_long(room: usize, n: usize) -> bool
+pub fn too_long(room: usize, n: usize) -> bool
     ensures { λ r. ⌜ r ≡ (ltb room n || ltb 65535 n) ⌝ }
 {
     if room < n {

@@ -57,24 +57,24 @@ take-sets [] (a ∷ l) = refl
 take-sets (v ∷ vs) [] = rw (sets-out vs [] 1 (omega arith))
 take-sets (v ∷ vs) (a ∷ l) = rw (sets-front vs v l 0) (ap (_∷_ v) (take-sets vs l))
 
--- the n bytes at pos, moved up by 8
-abbrev pub moved : List ℕ → ℕ → ℕ → List ℕ
-moved l pos n = sets l (pos + 8) (take n (drop pos l))
+-- the n bytes at pos, moved up by `by`
+abbrev pub moved : ℕ → List ℕ → ℕ → ℕ → List ℕ
+moved by l pos n = sets l (pos + by) (take n (drop pos l))
 
 -- the last of them first
-last-moved : (l : List ℕ) (pos j : ℕ) → pos + j < length l → moved (set l (pos + j + 8) (getD l (pos + j) 0)) pos j ≡ moved l pos (suc j)
-last-moved l pos j h =
+last-moved : (by : ℕ) (l : List ℕ) (pos j : ℕ) → pos + j < length l → moved by (set l (pos + j + by) (getD l (pos + j) 0)) pos j ≡ moved by l pos (suc j)
+last-moved by l pos j h =
     let d = length-drop pos l in
     let xs : List ℕ = take j (drop pos l) in
     let v : ℕ = getD l (pos + j) 0 in
     let n : length xs ≡ j = length-take-le j (drop pos l) (omega arith) in
-    let q : pos + 8 + j ≡ pos + j + 8 = omega arith in
+    let q : pos + by + j ≡ pos + j + by = omega arith in
     let e : take (suc j) (drop pos l) ≡ xs ++ (v ∷ []) = take-suc (drop pos l) j 0 (omega arith) ∙ rw (getD-drop pos l j 0) in
-    rw (part-below l pos j (pos + j + 8) v (omega arith), e, sets-append xs (v ∷ []) l (pos + 8), n, q) (sets-below xs (v ∷ []) l (pos + 8) (pos + j + 8) (omega arith))
+    rw (part-below l pos j (pos + j + by) v (omega arith), e, sets-append xs (v ∷ []) l (pos + by), n, q) (sets-below xs (v ∷ []) l (pos + by) (pos + j + by) (omega arith))
 
 -- a turn of the loop, which has k bytes left to move
-pub move-last : (l : List ℕ) (pos k : ℕ) → 0 < k → pos + k ≤ length l → moved (set l (pos + (k - 1) + 8) (getD l (pos + (k - 1)) 0)) pos (k - 1) ≡ moved l pos k
-move-last l pos k g h = let e : suc (k - 1) ≡ k = omega arith in last-moved l pos (k - 1) (omega arith) ∙ rw e
+pub move-last : (by : ℕ) (l : List ℕ) (pos k : ℕ) → 0 < k → pos + k ≤ length l → moved by (set l (pos + (k - 1) + by) (getD l (pos + (k - 1)) 0)) pos (k - 1) ≡ moved by l pos k
+move-last by l pos k g h = let e : suc (k - 1) ≡ k = omega arith in last-moved by l pos (k - 1) (omega arith) ∙ rw e
 
 take-min : (m n : ℕ) (xs : List ℕ) → take m (take n xs) ≡ take (min n m) xs
 take-min zero n xs = rw (min-zero n)
@@ -83,24 +83,24 @@ take-min (suc m) (suc n) [] = rw (suc-min-suc n m)
 take-min (suc m) (suc n) (x ∷ xs) = rw (suc-min-suc n m) (ap (_∷_ x) (take-min m n xs))
 
 -- the bytes that have no room further up count for nothing
-move-room : (l : List ℕ) (pos n : ℕ) → moved l pos (min n (length l - pos - 8)) ≡ moved l pos n
-move-room l pos n = rw (← take-min (length l - pos - 8) n (drop pos l)) (sets-cut (take n (drop pos l)) l (pos + 8) (length l - pos - 8) (omega arith))
+move-room : (by : ℕ) (l : List ℕ) (pos n : ℕ) → moved by l pos (min n (length l - pos - by)) ≡ moved by l pos n
+move-room by l pos n = rw (← take-min (length l - pos - by) n (drop pos l)) (sets-cut (take n (drop pos l)) l (pos + by) (length l - pos - by) (omega arith))
 
 -- the loop's end, where none of the r bytes that have room is left to move
-pub move-done : (l m : List ℕ) (pos n k r : ℕ) → r ≡ min n (length l - pos - 8) → k ≡ 0 → moved m pos k ≡ moved l pos r → m ≡ moved l pos n
-move-done l m pos n k r e f h = (rw f at h) ∙ rw e (move-room l pos n)
+pub move-done : (by : ℕ) (l m : List ℕ) (pos n k r : ℕ) → r ≡ min n (length l - pos - by) → k ≡ 0 → moved by m pos k ≡ moved by l pos r → m ≡ moved by l pos n
+move-done by l m pos n k r e f h = (rw f at h) ∙ rw e (move-room by l pos n)
 
 -- a record's children written where its head is to stand, the first xs, and moved up behind the head
-pub shifted-pieces : (l m n o p xs ys hs : List ℕ) (i : ℕ) → length hs ≡ 8 → m ≡ sets l i xs → n ≡ sets m (i + 8 + length xs) ys
-    → o ≡ sets n (i + 8) (take (length xs) (drop i n)) → p ≡ sets o i hs → p ≡ sets l i (hs ++ (xs ++ ys))
-shifted-pieces l m n o p xs ys hs i z em en eo ep =
+pub shifted-pieces : (by : ℕ) (l m n o p xs ys hs : List ℕ) (i : ℕ) → length hs ≡ by → m ≡ sets l i xs → n ≡ sets m (i + by + length xs) ys
+    → o ≡ sets n (i + by) (take (length xs) (drop i n)) → p ≡ sets o i hs → p ≡ sets l i (hs ++ (xs ++ ys))
+shifted-pieces by l m n o p xs ys hs i z em en eo ep =
     let a : length m ≡ length l = ap length em ∙ length-sets l i xs in
-    let b : length n ≡ length l = ap length en ∙ length-sets m (i + 8 + length xs) ys ∙ a in
-    let c : take (length xs) (drop i n) ≡ take (length l - i) xs = rw (en, parts-below ys m i (length xs) (i + 8 + length xs) (omega arith), em, drop-sets i xs l, take-sets xs (drop i l), length-drop i l) in
-    let d : o ≡ sets n (i + 8) xs = eo ∙ rw c (sets-cut xs n (i + 8) (length l - i) (omega arith)) in
-    let e : length (hs ++ xs) ≡ 8 + length xs = omega (arith, length-append hs xs) in
-    let j : i + length hs ≡ i + 8 = omega arith in
-    let k : i + length (hs ++ xs) ≡ i + 8 + length xs = omega arith in
-    let f : p ≡ sets n i (hs ++ xs) = rw (ep, d, sets-append hs xs n i, j) (sets-below hs xs n i (i + 8) (omega arith)) in
-    let g : p ≡ sets (sets m i (hs ++ xs)) (i + 8 + length xs) ys = f ∙ rw en (sets-below (hs ++ xs) ys m i (i + 8 + length xs) (omega arith)) in
+    let b : length n ≡ length l = ap length en ∙ length-sets m (i + by + length xs) ys ∙ a in
+    let c : take (length xs) (drop i n) ≡ take (length l - i) xs = rw (en, parts-below ys m i (length xs) (i + by + length xs) (omega arith), em, drop-sets i xs l, take-sets xs (drop i l), length-drop i l) in
+    let d : o ≡ sets n (i + by) xs = eo ∙ rw c (sets-cut xs n (i + by) (length l - i) (omega arith)) in
+    let e : length (hs ++ xs) ≡ by + length xs = omega (arith, length-append hs xs) in
+    let j : i + length hs ≡ i + by = omega arith in
+    let k : i + length (hs ++ xs) ≡ i + by + length xs = omega arith in
+    let f : p ≡ sets n i (hs ++ xs) = rw (ep, d, sets-append hs xs n i, j) (sets-below hs xs n i (i + by) (omega arith)) in
+    let g : p ≡ sets (sets m i (hs ++ xs)) (i + by + length xs) ys = f ∙ rw en (sets-below (hs ++ xs) ys m i (i + by + length xs) (omega arith)) in
     g ∙ rw (em, sets-over xs (hs ++ xs) l i (omega arith), ← append-assoc hs xs ys, sets-append (hs ++ xs) ys l i, k)

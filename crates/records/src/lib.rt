@@ -36,31 +36,31 @@ pub fn put_header(out: &mut [u8], pos: usize, len: usize, kind: usize, start: us
     }
 }
 
-// How many of the n bytes at pos have room 8 bytes further up, in a buffer of len bytes.
-fn room_above(len: usize, pos: usize, n: usize) -> usize
-    ensures { λ r. ⌜ r ≡ min n (len - pos - 8) ⌝ }
+// How many of the n bytes at pos have room `by` bytes further up, in a buffer of len bytes.
+fn room_above(len: usize, pos: usize, n: usize, by: usize) -> usize
+    ensures { λ r. ⌜ r ≡ min n (len - pos - by) ⌝ }
 {
     if len <= pos {
         return 0;
     }
-    if len - pos <= 8 {
+    if len - pos <= by {
         return 0;
     }
-    if len - pos - 8 < n {
-        return len - pos - 8;
+    if len - pos - by < n {
+        return len - pos - by;
     }
     n
 }
 
-// Moves the n bytes at pos up by the 8 bytes of a head: the last byte first, since the two places
-// overlap. Bytes that would go past the end of the buffer are lost.
-pub fn shift_up(out: &mut [u8], pos: usize, n: usize)
-    ensures { λ _. ⌜ now (out .exit) ≡ sets (now (out .entry)) (pos + 8) (take n (drop pos (now (out .entry)))) ⌝ }
+// Moves the n bytes at pos up by `by` bytes: the last byte first, since the two places overlap. Bytes that
+// would go past the end of the buffer are lost.
+pub fn shift_up(out: &mut [u8], pos: usize, n: usize, by: usize)
+    ensures { λ _. ⌜ now (out .exit) ≡ sets (now (out .entry)) (pos + by) (take n (drop pos (now (out .entry)))) ⌝ }
 {
-    let mut left = room_above(out.len(), pos, n);
+    let mut left = room_above(out.len(), pos, n, by);
     while 0 < left {
         left -= 1;
         let i = pos + left;
-        out[i + 8] = out[i];
+        out[i + by] = out[i];
     }
 }

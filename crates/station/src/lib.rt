@@ -5,6 +5,8 @@ ghost use Rattle.tokens.specs.Answers.{places, tokenNumber, tokenValues, commen
 ghost use Rattle.tokens.specs.Calls.{nextToken, nextComment};
 ghost use lib.ListN.{length};
 ghost use Rattle.reader.specs.Calls.{readNumber, readValues, read, readBuffer};
+ghost use Rattle.display.specs.Calls.{displayNumber, displayValues, display, displayBuffer};
+use display::Displayed;
 use reader::Answer;
 use tokens::DocComment;
 use tokens::Lexed;
@@ -93,6 +95,32 @@ pub extern "C" fn movesig_read(
             0
         }
         Answer::Refused(r) => {
+            *answer = refusal_values(r);
+            r.number
+        }
+    }
+}
+
+// Displays the item of the kind from `at` on as one line in the lent buffer.
+#[no_mangle]
+pub extern "C" fn movesig_display(
+    kind: u64,
+    text: &[u8],
+    at: usize,
+    line: &mut [u8],
+    answer: &mut [u64; 6],
+) -> u32
+    ensures number { λ r. ⌜ r ≡ displayNumber (display kind (now (text .entry)) at (length (now (line .entry)))) ⌝ }
+    ensures values { λ r. ⌜ now (answer .exit) ≡ displayValues (display kind (now (text .entry)) at (length (now (line .entry)))) ⌝ }
+    ensures buffer { λ r. ⌜ now (line .exit) ≡ displayBuffer kind (now (text .entry)) at (now (line .entry)) ⌝ }
+{
+    let d = display::display(kind, text, at, line);
+    match d {
+        Displayed::Line(n) => {
+            *answer = [n as u64, 0, 0, 0, 0, 0];
+            0
+        }
+        Displayed::Refused(r) => {
             *answer = refusal_values(r);
             r.number
         }

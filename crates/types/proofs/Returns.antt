@@ -97,7 +97,7 @@ unfolding stored storedAll
 tuple-bytes l m n o i k j s e t ts z y f g w =
     let x : length (stored t ++ storedAll ts) + 8 ≡ k + j + 8 = omega (arith, length-append (stored t) (storedAll ts)) in
     rw x
-    (shifted-pieces l m n (sets n (i + 8) (take (length (stored t)) (drop i n))) o (stored t) (storedAll ts) (header (k + j + 8) tupleKind s e) i (header-long (k + j + 8) tupleKind s e) f
+    (shifted-pieces 8 l m n (sets n (i + 8) (take (length (stored t)) (drop i n))) o (stored t) (storedAll ts) (header (k + j + 8) tupleKind s e) i (header-long (k + j + 8) tupleKind s e) f
     (g ∙ ap (λ (v : ℕ). sets m (i + 8 + v) (storedAll ts)) z) refl (w ∙ ap (λ (v : ℕ). sets (sets n (i + 8) (take v (drop i n))) i (header (k + j + 8) tupleKind s e)) z))
 
 -- a position leaves room for a head

@@ -71,7 +71,7 @@ fn make_tuple(o: usize, n: usize, p: Part, out: &mut [u8], pos: usize) -> Part
             next: t,
         };
     }
-    records::shift_up(out, pos, n);
+    records::shift_up(out, pos, n, 8);
     records::put_header(out, pos, n + p.len + 8, 15, o, p.end);
     Part {
         len: n + p.len + 8,

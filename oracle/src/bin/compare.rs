@@ -1,12 +1,19 @@
 //! Compares the port with the Rust, answer by answer.
 
+#[path = "../display_comparison.rs"]
+mod display_comparison;
+#[path = "../item_sets.rs"]
+mod item_sets;
 #[path = "../read_comparison.rs"]
 mod read_comparison;
 #[path = "../station.rs"]
 mod station;
+#[path = "../station_items.rs"]
+mod station_items;
 
+use item_sets::Size;
 use oracle::{
-    answer::{Answer, Call},
+    answer::{Answer, Call, ItemCall},
     expected::{self, Cause, Expected, Text},
     random::Random,
     reading::{silence_the_rust, Reading},
@@ -16,14 +23,15 @@ use std::{env, process::exit, time::Instant};
 
 const HELP: &str = "\
 Compares the port's answers with those of the Rust lexer and parser: tokens,
-comments, and reads with the bytes that they write.
+comments, reads with the bytes that they write, and displays with their lines.
 
-usage: compare [--quick] [--seed N] [--reads-only] [--help]
+usage: compare [--quick] [--seed N] [--reads-only | --displays-only] [--help]
 
-  --quick       a few million answers, in seconds
-  --seed N      another choice of random texts (default 1)
-  --reads-only  no tokens and comments
-  --help        these words
+  --quick          a few million answers, in seconds
+  --seed N         another choice of random texts (default 1)
+  --reads-only     no tokens, comments and displays
+  --displays-only  no tokens, comments and reads
+  --help           these words
 
 Prints the sha256 of the Rust sources, how many answers were compared, those that
 docs/DIFFERENCES.md lists by class (there document 01 decides, and the port is
@@ -43,10 +51,15 @@ fn main() {
     println!("seed {}\n", options.seed);
 
     let mut different = 0;
-    if !options.reads_only {
+    if options.only.is_none() {
         different += run(&options);
     }
-    different += read_comparison::run(options.quick, options.seed);
+    if options.only != Some(ItemCall::Display) {
+        different += read_comparison::run(options.size());
+    }
+    if options.only != Some(ItemCall::Read) {
+        different += display_comparison::run(options.size());
+    }
     if different > 0 {
         exit(1);
     }
@@ -65,14 +78,24 @@ fn run(options: &Options) -> u64 {
 struct Options {
     quick: bool,
     seed: u64,
-    reads_only: bool,
+    /// The one call that is compared, if not all are.
+    only: Option<ItemCall>,
+}
+
+impl Options {
+    fn size(&self) -> Size {
+        Size {
+            quick: self.quick,
+            seed: self.seed,
+        }
+    }
 }
 
 fn options() -> Options {
     let mut options = Options {
         quick: false,
         seed: 1,
-        reads_only: false,
+        only: None,
     };
     let mut words = env::args().skip(1);
     while let Some(word) = words.next() {
@@ -82,7 +105,8 @@ fn options() -> Options {
                 Some(seed) => options.seed = seed,
                 None => bad_usage("--seed needs a number"),
             },
-            "--reads-only" => options.reads_only = true,
+            "--reads-only" => options.only = Some(ItemCall::Read),
+            "--displays-only" => options.only = Some(ItemCall::Display),
             "--help" => {
                 print!("{HELP}");
                 exit(0);
@@ -392,7 +416,7 @@ impl Difference {
 }
 
 /// A number with commas between its thousands.
-fn grouped(number: u64) -> String {
+fn grouped(number: impl ToString) -> String {
     let digits = number.to_string();
     let groups: Vec<_> = digits.as_bytes().rchunks(3).rev().collect();
     String::from_utf8_lossy(&groups.join(&b',')).into_owned()

@@ -12,10 +12,10 @@ use Rattle.records.proofs.shift_up.Statement.{statement}
 use Rattle.records.proofs.shift_up.Tie as tie
 
 abbrev Inv-loop : tie.InvT-loop
-Inv-loop out₀ pos n left₀ out left = (moved out pos left ≡ moved out₀ pos left₀) × (left ≤ left₀) × (length out ≡ length out₀)
+Inv-loop out₀ pos n by left₀ out left = (moved by out pos left ≡ moved by out₀ pos left₀) × (left ≤ left₀) × (length out ≡ length out₀)
 
 abbrev μ-loop : tie.MeasureT-loop
-μ-loop out₀ pos n left₀ out left = left
+μ-loop out₀ pos n by left₀ out left = left
 
 room-above-requires : tie.Need-room-above-requires Inv-loop μ-loop
 room-above-requires c κs = search needs
@@ -44,7 +44,7 @@ loop-less c = search needs
 loop-again : tie.Need-loop-again Inv-loop μ-loop
 loop-again c =
     let r = c .before .before .loop in (
-      move-last (r .out) (c .before .before .before .before .before .args .pos) (r .left) (omega arith) (omega arith) ∙ r .inv .0,
+      move-last (c .before .before .before .before .before .args .by) (r .out) (c .before .before .before .before .before .args .pos) (r .left) (omega arith) (omega arith) ∙ r .inv .0,
       omega arith,
       simp length-set (r .inv .2),
     )
@@ -55,7 +55,7 @@ same-length c = search needs
 returns : tie.Need-returns Inv-loop μ-loop
 returns c =
     let a = c .before .before .before .before .args in
-    move-done (now (a .out)) (c .before .loop .out) (a .pos) (a .n) (c .before .loop .left) _ (c .before .before .room-above .ensures) (omega arith) (c .before .loop .inv .0)
+    move-done (a .by) (now (a .out)) (c .before .loop .out) (a .pos) (a .n) (c .before .loop .left) _ (c .before .before .room-above .ensures) (omega arith) (c .before .loop .inv .0)
 
 pub shift-up-spec : {M : Type 1} → statement M
 shift-up-spec =

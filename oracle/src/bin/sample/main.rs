@@ -1,21 +1,23 @@
 //! Writes a fixed sample of the Rust's answers, for the program that replays it.
 //!
 //! One case a line, single blanks between: `t` (token) or `c` (comment), the start
-//! offset, the result, the six numbers and the text; or `r` (read), the item kind, the
-//! start offset, the room lent, the result, the six numbers, the text and the bytes that
-//! must be written. Texts and bytes are in hex (`-` where there are none). Behind them
+//! offset, the result, the six numbers and the text; or `r` (read) or `d` (display), the
+//! item kind, the start offset, the room lent, the result, the six numbers, the text and
+//! the bytes that must be written: the tree or the line. Texts and bytes are in hex (`-` where there are none). Behind them
 //! stand some wrong answers, so that a replay that finds none of them is seen.
 
 mod calls;
-mod reads;
+mod items;
 
-use oracle::{parsing::on_a_deep_stack, reading::silence_the_rust};
+use oracle::{answer::ItemCall, parsing::on_a_deep_stack, reading::silence_the_rust};
 
 fn main() {
     silence_the_rust();
     print!("{}", calls::lines());
-    print!("{}", on_a_deep_stack(reads::lines));
-    for line in WRONG_READS.iter().chain(WRONG_CALLS) {
+    for call in [ItemCall::Read, ItemCall::Display] {
+        print!("{}", on_a_deep_stack(|| items::lines(call)));
+    }
+    for line in [WRONG_READS, WRONG_DISPLAYS, WRONG_CALLS].concat() {
         println!("{line}");
     }
 }
@@ -38,6 +40,19 @@ const WRONG_READS: &[&str] = &[
     "r 3 0 16 0 16 0 1 1 0 0 61 10000a000000010008000300000001",
     "r 3 0 17 0 16 0 1 1 0 0 61 10000a0000000100080003000000010000",
     "r 3 0 80 12 3 3 1 1 0 0 613c62 00",
+];
+
+/// Wrong in the line (no arguments as `||`), in its length, in telling the token that
+/// follows, in a refusal's second place, and in what is written: a byte of the line not
+/// told, one told behind it, one told of a refused display.
+const WRONG_DISPLAYS: &[&str] = &[
+    "d 3 0 5 0 5 0 0 0 0 0 7c207c61 7c7c202061",
+    "d 3 0 5 0 4 0 0 0 0 0 7c207c61 7c207c2061",
+    "d 3 0 5 0 5 0 4 4 0 0 7c207c61 7c207c2061",
+    "d 3 0 80 12 3 3 1 2 0 0 613c62 -",
+    "d 3 0 5 0 5 0 0 0 0 0 7c207c61 7c207c20",
+    "d 3 0 6 0 5 0 0 0 0 0 7c207c61 7c207c206100",
+    "d 3 0 80 12 3 3 1 1 0 0 613c62 00",
 ];
 
 /// Wrong in the result, in the first and in the last number.

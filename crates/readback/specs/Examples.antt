@@ -1,5 +1,5 @@
--- Document 01's examples that need no display, P1 to P10, P12, P13 and P15: one list, one lemma, by computation. Behind them the dense
--- points of the grammar: where a list is blamed, where `>>` splits, and each edge of the levels.
+-- Document 01's examples P1 to P15: one list, one lemma, by computation. Behind them the dense points of the grammar, where a list is
+-- blamed, where `>>` splits, and each edge of the levels; and those of the display line.
 -- Assumes nothing.
 use mathlib.Core.Path.{_≡_, refl}
 use mathlib.Core.List.{List, [], _∷_, map, _++_}
@@ -17,22 +17,27 @@ use Rattle.words.specs.Quote.{endsLine, quoteFrom}
 use Rattle.tokens.specs.Token.{typed, decimal, hexTyped, hexLen, hexNumber, number, stringBy, string, opensString, stringRefusal, name, word, marked, findToken, placed, behindGap, lex}
 use Rattle.tokens.specs.Answers.{tokenNumber, tokenValues}
 use Rattle.tokens.specs.Calls.{admitted, lexed, nextToken}
-use Rattle.records.specs.Tree.{behind, joined, respan}
+use Rattle.records.specs.Tree.{build, builds, behind, joined, respan}
 use Rattle.records.specs.Stored.{two, span, header, stored, storedAll}
 use Rattle.names.specs.Reading.{then, look, when, closing, closed, afterItem, list, listBehind}
 use Rattle.names.specs.Names.{lastPart, thirdPart, secondPart, chain}
 use Rattle.names.specs.Values.{leafKind, leafValue, addressValue, value}
 use Rattle.types.specs.Types.{bracketed, withArguments, named, brackets, reference, function, typeOver, readType}
 use Rattle.binds.specs.Binds.{fields, structOver, unpacked, bindOver, fieldOver, readField, readBind, readBindList, readLambdaList}
 use Rattle.reader.specs.Items.{readKind, followed, finished, readItem}
 use Rattle.reader.specs.Calls.{roomed, written, readNumber, readValues, read as readCall, readBuffer}
+use Rattle.lines.specs.Line.{plain, argument, arguments, others, commas, bars, angles, brackets as inBrackets, braces, first, later, initial, final, select, isField, isType, shape, kindOf as kindOfBuild, line as lineOf, pieces, shown}
+use Rattle.display.specs.Calls.{display as displayCall, displayBuffer, displayNumber, displayValues}
 
--- from 0 of a text: the token call's number and values; the read call's, for an item kind, with room for every answer; and the
--- bytes that a read writes into a buffer of no bytes but those
+-- from 0 of a text: the token call's number and values; the read call's, for an item kind, with room for every answer; the bytes that
+-- a read writes into a buffer of no bytes but those; the same of a display, its line; and the display call's number and values, for an
+-- item kind and some room
 pub data Example : Type 0 where
   token : List ℕ → ℕ → List ℕ → Example
   read : ℕ → List ℕ → ℕ → List ℕ → Example
   tree : ℕ → List ℕ → List ℕ → Example
+  line : ℕ → List ℕ → List ℕ → Example
+  display : ℕ → List ℕ → ℕ → ℕ → List ℕ → Example
 
 pub record Answer : Type 0 where
   pub number : ℕ
@@ -42,12 +47,16 @@ abbrev pub expected : Example → Answer
 expected (token t n v) = record { number = n; values = v }
 expected (read k t n v) = record { number = n; values = v }
 expected (tree k t v) = record { number = 0; values = v }
+expected (line k t v) = record { number = 0; values = v }
+expected (display k t room n v) = record { number = n; values = v }
 
 unfoldable pub given : Example → Answer
-unfolding begins inRange isDigit isHex isLetter isName isAscii inLine runLen isSpace isBlank slashes opens closes docLine docBlock inside lineText lineComment blockComment partAt gap keywords longMarks doubleMarks singleMarks marks same lookup kindOf longest markOf frontLen suffixes suffixLen endsLine quoteFrom typed decimal hexTyped hexLen hexNumber number stringBy string opensString stringRefusal name word marked findToken placed behindGap lex behind joined respan two span header stored storedAll then look when closing closed afterItem list listBehind lastPart thirdPart secondPart chain leafKind leafValue addressValue value bracketed withArguments named brackets reference function typeOver readType fields structOver unpacked bindOver fieldOver readField readBind readBindList readLambdaList readKind followed finished readItem roomed written readNumber readValues readCall readBuffer tokenNumber tokenValues admitted lexed nextToken
+unfolding begins inRange isDigit isHex isLetter isName isAscii inLine runLen isSpace isBlank slashes opens closes docLine docBlock inside lineText lineComment blockComment partAt gap keywords longMarks doubleMarks singleMarks marks same lookup kindOf longest markOf frontLen suffixes suffixLen endsLine quoteFrom typed decimal hexTyped hexLen hexNumber number stringBy string opensString stringRefusal name word marked findToken placed behindGap lex behind joined respan two span header stored storedAll then look when closing closed afterItem list listBehind lastPart thirdPart secondPart chain leafKind leafValue addressValue value bracketed withArguments named brackets reference function typeOver readType fields structOver unpacked bindOver fieldOver readField readBind readBindList readLambdaList readKind followed finished readItem roomed written readNumber readValues readCall readBuffer tokenNumber tokenValues admitted lexed nextToken build builds plain argument arguments others commas bars angles inBrackets braces first later initial final select isField isType shape kindOfBuild lineOf pieces shown displayCall displayBuffer displayNumber displayValues
 given (token t n v) = record { number = tokenNumber (nextToken t 0); values = tokenValues (nextToken t 0) }
 given (read k t n v) = record { number = readNumber (readCall k t 0 65535); values = readValues (readCall k t 0 65535) }
 given (tree k t v) = record { number = readNumber (readCall k t 0 (length v)); values = readBuffer k t 0 (map (λ b. 255) v) }
+given (line k t v) = record { number = displayNumber (displayCall k t 0 (length v)); values = displayBuffer k t 0 (map (λ b. 255) v) }
+given (display k t room n v) = record { number = displayNumber (displayCall k t 0 room); values = displayValues (displayCall k t 0 room) }
 
 abbrev six : ℕ → ℕ → ℕ → ℕ → List ℕ
 six a b c d = a ∷ b ∷ c ∷ d ∷ 0 ∷ 0 ∷ []
@@ -69,8 +78,10 @@ examples =
     ∷ token (bytes "b\"a\\\"c\"") 0 (six 3 0 7 0)
     ∷ token (bytes "b\"a") 8 (six 0 3 0 3)
     ∷ tree 3 (bytes "u8") (16 ∷ 0 ∷ 10 ∷ 0 ∷ 0 ∷ 0 ∷ 2 ∷ 0 ∷ 8 ∷ 0 ∷ 3 ∷ 0 ∷ 0 ∷ 0 ∷ 2 ∷ 0 ∷ [])
+    ∷ line 3 (bytes "|(|u8|u8)|u8") (bytes "|(|u8| u8)| u8")
     ∷ read 3 (bytes "(u8") 12 (six 3 3 0 0)
     ∷ read 1 (bytes "0x1") 10 (six 3 3 0 3)
+    ∷ line 4 (bytes "S{f}") (bytes "(S {f: f})")
     ∷ read 3 (bytes "a<u8>=") 12 (six 4 4 1 1)
     ∷ []
 
@@ -129,6 +140,32 @@ points =
     ∷ read 4 (times 63 (bytes "S{f:") ++ bytes "S{f}") 14 (six 254 255 254 255)
     ∷ read 6 (bytes "a") 3 (six 0 0 0 0)
     ∷ read 0 (bytes "a") 3 (six 0 0 0 0)
+    ∷ line 3 (bytes "& mut") (bytes "& mut")
+    ∷ line 3 (bytes "&mut") (bytes "& mut")
+    ∷ line 3 (bytes "&mut u8") (bytes "&mut u8")
+    ∷ line 3 (bytes "& mut u8") (bytes "& mut")
+    ∷ line 3 (bytes "(a,(b))") (bytes "(a, b)")
+    ∷ line 3 (bytes "(u8,)") (bytes "u8")
+    ∷ line 3 (bytes "a<>") (bytes "a")
+    ∷ line 3 (bytes "a<b,c<d>>") (bytes "a<b, c<d>>")
+    ∷ line 3 (bytes "| |u8") (bytes "| | u8")
+    ∷ line 3 (bytes "( ( ) )") (bytes "()")
+    ∷ line 3 (bytes "|((|a|b))|c") (bytes "|(|a| b)| c")
+    ∷ line 3 (bytes "|(|a|b,c)|d") (bytes "|(|a| b, c)| d")
+    ∷ line 1 (bytes "0x1 :: b :: c") (bytes "0x1::b::c")
+    ∷ line 2 (bytes "@ 0x1") (bytes "@0x1")
+    ∷ line 4 (bytes "S<>{}") (bytes "(S<> {})")
+    ∷ line 4 (bytes "S{}") (bytes "(S {})")
+    ∷ line 4 (bytes "S<u8,(a)>{f:x,g,}") (bytes "(S<u8, a> {f: x, g: g})")
+    ∷ line 4 (bytes "x") (bytes "(x)")
+    ∷ line 4 (bytes "()") (bytes "()")
+    ∷ line 5 (bytes "| |") (bytes "| |")
+    ∷ line 5 (bytes "|x,y|") (bytes "|x, y|")
+    ∷ display 3 (bytes "u8") 65535 0 (six 2 0 0 0)
+    ∷ display 3 (bytes "u8 $") 65535 5 (six 3 3 3 3)
+    ∷ display 3 (bytes "(a,b)") 6 0 (six 6 0 0 0)
+    ∷ display 3 (bytes "(a,b)") 5 4 (six 0 0 0 0)
+    ∷ display 6 (bytes "a") 65535 3 (six 0 0 0 0)
     ∷ []
 
 pub examples-hold : map given examples ≡ map expected examples

@@ -1,18 +1,26 @@
-//! The read call. The answers are the Rust's; refusals 2, 3, 4 and 14, which it does not
-//! have, are document 01's. Other cases that the Rust cannot answer are left out.
+//! The read call and the display call. The answers are the Rust's, with the line that
+//! document 01 gives to its tree; refusals 2, 3, 4 and 14, which it does not have, are
+//! document 01's. Other cases that the Rust cannot answer are left out.
 
 use crate::hex;
 use oracle::{
+    answer::ItemCall,
+    displays,
     expected::Text,
     items,
+    line::line_of,
     parsing::ItemKind,
     random::Random,
-    reads::{expected, Cause, Expected},
+    reads::{self, Cause, Expected},
 };
 use std::collections::BTreeSet;
 
-pub fn lines() -> String {
-    let mut sample = Sample::default();
+pub fn lines(call: ItemCall) -> String {
+    let mut sample = Sample {
+        call,
+        lines: String::new(),
+        taken: BTreeSet::new(),
+    };
     each_kind(&mut sample);
     each_room(&mut sample);
     wrong_calls(&mut sample);
@@ -22,15 +30,24 @@ pub fn lines() -> String {
     sample.lines
 }
 
-#[derive(Default)]
 struct Sample {
+    call: ItemCall,
     lines: String,
     taken: BTreeSet<(u64, usize, usize, Vec<u8>)>,
 }
 
 impl Sample {
     fn add(&mut self, kind: u64, text: &[u8], at: usize, room: usize) {
-        self.add_expected(kind, text, at, room, &expected(kind, &Text::new(text), at))
+        self.add_expected(kind, text, at, room, &self.expected(kind, text, at))
+    }
+
+    fn expected(&self, kind: u64, text: &[u8], at: usize) -> Expected {
+        let text = Text::new(text);
+        let read = reads::expected(kind, &text, at);
+        match self.call {
+            ItemCall::Read => read,
+            ItemCall::Display => displays::expected(&read, &text, at, line_of),
+        }
     }
 
     fn add_expected(&mut self, kind: u64, text: &[u8], at: usize, room: usize, given: &Expected) {
@@ -41,30 +58,41 @@ impl Sample {
         );
         let new = self.taken.insert((kind, at, room, text.to_vec()));
         if let (Some(answer), true, true) = (due.answer, known, new) {
-            let (text, tree) = (hex(text), hex(due.tree));
-            self.lines += &format!("r {kind} {at} {room} {answer} {text} {tree}\n");
+            let letter = self.of('r', 'd');
+            let (text, written) = (hex(text), hex(due.written));
+            self.lines += &format!("{letter} {kind} {at} {room} {answer} {text} {written}\n");
         }
     }
 
-    /// A read with just enough room, and with one byte less. Where it is refused, with
+    /// The sample of displays is smaller than that of reads.
+    fn of<T>(&self, read: T, display: T) -> T {
+        match self.call {
+            ItemCall::Read => read,
+            ItemCall::Display => display,
+        }
+    }
+
+    /// A call with just enough room, and with one byte less. Where it is refused, with
     /// no room or some.
-    fn read(&mut self, kind: u64, text: &[u8], at: usize) {
-        let given = expected(kind, &Text::new(text), at);
-        match given.tree.len() {
+    fn ask(&mut self, kind: u64, text: &[u8], at: usize) {
+        let given = self.expected(kind, text, at);
+        match given.written.len() {
             0 => {
                 let room = [0, 80][self.taken.len() % 2];
                 self.add_expected(kind, text, at, room, &given);
             }
             needed => {
                 self.add_expected(kind, text, at, needed, &given);
-                self.add_expected(kind, text, at, needed - 1, &given);
+                if [true, false, false][self.taken.len() % self.of(1, 3)] {
+                    self.add_expected(kind, text, at, needed - 1, &given);
+                }
             }
         }
     }
 
     fn kinds(&mut self, text: &str) {
         for kind in ItemKind::ALL {
-            self.read(kind as u64, text.as_bytes(), 0);
+            self.ask(kind as u64, text.as_bytes(), 0);
         }
     }
 }
@@ -88,14 +116,15 @@ fn each_room(sample: &mut Sample) {
         (3, "a $"),
         (4, "(x"),
     ] {
-        for room in 0..=49 {
+        for room in 0..=sample.of(49, 20) {
             sample.add(kind, text.as_bytes(), 0, room);
         }
     }
 }
 
 fn wrong_calls(sample: &mut Sample) {
-    for text in ["", "a", "a<b> ", "$", "(x", "/*"] {
+    let texts = ["", "a", "a<b> ", "$", "(x", "/*"];
+    for text in texts.into_iter().step_by(sample.of(1, 2)) {
         for kind in (0..=6).chain([0x103, 0x1_0003, 0x1_0000_0003, u64::MAX]) {
             for at in (0..=text.len() + 1).chain([65_536, 1 << 32, usize::MAX]) {
                 let room = [0, 40][(at.wrapping_add(kind as usize)) % 2];
@@ -116,7 +145,7 @@ fn offsets(sample: &mut Sample) {
     ] {
         for at in 0..=text.len() {
             for kind in ItemKind::ALL {
-                sample.read(kind as u64, text.as_bytes(), at);
+                sample.ask(kind as u64, text.as_bytes(), at);
             }
         }
     }
@@ -124,7 +153,7 @@ fn offsets(sample: &mut Sample) {
 
 /// Around the limit of levels: so many openers, what is in them, so many closers.
 fn levels(sample: &mut Sample) {
-    for (kind, count, open, inner, close) in [
+    let nests = [
         (3, 63, "(", "u8", ")"),
         (3, 64, "(", "u8", ")"),
         (3, 64, "(", "", ")"),
@@ -160,12 +189,14 @@ fn levels(sample: &mut Sample) {
         (4, 63, "S{f:", "S{$", ""),
         (4, 63, "S{f:", "S{", ""),
         (4, 63, "S{f:", "", ""),
-    ] {
+    ];
+    let fewer = nests.into_iter().step_by(sample.of(1, 2));
+    for (kind, count, open, inner, close) in fewer {
         let text = open.repeat(count) + inner + &close.repeat(count);
-        sample.read(kind, text.as_bytes(), 0);
+        sample.ask(kind, text.as_bytes(), 0);
         match kind {
-            3 => sample.read(4, format!("S<{text}").as_bytes(), 0),
-            _ => sample.read(5, format!("|{text}|").as_bytes(), 0),
+            3 => sample.ask(4, format!("S<{text}").as_bytes(), 0),
+            _ => sample.ask(5, format!("|{text}|").as_bytes(), 0),
         }
     }
 }
@@ -176,7 +207,7 @@ fn random_items(sample: &mut Sample) {
         let kind = ItemKind::ALL[turn % 5];
         let case = items::case(&mut random, kind, 1 + turn % 6);
         if case.text.len() <= 100 {
-            sample.read(case.kind as u64, &case.text, case.at);
+            sample.ask(case.kind as u64, &case.text, case.at);
         }
     }
 }

@@ -1,0 +1,116 @@
+-- The display line of a build, from document 01's "Display line".
+-- Assumes nothing.
+use Prim.Native.Nat.{ℕ}
+use mathlib.Core.Bool.{Bool, not, cond, _||_}
+use mathlib.Core.List.{List, [], _∷_, _++_, map}
+use lib.Dec.{eqb}
+use Rattle.classes.specs.Bytes.{bytes}
+use Rattle.records.specs.Tree.{twoKind, threeKind, pairKind, typeKind, refKind, refMutKind, functionKind, unitKind, tupleKind, structKind, structWithKind, fieldKind, bindListKind, lambdaListKind, addressValueKind, Tree, Build, spelled, made, Builds, bnone, bmore, build}
+
+-- a child: its kind and its line
+pub record Piece : Type 0 where
+  pub kind : ℕ
+  pub text : List ℕ
+
+-- the lines of children, as they stand and as arguments of a function type: there a function type stands in brackets
+unfoldable pub plain : List Piece → List (List ℕ)
+plain [] = []
+plain (p ∷ ps) = p .text ∷ plain ps
+
+unfoldable pub argument : Piece → List ℕ
+argument p = cond (eqb (p .kind) functionKind) (bytes "(" ++ (p .text ++ bytes ")")) (p .text)
+
+unfoldable pub arguments : List Piece → List (List ℕ)
+arguments [] = []
+arguments (p ∷ ps) = argument p ∷ arguments ps
+
+-- `a, b, c`: the first, and each other behind a comma
+unfoldable pub others : List (List ℕ) → List ℕ
+others [] = []
+others (a ∷ xs) = bytes ", " ++ (a ++ others xs)
+
+unfoldable pub commas : List (List ℕ) → List ℕ
+commas [] = []
+commas (a ∷ xs) = a ++ others xs
+
+-- `|a, b|`, and `| |` round nothing
+unfoldable pub bars : List (List ℕ) → List ℕ
+bars [] = bytes "| |"
+bars (a ∷ xs) = bytes "|" ++ (commas (a ∷ xs) ++ bytes "|")
+
+-- `<a, b>`, and nothing for no arguments of a type
+unfoldable pub angles : List (List ℕ) → List ℕ
+angles [] = []
+angles (a ∷ xs) = bytes "<" ++ (commas (a ∷ xs) ++ bytes ">")
+
+-- `(a, b)`, and ` {a, b}` behind a name
+unfoldable pub brackets : List (List ℕ) → List ℕ
+brackets xs = bytes "(" ++ (commas xs ++ bytes ")")
+
+unfoldable pub braces : List (List ℕ) → List ℕ
+braces xs = bytes " {" ++ (commas xs ++ bytes "}")
+
+-- the line of the first child, and the children behind it
+unfoldable pub first : List Piece → List ℕ
+first [] = []
+first (p ∷ ps) = p .text
+
+unfoldable pub later : List Piece → List Piece
+later [] = []
+later (p ∷ ps) = ps
+
+-- the children before the last, and the line of the last
+unfoldable pub initial : List Piece → List Piece
+initial [] = []
+initial (p ∷ []) = []
+initial (p ∷ q ∷ ps) = p ∷ initial (q ∷ ps)
+
+unfoldable pub final : List Piece → List ℕ
+final [] = []
+final (p ∷ []) = p .text
+final (p ∷ q ∷ ps) = final (q ∷ ps)
+
+-- of a struct's types and fields: the fields, and the types
+unfoldable pub select : (ℕ → Bool) → List Piece → List Piece
+select f [] = []
+select f (p ∷ ps) = cond (f (p .kind)) (p ∷ select f ps) (select f ps)
+
+unfoldable pub isField : ℕ → Bool
+isField k = eqb k fieldKind
+
+unfoldable pub isType : ℕ → Bool
+isType k = not (isField k)
+
+-- the line of a record of kind k over its children
+unfoldable pub shape : ℕ → List Piece → List ℕ
+shape k ps =
+    cond (eqb k twoKind || (eqb k threeKind || eqb k pairKind)) (first ps ++ (bytes "::" ++ first (later ps)))
+    (cond (eqb k typeKind) (first ps ++ angles (plain (later ps)))
+    (cond (eqb k refKind) (bytes "& " ++ first ps)
+    (cond (eqb k refMutKind) (bytes "&mut " ++ first ps)
+    (cond (eqb k functionKind) (bars (arguments (initial ps)) ++ (bytes " " ++ final ps))
+    (cond (eqb k tupleKind || eqb k bindListKind) (brackets (plain ps))
+    (cond (eqb k structKind) (first ps ++ braces (plain (later ps)))
+    (cond (eqb k structWithKind)
+    (first ps ++ (bytes "<" ++ (commas (plain (select isType (later ps))) ++ (bytes ">" ++ braces (plain (select isField (later ps)))))))
+    (cond (eqb k fieldKind) (first ps ++ (bytes ": " ++ first (later ps)))
+    (cond (eqb k lambdaListKind) (bars (plain ps))
+    (cond (eqb k addressValueKind) (bytes "@" ++ first ps) []))))))))))
+
+unfoldable pub kindOf : Build → ℕ
+kindOf (spelled k w) = k
+kindOf (made k bs) = k
+
+-- a leaf is shown as it is spelled; the unit, which has no spelling, as `()`
+unfoldable mutual
+  pub line : Build → List ℕ
+  line (spelled k w) = cond (eqb k unitKind) (bytes "()") w
+  line (made k bs) = shape k (pieces bs)
+
+  pub pieces : Builds → List Piece
+  pieces bnone = []
+  pieces (bmore b bs) = record { kind = kindOf b; text = line b } ∷ pieces bs
+
+-- the line of a tree
+unfoldable pub shown : Tree → List ℕ
+shown t = line (build t)

@@ -1,0 +1,24 @@
+-- What a function that writes a piece of a line leaves in a lent buffer, and where the line goes on.
+-- Assumes nothing.
+use Prim.Native.Nat.{ℕ, _+_, _-_, min}
+use mathlib.Core.Path.{_≡_}
+use mathlib.Core.List.{List, [], _∷_}
+use lib.ListN.{length, take, drop}
+use lib.Seq.{sets}
+
+-- the largest position; a buffer is no longer than this, so that what is written there or behind it is written nowhere
+abbrev pub last : ℕ
+last = 18446744073709551615
+
+-- a position, or the largest one where it would be larger
+abbrev pub cap : ℕ → ℕ
+cap n = min n last
+
+-- from `pos` on the buffer holds `bytes`, as far as it reaches, and is otherwise as it was; they end at `end`
+pub record Placed (entry : List ℕ) (pos : ℕ) (bytes : List ℕ) (end : ℕ) (exit : List ℕ) : Type 0 where
+  pub ends : end ≡ cap (pos + length bytes)
+  pub holds : exit ≡ sets entry pos bytes
+
+-- the bytes from `pos` to `end` moved up by one, behind a `(`
+unfoldable pub opened : ℕ → ℕ → List ℕ → List ℕ
+opened pos end l = sets (sets l (pos + 1) (take (end - pos) (drop pos l))) pos (40 ∷ [])

@@ -1,0 +1,10 @@
+pub mod Words
+pub mod Answers
+pub mod Marks
+pub mod Lists
+pub mod Names
+pub mod Types
+pub mod Binds
+pub mod Round
+pub mod Numbers
+pub mod Theorem

@@ -1,0 +1,92 @@
+-- Demand 3 of document 01, about the definitions that the contracts of the read and the display call cite. Its words are in specs/Demand.
+-- Assumes nothing.
+use mathlib.Core.Path.{_≡_, refl, subst, sym, ap, _∙_}
+use mathlib.Core.Logic.{_↔_}
+use mathlib.Core.List.{List}
+use Prim.Native.Nat.{ℕ, _≤_}
+use native.Mathlib.Omega.{arith}
+use lib.ListN.{length}
+use Rattle.tokens.specs.declared.Token.{Token}
+use Rattle.records.specs.Tree.{Tree, build}
+use Rattle.records.specs.Stored.{stored}
+use Rattle.reader.specs.Items.{Item, item, refused, readItem}
+use Rattle.reader.specs.Calls.{read, readNumber, readValues}
+use Rattle.reader.proofs.Room.{roomed-fits}
+use Rattle.lines.specs.Line.{shown}
+use Rattle.display.specs.Calls.{display, displayNumber, displayValues}
+use Rattle.readback.specs.Demand.{Lent, readOf, displayOf, NotRefused, Accepted, treeLength, lineLength, lineOf, lineBack, ReadBack, AnsweredBack}
+use Rattle.readback.proofs.Round.{tree-length, line-length, line-written, line-is, known, again, same-shown, same-size, lines-part, lined}
+use Rattle.readback.proofs.Numbers.{ItemNumbered, read-numbered, display-numbered}
+
+-- two accepted items of one kind have the same line exactly when their builds are equal
+pub lines-builds : (i j : Lent) (t u : Tree) (n m : Token) → i .kind ≡ j .kind → Accepted i t n → Accepted j u m → (lineOf i ≡ lineOf j) ↔ (build t ≡ build u)
+lines-builds i j t u n m k a b =
+    let x = known i t n a in
+    let y = known j u m b in
+    let l = line-is i t n (x .isShown) in
+    let r = line-is j u m (y .isShown) in (
+      λ e. lines-part (j .kind) t u (rw k at (again (i .kind) (i .text) (i .at) t n (x .isItem) (x .lineFits))) (again (j .kind) (j .text) (j .at) u m (y .isItem) (y .lineFits)) (sym l ∙ e ∙ r),
+      λ e. l ∙ same-shown t u e ∙ sym r,
+    )
+
+-- every accepted item's line, read back from 0 as that kind, is accepted to its last byte, with the same build and the same line, in any
+-- buffers that are as long as the item's tree and line
+pub reads-back : (i : Lent) (t : Tree) (n : Token) → Accepted i t n → (out lineOut : List ℕ) → treeLength i ≤ length out → lineLength i ≤ length lineOut → ReadBack i t (lineBack i out lineOut)
+reads-back i t n a out lineOut g h =
+    let j : Lent = lineBack i out lineOut in
+    let d = known i t n a .isShown in
+    let b = lined i t n a out lineOut g h in
+    record {
+      tree = b .tree;
+      accepted = record { isRead = b .isRead; isShown = subst NotRefused (sym (b .isShown)) tt };
+      sameBuild = b .sameBuild;
+      sameLine = line-is j (b .tree) _ (b .isShown) ∙ same-shown (b .tree) t (b .sameBuild) ∙ sym (line-is i t n d);
+      sameTreeLength = tree-length j (b .tree) _ (b .isRead) ∙ same-size (b .tree) t (b .sameBuild) ∙ sym (tree-length i t n (a .isRead));
+      sameLineLength = line-length j (b .tree) _ (b .isShown) ∙ ap length (same-shown (b .tree) t (b .sameBuild)) ∙ sym (line-length i t n d);
+    }
+
+-- the length that the display answers is the line's; the item's own buffers have room for its tree and its line
+pub line-counted : (i : Lent) (t : Tree) (n : Token) → Accepted i t n → length (lineOf i) ≡ lineLength i
+line-counted i t n a = let d = known i t n a .isShown in ap length (line-is i t n d) ∙ sym (line-length i t n d)
+
+pub own-room : (i : Lent) (t : Tree) (n : Token) → Accepted i t n → (treeLength i ≤ length (i .forTree)) × (lineLength i ≤ length (i .forLine))
+unfolding read display
+own-room i t n a =
+    let x = known i t n a in (
+      rw (tree-length i t n (a .isRead)) (roomed-fits stored (length (i .forTree)) (readItem (i .kind) (i .text) (i .at)) t n (a .isRead) .1),
+      rw (line-length i t n (x .isShown)) (roomed-fits shown (length (i .forLine)) (readItem (i .kind) (i .text) (i .at)) t n (x .isShown) .1),
+    )
+
+-- the reading back in the calls' own numbers, and the bytes that the display writes
+pub answers-back : (i : Lent) (t : Tree) (n : Token) → Accepted i t n → (out lineOut : List ℕ) → treeLength i ≤ length out → lineLength i ≤ length lineOut → AnsweredBack i (lineBack i out lineOut)
+unfolding readNumber readValues displayNumber displayValues
+answers-back i t n a out lineOut g h =
+    let d = known i t n a .isShown in
+    let b = lined i t n a out lineOut g h in
+    let l : length (lineOf i) ≡ lineLength i = line-counted i t n a in
+    let s : length (stored (b .tree)) ≡ treeLength i = same-size (b .tree) t (b .sameBuild) ∙ sym (tree-length i t n (a .isRead)) in
+    let m : shown (b .tree) ≡ lineOf i = same-shown (b .tree) t (b .sameBuild) ∙ sym (line-is i t n d) in
+    let v : length (shown (b .tree)) ≡ lineLength i = ap length m ∙ l in
+    record {
+      readNumberIs = ap readNumber (b .isRead);
+      readValuesAre = ap readValues (b .isRead) ∙ rw (s, l);
+      displayNumberIs = ap displayNumber (b .isShown);
+      displayValuesAre = ap displayValues (b .isShown) ∙ rw v;
+      displayWrites = line-written (lineBack i out lineOut) (b .tree) _ (b .isShown) ∙ rw (v, m);
+    }
+
+-- no refusal has the number 0: an item is accepted where both numbers are 0
+read-item : (x : Item) → ItemNumbered x → readNumber x ≡ 0 → (t : Tree) × (n : Token) × (x ≡ item t n)
+unfolding readNumber
+read-item (item t n) h e = (t, n, refl)
+read-item (refused r) h e = absurd (omega arith)
+
+not-refused : (x : Item) → ItemNumbered x → displayNumber x ≡ 0 → NotRefused x
+unfolding displayNumber
+not-refused (item t n) h e = tt
+not-refused (refused r) h e = absurd (omega arith)
+
+pub accepted-by-numbers : (i : Lent) → readNumber (readOf i) ≡ 0 → displayNumber (displayOf i) ≡ 0 → (t : Tree) × (n : Token) × Accepted i t n
+accepted-by-numbers i g h =
+    let r = read-item (readOf i) (read-numbered (i .kind) (i .text) (i .at) (length (i .forTree))) g in
+    (r .0, r .1, record { isRead = r .2; isShown = not-refused (displayOf i) (display-numbered (i .kind) (i .text) (i .at) (length (i .forLine))) h })

@@ -1,0 +1,242 @@
+-- The lines of records by those of their parts, as the code writes them.
+-- Assumes nothing.
+use mathlib.Core.Path.{_≡_, refl, ap, sym, _∙_, subst}
+use mathlib.Core.Bool.{Bool, true, false, not, cond}
+use mathlib.Core.List.{List, [], _∷_, _++_, append-nil, append-assoc}
+use Prim.Native.Nat.{ℕ, zero, suc}
+use lib.Dec.{eqb}
+use lib.ListN.{length}
+use Rattle.classes.specs.Bytes.{bytes}
+use Rattle.tokens.specs.Token.{Scanned, lex}
+use Rattle.records.specs.Tree.{typeKind, refKind, refMutKind, functionKind, unitKind, tupleKind, structKind, structWithKind, fieldKind, bindListKind, lambdaListKind, Tree, leaf, node, Trees, none, more, behind, joined, respan, build, builds}
+use Rattle.names.specs.Reading.{Ans, ok, no, then, look, when, commaTok, lessTok, ampTok, ampMutTok, openTok, closeTok, greaterTok, pipeTok, colonTok, identifierTok, Close, closing, afterItem, list, listBehind}
+use Rattle.names.specs.Names.{chain}
+use Rattle.names.proofs.Kinded.{Every, look-every, when-every, then-every, closed-every}
+use Rattle.types.specs.Types.{bracketed, withArguments, named, brackets, reference, function, typeOver, readType}
+use Rattle.binds.specs.Binds.{fieldOver, readField}
+use Rattle.lines.specs.Line.{Piece, plain, argument, arguments, others, commas, bars, angles, brackets as bracketsLine, braces, first, later, initial, final, select, isField, isType, shape, kindOf, line, pieces, shown}
+use Rattle.shows.specs.declared.Sort.{Sort}
+use Rattle.shows.specs.declared.Sort.the-variants.{Plain, Argument, Field, Binding}
+use Rattle.shows.specs.Shown.{isFunction, pieceOf, shownIn, formOf, restOf, itemsOf, isNone, bracesOf, barsEnd}
+
+-- lists as they stand, and as arguments of a function type
+module _ (s : Sort) (as-stands : (t : Tree) → shownIn s t ≡ shown t) where
+  others-plain : (ts : Trees) → others (plain (pieces (builds ts))) ≡ restOf s ts
+  unfolding others plain pieces builds restOf formOf shown
+  others-plain none = refl
+  others-plain (more t ts) = ap (λ (x : List ℕ). 44 ∷ 32 ∷ (shown t ++ x)) (others-plain ts) ∙ ap (λ (x : List ℕ). 44 ∷ 32 ∷ (x ++ restOf s ts)) (sym (as-stands t))
+
+  commas-plain : (ts : Trees) → commas (plain (pieces (builds ts))) ≡ itemsOf s ts
+  unfolding commas plain pieces builds itemsOf formOf shown
+  commas-plain none = refl
+  commas-plain (more t ts) = ap (λ (x : List ℕ). shown t ++ x) (others-plain ts) ∙ ap (λ (x : List ℕ). x ++ restOf s ts) (sym (as-stands t))
+
+pub commas-types : (ts : Trees) → commas (plain (pieces (builds ts))) ≡ itemsOf Plain ts
+unfolding shownIn
+commas-types = commas-plain Plain (λ t. refl)
+
+pub commas-fields : (ts : Trees) → commas (plain (pieces (builds ts))) ≡ itemsOf Field ts
+unfolding shownIn
+commas-fields = commas-plain Field (λ t. refl)
+
+pub commas-bindings : (ts : Trees) → commas (plain (pieces (builds ts))) ≡ itemsOf Binding ts
+unfolding shownIn
+commas-bindings = commas-plain Binding (λ t. refl)
+
+others-arguments : (ts : Trees) → others (arguments (pieces (builds ts))) ≡ restOf Argument ts
+unfolding others arguments pieces builds restOf formOf shownIn shown
+others-arguments none = refl
+others-arguments (more t ts) = ap (λ (x : List ℕ). 44 ∷ 32 ∷ (argument (pieceOf t) ++ x)) (others-arguments ts)
+
+commas-arguments : (ts : Trees) → commas (arguments (pieces (builds ts))) ≡ itemsOf Argument ts
+unfolding commas arguments pieces builds itemsOf formOf shownIn shown
+commas-arguments none = refl
+commas-arguments (more t ts) = ap (λ (x : List ℕ). argument (pieceOf t) ++ x) (others-arguments ts)
+
+-- bars: the opening one, the items, and what ends them
+bars-arguments : (ts : Trees) → bars (arguments (pieces (builds ts))) ≡ bytes "|" ++ (itemsOf Argument ts ++ barsEnd (isNone ts))
+unfolding bars isNone arguments pieces builds commas
+bars-arguments none = ap (λ (x : List ℕ). 124 ∷ (x ++ bytes " |")) (commas-arguments none)
+bars-arguments (more t ts) = ap (λ (x : List ℕ). 124 ∷ (x ++ bytes "|")) (commas-arguments (more t ts))
+
+bars-bindings : (ts : Trees) → bars (plain (pieces (builds ts))) ≡ bytes "|" ++ (itemsOf Binding ts ++ barsEnd (isNone ts))
+unfolding bars isNone plain pieces builds commas
+bars-bindings none = ap (λ (x : List ℕ). 124 ∷ (x ++ bytes " |")) (commas-bindings none)
+bars-bindings (more t ts) = ap (λ (x : List ℕ). 124 ∷ (x ++ bytes "|")) (commas-bindings (more t ts))
+
+-- a function type: its arguments and its result
+initial-behind : (ts : Trees) (t : Tree) → initial (pieces (builds (behind ts t))) ≡ pieces (builds ts)
+unfolding initial pieces builds behind shown
+initial-behind none t = refl
+initial-behind (more u none) t = refl
+initial-behind (more u (more v ts)) t = ap (_∷_ (pieceOf u)) (initial-behind (more v ts) t)
+
+final-behind : (ts : Trees) (t : Tree) → final (pieces (builds (behind ts t))) ≡ shown t
+unfolding final pieces builds behind shown
+final-behind none t = refl
+final-behind (more u none) t = refl
+final-behind (more u (more v ts)) t = final-behind (more v ts) t
+
+pub function-line : (s q : ℕ) (ts : Trees) (t : Tree) → shown (node functionKind s q (behind ts t)) ≡ (bytes "|" ++ (itemsOf Argument ts ++ barsEnd (isNone ts))) ++ (bytes " " ++ shown t)
+unfolding shown build line shape
+function-line s q ts t =
+    ap (λ (x : List Piece). bars (arguments x) ++ (bytes " " ++ final (pieces (builds (behind ts t))))) (initial-behind ts t)
+    ∙ ap (λ (x : List ℕ). bars (arguments (pieces (builds ts))) ++ (bytes " " ++ x)) (final-behind ts t)
+    ∙ ap (λ (x : List ℕ). x ++ (bytes " " ++ line (build t))) (bars-arguments ts)
+
+-- types by their names
+pub named-line : (s q : ℕ) (c : Tree) → shown (node typeKind s q (more c none)) ≡ shown c
+unfolding shown build builds line pieces shape first later plain angles
+named-line s q c = append-nil (line (build c))
+
+pub applied-line : (s q : ℕ) (c t : Tree) (ts : Trees) → shown (node typeKind s q (more c (more t ts))) ≡ shown c ++ (bytes "<" ++ (itemsOf Plain (more t ts) ++ bytes ">"))
+unfolding shown build builds line pieces shape first later plain angles
+applied-line s q c t ts = ap (λ (x : List ℕ). line (build c) ++ (60 ∷ (x ++ bytes ">"))) (commas-types (more t ts))
+
+pub reference-line : (b : Bool) (s q : ℕ) (t : Tree) → shown (node (cond b refMutKind refKind) s q (more t none)) ≡ cond b (bytes "&mut ") (bytes "& ") ++ shown t
+unfolding shown build builds line pieces shape first
+reference-line true s q t = refl
+reference-line false s q t = refl
+
+pub reference-plain : (b : Bool) (s q : ℕ) (t : Tree) → isFunction (node (cond b refMutKind refKind) s q (more t none)) ≡ false
+unfolding isFunction build kindOf
+reference-plain true s q t = refl
+reference-plain false s q t = refl
+
+-- brackets
+pub respan-line : (s q : ℕ) (t : Tree) → shown (respan s q t) ≡ shown t
+unfolding shown respan build
+respan-line s q (leaf k s₀ e₀ w) = refl
+respan-line s q (node k s₀ e₀ ts) = refl
+
+pub respan-function : (s q : ℕ) (t : Tree) → isFunction (respan s q t) ≡ isFunction t
+unfolding isFunction respan build kindOf
+respan-function s q (leaf k s₀ e₀ w) = refl
+respan-function s q (node k s₀ e₀ ts) = refl
+
+pub tuple-line : (s q : ℕ) (t : Tree) (ts : Trees) → shown (node tupleKind s q (more t ts)) ≡ (bytes "(" ++ shown t) ++ (restOf Plain ts ++ bytes ")")
+unfolding shown build line shape bracketsLine itemsOf formOf shownIn
+tuple-line s q t ts = ap (λ (x : List ℕ). 40 ∷ (x ++ bytes ")")) (commas-types (more t ts)) ∙ ap (_∷_ 40) (append-assoc (line (build t)) (restOf Plain ts) (bytes ")"))
+
+pub argument-line : (t : Tree) → shownIn Argument t ≡ cond (isFunction t) (40 ∷ (shown t ++ bytes ")")) (shown t)
+unfolding shownIn argument isFunction
+argument-line t = refl
+
+-- bindings
+pub list-line : (s q : ℕ) (ts : Trees) → shown (node bindListKind s q ts) ≡ bytes "(" ++ (itemsOf Binding ts ++ bytes ")")
+unfolding shown build line shape bracketsLine
+list-line s q ts = ap (λ (x : List ℕ). 40 ∷ (x ++ bytes ")")) (commas-bindings ts)
+
+pub one-line : (s q : ℕ) (t : Tree) → shown (node bindListKind s q (more t none)) ≡ bytes "(" ++ (shown t ++ bytes ")")
+unfolding itemsOf formOf shownIn restOf
+one-line s q t = list-line s q (more t none) ∙ ap (λ (x : List ℕ). 40 ∷ (x ++ bytes ")")) (append-nil (shown t))
+
+pub lambda-line : (s q : ℕ) (ts : Trees) → shown (node lambdaListKind s q ts) ≡ bytes "|" ++ (itemsOf Binding ts ++ barsEnd (isNone ts))
+unfolding shown build line shape
+lambda-line s q ts = bars-bindings ts
+
+pub struct-line : (s q : ℕ) (c : Tree) (fs : Trees) → shown (node structKind s q (more c fs)) ≡ shown c ++ bracesOf fs
+unfolding shown build builds line pieces shape first later braces bracesOf
+struct-line s q c fs = ap (λ (x : List ℕ). line (build c) ++ (32 ∷ 123 ∷ (x ++ bytes "}"))) (commas-fields fs)
+
+pub field-line : (s q s₂ e₂ : ℕ) (w : List ℕ) (t : Tree) → shown (node fieldKind s q (more (leaf 1 s₂ e₂ w) (more t none))) ≡ (w ++ bytes ": ") ++ shown t
+unfolding shown build builds line pieces shape first later
+field-line s q s₂ e₂ w t = sym (append-assoc w (bytes ": ") (line (build t)))
+
+-- types and fields, told apart by their kinds
+abbrev pub All : (Tree → Type 0) → Trees → Type 0
+All P none = Unit {0}
+All P (more t ts) = P t × All P ts
+
+abbrev pub NoField : Tree → Type 0
+NoField t = isField (kindOf (build t)) ≡ false
+
+abbrev pub IsField : Tree → Type 0
+IsField t = isField (kindOf (build t)) ≡ true
+
+only-fields : (fs : Trees) → All IsField fs → (select isField (pieces (builds fs)) ≡ pieces (builds fs)) × (select isType (pieces (builds fs)) ≡ [])
+unfolding select isType pieces builds shown
+only-fields none a = (refl, refl)
+only-fields (more f fs) a = let i = only-fields fs (a .1) in rw (a .0) (ap (_∷_ (pieceOf f)) (i .0), i .1)
+
+types-and-fields : (ts fs : Trees) → All NoField ts → All IsField fs
+    → (select isField (pieces (builds (joined ts fs))) ≡ pieces (builds fs)) × (select isType (pieces (builds (joined ts fs))) ≡ pieces (builds ts))
+unfolding joined select isType pieces builds shown
+types-and-fields none fs a b = only-fields fs b
+types-and-fields (more t ts) fs a b = let i = types-and-fields ts fs (a .1) b in rw (a .0) (i .0, ap (_∷_ (pieceOf t)) (i .1))
+
+pub with-line : (s q : ℕ) (c : Tree) (ts fs : Trees) → All NoField ts → All IsField fs
+    → shown (node structWithKind s q (more c (joined ts fs))) ≡ ((shown c ++ bytes "<") ++ (itemsOf Plain ts ++ bytes ">")) ++ bracesOf fs
+unfolding shown build builds line pieces shape first later braces bracesOf
+with-line s q c ts fs a b =
+    let i = types-and-fields ts fs a b in
+    ap (λ (x : List Piece). line (build c) ++ (60 ∷ (commas (plain x) ++ (62 ∷ 32 ∷ 123 ∷ (commas (plain (select isField (pieces (builds (joined ts fs))))) ++ bytes "}"))))) (i .1)
+    ∙ ap (λ (x : List Piece). line (build c) ++ (60 ∷ (commas (plain (pieces (builds ts))) ++ (62 ∷ 32 ∷ 123 ∷ (commas (plain x) ++ bytes "}"))))) (i .0)
+    ∙ ap (λ (x : List ℕ). line (build c) ++ (60 ∷ (x ++ (62 ∷ 32 ∷ 123 ∷ (commas (plain (pieces (builds fs))) ++ bytes "}"))))) (commas-types ts)
+    ∙ ap (λ (x : List ℕ). line (build c) ++ (60 ∷ (itemsOf Plain ts ++ (62 ∷ 32 ∷ 123 ∷ (x ++ bytes "}"))))) (commas-fields fs)
+    ∙ sym (append-assoc (line (build c) ++ bytes "<") (itemsOf Plain ts ++ bytes ">") (32 ∷ 123 ∷ (itemsOf Field fs ++ bytes "}"))
+    ∙ append-assoc (line (build c)) (bytes "<") ((itemsOf Plain ts ++ bytes ">") ++ (32 ∷ 123 ∷ (itemsOf Field fs ++ bytes "}")))
+    ∙ ap (λ (x : List ℕ). line (build c) ++ (60 ∷ x)) (append-assoc (itemsOf Plain ts) (bytes ">") (32 ∷ 123 ∷ (itemsOf Field fs ++ bytes "}"))))
+
+-- no type is a field, and each item of a field list is one
+module _ (P : Tree → Type 0) (item : Scanned → Ans Tree) (each : (l : Scanned) → Every P (item l)) (close o : ℕ) where
+  list-all : (f : ℕ) (l : Scanned) → Every (All P) (list item close o f l)
+  unfolding list afterItem
+  list-all zero l = tt
+  list-all (suc f) l =
+      look-every (All P) l _ λ k s e w r.
+      closed-every (All P) (closing close k s e r) _ _ (λ q u. tt)
+      (when-every (All P) (eqb k commaTok) _ _ tt
+      (then-every P (All P) (item l) _ (each l) λ t q u h.
+      look-every (All P) (lex q u) _ λ k₂ s₂ e₂ w₂ r₂.
+      closed-every (All P) (closing close k₂ s₂ e₂ r₂) _ _ (λ q₂ u₂. (h, tt))
+      (when-every (All P) (eqb k₂ commaTok) _ _
+      (then-every (All P) (All P) (list item close o f (lex e₂ r₂)) _ (list-all f (lex e₂ r₂)) λ ts q₂ u₂ g. (h, g))
+      tt)))
+
+  pub behind-all : (e : ℕ) (r : List ℕ) → Every (All P) (listBehind item close o e r)
+  unfolding listBehind
+  behind-all e r = list-all (suc (length r)) (lex e r)
+
+bracketed-no-field : (s e : ℕ) (ts : Trees) → All NoField ts → NoField (bracketed s e ts)
+unfolding bracketed respan build kindOf isField
+bracketed-no-field s e none a = refl
+bracketed-no-field s e (more (leaf k s₀ e₀ w) none) a = a .0
+bracketed-no-field s e (more (node k s₀ e₀ us) none) a = a .0
+bracketed-no-field s e (more t (more u ts)) a = refl
+
+pub type-no-field : (n : ℕ) (l : Scanned) → Every NoField (readType n l)
+unfolding readType typeOver brackets reference function named withArguments build kindOf isField
+type-no-field zero l = look-every NoField l _ λ k s e w r. tt
+type-no-field (suc n) l =
+    look-every NoField l _ λ k s e w r.
+    when-every NoField (eqb k openTok) _ _
+    (then-every (All NoField) NoField (listBehind (readType n) closeTok s e r) _ (behind-all NoField (readType n) (type-no-field n) closeTok s e r) λ ts q u h. bracketed-no-field s q ts h)
+    (when-every NoField (eqb k ampTok) _ _ (then-every NoField NoField (readType n (lex e r)) _ (type-no-field n (lex e r)) λ t q u h. refl)
+    (when-every NoField (eqb k ampMutTok) _ _ (then-every NoField NoField (readType n (lex e r)) _ (type-no-field n (lex e r)) λ t q u h. refl)
+    (when-every NoField (eqb k pipeTok) _ _
+    (then-every (All NoField) NoField (listBehind (readType n) pipeTok s e r) _ (behind-all NoField (readType n) (type-no-field n) pipeTok s e r) λ ts q u h.
+    then-every NoField NoField (readType n (lex q u)) _ (type-no-field n (lex q u)) λ t q₂ u₂ g. refl)
+    (then-every (λ (t : Tree). Unit {0}) NoField (chain l) _ (any (chain l)) λ c q u h.
+    look-every NoField (lex q u) _ λ k₂ s₂ e₂ w₂ r₂.
+    when-every NoField (eqb k₂ lessTok) _ _
+    (then-every (All NoField) NoField (listBehind (readType n) greaterTok s₂ e₂ r₂) _ (behind-all NoField (readType n) (type-no-field n) greaterTok s₂ e₂ r₂) λ ts q₃ u₃ g. refl)
+    refl))))
+  where
+    any : (a : Ans Tree) → Every (λ (t : Tree). Unit {0}) a
+    any (ok t q u) = tt
+    any (no r) = tt
+
+pub field-is-field : (n : ℕ) (bind : Scanned → Ans Tree) (l : Scanned) → Every IsField (readField n bind l)
+unfolding readField fieldOver build kindOf isField
+field-is-field zero bind l = look-every IsField l _ λ k s e w r. tt
+field-is-field (suc n) bind l =
+    look-every IsField l _ λ k s e w r.
+    when-every IsField (eqb k identifierTok) _ _
+    (look-every IsField (lex e r) _ λ k₂ s₂ e₂ w₂ r₂.
+    when-every IsField (eqb k₂ colonTok) _ _ (then-every (λ (t : Tree). Unit {0}) IsField (bind (lex e₂ r₂)) _ (any (bind (lex e₂ r₂))) λ t q u h. refl) refl)
+    tt
+  where
+    any : (a : Ans Tree) → Every (λ (t : Tree). Unit {0}) a
+    any (ok t q u) = tt
+    any (no r) = tt

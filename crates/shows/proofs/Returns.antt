@@ -1,0 +1,610 @@
+-- What each return of the code of the display gives, from what its callees gave.
+-- Assumes nothing.
+use mathlib.Core.Path.{_≡_, refl, ap, sym, _∙_, subst}
+use mathlib.Core.Bool.{Bool, true, false, cond}
+use mathlib.Core.List.{List, [], _∷_, _++_, append-nil, append-assoc}
+use Prim.Native.Nat.{ℕ, zero, suc, _+_, _-_, _<_, _≤_}
+use native.Mathlib.Omega.{arith}
+use borrow.Author.Tests.{eq-eqb, ne-eqb}
+use lib.Dec.{eqb}
+use lib.ListN.{length, set, drop}
+use lib.Seq.{sets}
+use Rattle.classes.specs.Bytes.{bytes}
+use Rattle.classes.proofs.Bools.{false-true}
+use Rattle.tokens.specs.Answers.{refusal}
+use Rattle.tokens.specs.Token.{Scanned, tok, bad, lex}
+use Rattle.tokens.specs.Calls.{textLimit, lexed, nextToken}
+use Rattle.tokens.specs.declared.Refusal.{Refusal}
+use Rattle.tokens.specs.declared.Token.{Token}
+use Rattle.tokens.specs.declared.Lexed.{Lexed}
+use Rattle.tokens.specs.declared.Lexed.the-variants.{Found, Refused as Bad}
+use Rattle.tokens.proofs.Again.{admitted-in, found-again}
+use Rattle.tokens.proofs.Lexing.{Good, Sound, lex-sound}
+use Rattle.records.specs.Tree.{nameKind, typeKind, functionKind, unitKind, tupleKind, variableKind, structKind, structWithKind, fieldKind, Tree, leaf, node, Trees, none, more, behind, joined, respan, build, builds}
+use Rattle.records.specs.Stored.{stored}
+use Rattle.names.specs.Reading.{Ans, ok, no, refusal₂, then, look, when, commaTok, stays, closing, closed, afterItem, list, listBehind}
+use Rattle.names.specs.Lists.{Passed, listStep, closesList, closeEnd, itemStep}
+use Rattle.names.specs.declared.Step.{Step}
+use Rattle.names.specs.declared.Step.the-variants.{Item as StepItem, Last, Refused as StepRefused}
+use Rattle.shows.specs.declared.Pass.{Pass}
+use Rattle.names.specs.Names.{chain}
+use Rattle.names.specs.Values.{value}
+use Rattle.names.specs.Parsed.{Stands, Standing, wordOf, scanned, follow, given, onToken, admittedPart, put}
+use Rattle.names.specs.declared.Part.{Part}
+use Rattle.names.specs.declared.Parsed.{Parsed}
+use Rattle.names.specs.declared.Parsed.the-variants.{Read as Parsed-read, Refused as Parsed-refused}
+use Rattle.names.proofs.Sure.{On, Read as Sound-read, Reads, Sure, SureAll, Reader, behind-sure}
+use Rattle.names.proofs.Parts.{chain-from}
+use Rattle.names.proofs.Kinded.{Every, look-every, when-every, then-every, closed-every}
+use Rattle.names.proofs.Steps.{found-token, refused-token}
+use Rattle.names.proofs.Entries.{on-token}
+use Rattle.names.proofs.Listing.{Opened, opened}
+use Rattle.names.proofs.Opening.{Here, here, Next, next-of}
+use Rattle.types.specs.Types.{bracketed, withArguments, named, brackets, reference, function, typeOver, readType}
+use Rattle.types.proofs.Sure.{read-type-sure}
+use Rattle.types.proofs.Returns.{type-bads}
+use Rattle.binds.specs.Binds.{isStruct, fields, structOver, unpacked, bindOver, fieldOver, readField, readBind}
+use Rattle.binds.proofs.Sure.{field-sure, read-bind-sure, bind-bad}
+use Rattle.lines.specs.Placed.{last, cap, Placed, opened as openedAt}
+use Rattle.lines.specs.Words.{words}
+use Rattle.lines.specs.Line.{kindOf, line, shown}
+use Rattle.lines.proofs.Placing.{placed-none, placed-both, placed-before, placed-opened, placed-long, placed-as}
+use Rattle.shows.specs.declared.Drawn.{Drawn}
+use Rattle.shows.specs.declared.Shown.{Shown}
+use Rattle.shows.specs.declared.Shown.the-variants.{Line, Refused}
+use Rattle.shows.specs.declared.Sort.{Sort}
+use Rattle.shows.specs.declared.Sort.the-variants.{Plain, Argument, Field, Binding}
+use Rattle.shows.specs.declared.Passing.{Passing}
+use Rattle.shows.specs.declared.Pass.the-variants.{Empty, Ended, Onward, Refused as Stopped}
+use Rattle.shows.specs.Shown.{passing, passAfter, itemOf, isFunction, shownIn, formOf, restOf, itemsOf, isNone, never, bracesOf, drawn, lined, shownAs, keptLine, refusedAt, flagged, marked, putMark, barsEnd, angled, putAngles, enclosed, putBrackets}
+use Rattle.shows.proofs.Showing.{Shows, shows-as, Fails, at-once, late, Drew, drew, shows-line, shows-drew, fails, shows-fails, fails-then, fails-look, fails-no, fails-as, shows-behind, shows-made, shows-flag, shows-mark, shows-same}
+use Rattle.shows.proofs.Steps.{Steps, item-sure, shows-finish, Took, Single, Longer, list-stopped, list-empty, list-ended, list-onward}
+use Rattle.shows.proofs.Spelling.{SaysAll, chain-says, value-says}
+use Rattle.shows.proofs.Lines.{All, NoField, IsField, behind-all, type-no-field, field-is-field, function-line, named-line, applied-line, reference-line, reference-plain, respan-line, respan-function, tuple-line, argument-line, struct-line, with-line, field-line}
+
+-- a refusal of names
+follow-bad : (n q : ℕ) (l : Scanned) (r : Refusal) → Parsed-refused r ≡ follow n q (lexed l) → l ≡ bad r
+unfolding follow lexed
+follow-bad n q (tok k s e w u) r h = let z : _≡_ {A = ℕ} 0 1 = cc in absurd (omega arith)
+follow-bad n q (bad r₀) r h = let z : r ≡ r₀ = cc in ap bad (sym z)
+
+given-fails : (a : Ans Tree) (r : Refusal) → Parsed-refused r ≡ given stored a → Fails a r
+unfolding given
+given-fails (ok x q u) r h = late x q u r (follow-bad (length (stored x)) q (lex q u) r h)
+given-fails (no r₀) r h = let z : r ≡ r₀ = cc in rw z (at-once r₀)
+
+module _ (text : List ℕ) (a : Token) (h : Stands text a) (pos : ℕ) (l m : List ℕ) (x : Ans Tree) where
+  pub words-failed : (r : Refusal) → Parsed-refused r ≡ given stored x → Shows shown never x pos l m (Refused r)
+  words-failed r e = shows-fails shown never x pos l m r (given-fails x r e)
+
+  pub words-shown : SaysAll text a (here text a h) h x → (p : Part) (e : ℕ) → Parsed-read p ≡ given stored x → Placed l pos (words 5 text (p .end) (a .start)) e m
+      → Shows shown never x pos l m (Line (drawn e false (p .next)))
+  words-shown y p e g w =
+      let d = opened stored x p g in
+      let z : shown (d .what) ≡ words 5 text (p .end) (a .start) = subst (SaysAll text a (here text a h) h) (d .is) y in
+      shows-line shown never x (d .what) (p .end) (d .rest) pos l m (drawn e false (p .next)) (d .is) refl (d .next)
+      (placed-as l m (words 5 text (p .end) (a .start)) (shown (d .what)) pos e (sym z) w)
+
+-- names and values by what the code of names gave
+module _ (text : List ℕ) (a : Token) (h : Stands text a) (pos : ℕ) (l m : List ℕ) where
+  on-chain : onToken text a (chain (scanned text a)) ≡ chain (scanned text a)
+  on-chain = on-token text a (chain (scanned text a)) (here text a h .standing)
+
+  pub chain-failed : (r : Refusal) → Parsed-refused r ≡ given stored (onToken text a (chain (scanned text a))) → Shows shown never (chain (scanned text a)) pos l m (Refused r)
+  chain-failed r e = words-failed text a h pos l m (chain (scanned text a)) r (e ∙ ap (given stored) on-chain)
+
+  pub chain-shown : (p : Part) (e : ℕ) → Parsed-read p ≡ given stored (onToken text a (chain (scanned text a))) → Placed l pos (words 5 text (p .end) (a .start)) e m
+      → Shows shown never (chain (scanned text a)) pos l m (Line (drawn e false (p .next)))
+  chain-shown p e g w = words-shown text a h pos l m (chain (scanned text a)) (chain-says text a (here text a h) h) p e (g ∙ ap (given stored) on-chain) w
+
+  from-value : admittedPart value text (a .start) ≡ value (scanned text a)
+  unfolding admittedPart
+  from-value = let d = here text a h in admitted-in no text (a .start) (value (lex (a .start) (drop (a .start) text))) (d .fits) (omega (arith, d .standing .1, d .standing .2)) ∙ ap value (d .lexes)
+
+  pub value-failed : (r : Refusal) → Parsed-refused r ≡ given stored (admittedPart value text (a .start)) → Shows shown never (value (scanned text a)) pos l m (Refused r)
+  value-failed r e = words-failed text a h pos l m (value (scanned text a)) r (e ∙ ap (given stored) from-value)
+
+  pub value-shown : (p : Part) (e : ℕ) → Parsed-read p ≡ given stored (admittedPart value text (a .start)) → Placed l pos (words 5 text (p .end) (a .start)) e m
+      → Shows shown never (value (scanned text a)) pos l m (Line (drawn e false (p .next)))
+  value-shown p e g w = words-shown text a h pos l m (value (scanned text a)) (value-says text a (here text a h) h) p e (g ∙ ap (given stored) from-value) w
+
+-- the token that follows what was read
+module _ (text : List ℕ) where
+  abbrev pub behindPart : ℕ → Token → Part
+  behindPart q n = record { len = 0; end = q; next = n }
+
+  after-on : (i q : ℕ) (u : List ℕ) (n : Token) → length text ≤ textLimit → On text i q u → lexed (lex q u) ≡ Found n → Next text (behindPart q n)
+  after-on i q u n fits o e = next-of text fits (behindPart q n) u (o .rest) (o .inside) e
+
+  pub scans-on : (i q : ℕ) (u : List ℕ) (n : Token) → length text ≤ textLimit → On text i q u → lexed (lex q u) ≡ Found n → lex q u ≡ scanned text n
+  scans-on i q u n fits o e = ap (lex q) (o .rest) ∙ after-on i q u n fits o e .scans
+
+  -- a token of the text, and where a list begins behind it
+  pub list-at : (a : Token) → Stands text a → (c : ℕ) → 0 < c → (length text ≤ textLimit) × (a .end ≤ length text) × (0 < c)
+  list-at a h c k = let d = here text a h in (d .fits, d .standing .2, k)
+
+  pub next-stands : (i : ℕ) (b : Token) → nextToken text i ≡ Found b → Stands text b
+  next-stands i b f = found-again text i b f
+
+  module _ (a : Token) (h : Stands text a) where
+    good : Good text (a .start) (a .kind) (a .start) (a .end) (wordOf text a) (drop (a .end) text)
+    good = let d = here text a h in subst (Sound text (a .start)) (d .lexes) (lex-sound text (a .start) (omega (arith, d .standing .1, d .standing .2)))
+
+    pub chain-on : (pos : ℕ) (l m : List ℕ) (d : Drawn) (w : Drew shown never (chain (scanned text a)) pos l m d) → On text (a .start) (w .at) (w .rest)
+    chain-on pos l m d w = subst (Sure text 16 (a .start)) (w .is) (chain-from text (a .start) (a .kind) (a .start) (a .end) (wordOf text a) (drop (a .end) text) good) .on
+
+    pub chain-next : (pos : ℕ) (l m : List ℕ) (d : Drawn) → Shows shown never (chain (scanned text a)) pos l m (Line d) → Stands text (d .next)
+    chain-next pos l m d g =
+        let w = drew shown never (chain (scanned text a)) pos l m d g in
+        after-on (a .start) (w .at) (w .rest) (d .next) (here text a h .fits) (chain-on pos l m d w) (w .next) .stands
+
+-- the items of a list behind the token a: where reading goes on
+module _ (text : List ℕ) (s : Sort) (left close : ℕ) (c : 0 < close) (a : Token) (h : Stands text a) (pos : ℕ) (l m : List ℕ) (d : Drawn) where
+  abbrev items : Ans Trees
+  items = listBehind (itemOf s left) close (a .start) (a .end) (drop (a .end) text)
+
+  pub items-on : (w : Drew (itemsOf s) isNone items pos l m d) → On text (a .end) (w .at) (w .rest)
+  items-on w =
+      let e = here text a h in
+      subst (SureAll text (a .end)) (w .is) (behind-sure text (itemOf s left) (item-sure text s left) close (a .start) c (omega (arith, e .standing .1, e .standing .2)) (a .end) (e .standing .2)) .on
+
+  pub items-next : Shows (itemsOf s) isNone items pos l m (Line d) → Stands text (d .next)
+  items-next g =
+      let w = drew (itemsOf s) isNone items pos l m d g in
+      after-on text (a .end) (w .at) (w .rest) (d .next) (here text a h .fits) (items-on w) (w .next) .stands
+
+-- a token that was found, as the answers have it
+pub found-shown : (text : List ℕ) → length text ≤ textLimit → (q : ℕ) (n : Token) → q ≤ length text → nextToken text q ≡ Found n → lexed (lex q (drop q text)) ≡ Found n
+unfolding nextToken
+found-shown text fits q n i e = sym (admitted-in Bad text q (lexed (lex q (drop q text))) fits i) ∙ e
+
+-- a type by its first token
+module _ (text : List ℕ) (a : Token) (left pos : ℕ) (l m : List ℕ) (s : Shown) where
+  abbrev typeHere : Ans Tree
+  typeHere = readType left (scanned text a)
+
+  pub type-deep : left ≡ 0 → s ≡ refusedAt 14 a → Shows shown isFunction typeHere pos l m s
+  unfolding readType look
+  type-deep z e = rw (z, e) (shows-fails shown isFunction (readType 0 (scanned text a)) pos l m (refusal 14 (a .start) (a .end)) (at-once (refusal 14 (a .start) (a .end))))
+
+  module _ (z : left ≡ 0 → ⊥) where
+    abbrev n : ℕ
+    n = left - 1
+
+    over : typeHere ≡ typeOver (readType n) (scanned text a)
+    unfolding readType
+    over = let e : left ≡ suc n = omega (arith, z) in ap (λ (k : ℕ). readType k (scanned text a)) e
+
+    pub type-round : a .kind ≡ 11 → Shows shown isFunction (brackets (readType n) (a .start) (a .end) (drop (a .end) text)) pos l m s → Shows shown isFunction typeHere pos l m s
+    unfolding typeOver look when
+    type-round k g = shows-as shown isFunction typeHere _ pos l m s (over ∙ rw (eq-eqb (a .kind) 11 k)) g
+
+    module _ (k₁ : a .kind ≡ 11 → ⊥) where
+      pub type-reference : a .kind ≡ 8 → Shows shown isFunction (reference (readType n) 11 (a .start) (a .end) (drop (a .end) text)) pos l m s → Shows shown isFunction typeHere pos l m s
+      unfolding typeOver look when
+      type-reference k g = shows-as shown isFunction typeHere _ pos l m s (over ∙ rw (ne-eqb (a .kind) 11 k₁, eq-eqb (a .kind) 8 k)) g
+
+      module _ (k₂ : a .kind ≡ 8 → ⊥) where
+        pub type-mutable : a .kind ≡ 10 → Shows shown isFunction (reference (readType n) 12 (a .start) (a .end) (drop (a .end) text)) pos l m s → Shows shown isFunction typeHere pos l m s
+        unfolding typeOver look when
+        type-mutable k g = shows-as shown isFunction typeHere _ pos l m s (over ∙ rw (ne-eqb (a .kind) 11 k₁, ne-eqb (a .kind) 8 k₂, eq-eqb (a .kind) 10 k)) g
+
+        module _ (k₃ : a .kind ≡ 10 → ⊥) where
+          pub type-function : a .kind ≡ 59 → Shows shown isFunction (function (readType n) (a .start) (a .end) (drop (a .end) text)) pos l m s → Shows shown isFunction typeHere pos l m s
+          unfolding typeOver look when
+          type-function k g = shows-as shown isFunction typeHere _ pos l m s (over ∙ rw (ne-eqb (a .kind) 11 k₁, ne-eqb (a .kind) 8 k₂, ne-eqb (a .kind) 10 k₃, eq-eqb (a .kind) 59 k)) g
+
+          pub type-named : (a .kind ≡ 59 → ⊥) → Shows shown isFunction (named (readType n) (a .start) (scanned text a)) pos l m s → Shows shown isFunction typeHere pos l m s
+          unfolding typeOver look when
+          type-named k g = shows-as shown isFunction typeHere _ pos l m s (over ∙ rw (ne-eqb (a .kind) 11 k₁, ne-eqb (a .kind) 8 k₂, ne-eqb (a .kind) 10 k₃, ne-eqb (a .kind) 59 k)) g
+
+-- what a record tells
+fun-true : (s q : ℕ) (ts : Trees) → isFunction (node functionKind s q ts) ≡ true
+unfolding isFunction build kindOf
+fun-true s q ts = refl
+
+type-tells : (s q : ℕ) (ts : Trees) → isFunction (node typeKind s q ts) ≡ false
+unfolding isFunction build kindOf
+type-tells s q ts = refl
+
+tuple-tells : (s q : ℕ) (ts : Trees) → isFunction (node tupleKind s q ts) ≡ false
+unfolding isFunction build kindOf
+tuple-tells s q ts = refl
+
+unit-tells : (s q : ℕ) → isFunction (leaf unitKind s q []) ≡ false
+unfolding isFunction build kindOf
+unit-tells s q = refl
+
+unit-line : (s q : ℕ) → shown (leaf unitKind s q []) ≡ bytes "()"
+unfolding shown build line
+unit-line s q = refl
+
+-- references
+module _ (text : List ℕ) (left : ℕ) (b : Bool) (a : Token) (h : Stands text a) (pos : ℕ) (l : List ℕ) where
+  abbrev refHere : Ans Tree
+  refHere = reference (readType left) (cond b 12 11) (a .start) (a .end) (drop (a .end) text)
+
+  pub reference-failed : (m : List ℕ) (r : Refusal) → nextToken text (a .end) ≡ Bad r → Shows shown isFunction refHere pos l m (Refused r)
+  unfolding reference then
+  reference-failed m r e =
+      let d = here text a h in
+      shows-fails shown isFunction refHere pos l m r (fails-no refHere r r (rw (refused-token text (d .fits) (a .end) (d .standing .2) r e, type-bads left r)) refl)
+
+  pub reference-shown : (m n : List ℕ) (c : Token) (p : ℕ) (s : Shown) → length l ≤ last → nextToken text (a .end) ≡ Found c → Placed l pos (cond b (bytes "&mut ") (bytes "& ")) p m
+      → Shows shown isFunction (readType left (scanned text c)) p m n s → Shows shown isFunction refHere pos l n (flagged false s)
+  unfolding reference
+  reference-shown m n c p s i f w g =
+      let d = here text a h in
+      let x : Ans Tree = readType left (scanned text c) in
+      shows-as shown isFunction refHere (then x λ t q u. ok (node (cond b 12 11) (a .start) q (more t none)) q u) pos l n (flagged false s) (rw (found-token text (d .fits) (a .end) (d .standing .2) c f .0))
+      (shows-made (λ t. cond b (bytes "&mut ") (bytes "& ") ++ shown t) (λ _. false) x pos l n shown isFunction (λ t q. node (cond b 12 11) (a .start) q (more t none))
+      (λ t q. reference-line b (a .start) q t) (λ t q. reference-plain b (a .start) q t) (flagged false s)
+      (shows-flag (λ t. cond b (bytes "&mut ") (bytes "& ") ++ shown t) isFunction x pos l n false s
+      (shows-behind shown isFunction x p m n pos l (cond b (bytes "&mut ") (bytes "& ")) i w s g)))
+
+-- functions
+module _ (text : List ℕ) (left : ℕ) (a : Token) (h : Stands text a) (pos : ℕ) (l : List ℕ) where
+  abbrev argsHere : Ans Trees
+  argsHere = listBehind (itemOf Argument left) 59 (a .start) (a .end) (drop (a .end) text)
+
+  abbrev funHere : Ans Tree
+  funHere = function (readType left) (a .start) (a .end) (drop (a .end) text)
+
+  abbrev result : Trees → ℕ → List ℕ → Ans Tree
+  result ts q u = then (readType left (lex q u)) λ t q₂ u₂. ok (node functionKind (a .start) q₂ (behind ts t)) q₂ u₂
+
+  fun-is : funHere ≡ then argsHere result
+  unfolding function itemOf
+  fun-is = refl
+
+  pub function-failed : (p : ℕ) (k m : List ℕ) (r : Refusal) → Shows (itemsOf Argument) isNone argsHere p k m (Refused r) → Shows shown isFunction funHere pos l m (Refused r)
+  unfolding then
+  function-failed p k m r g =
+      shows-fails shown isFunction funHere pos l m r
+      (fails-as funHere (then argsHere result) r fun-is
+      (fails-then result argsHere r (fails (itemsOf Argument) isNone argsHere p k m r g) (λ ts q u e. fails-no (result ts q u) r r (rw (e, type-bads left r)) refl)))
+
+  pub function-shown : (k m n o v : List ℕ) (p q z : ℕ) (i : Drawn) (s : Shown) → length l ≤ last → Placed l pos (124 ∷ []) p k → Shows (itemsOf Argument) isNone argsHere p k m (Line i)
+      → Placed m (i .pos) (barsEnd (i .flag)) q n → Placed n q (32 ∷ []) z o → Shows shown isFunction (readType left (scanned text (i .next))) z o v s → Shows shown isFunction funHere pos l v (flagged true s)
+  unfolding then
+  function-shown k m n o v p q z i s f w g x y b =
+      let d = drew (itemsOf Argument) isNone argsHere p k m i g in
+      let e = items-on text Argument left 59 (omega arith) a h p k m i d in
+      let ts : Trees = d .what in
+      let t : Ans Tree = readType left (scanned text (i .next)) in
+      let pre : List ℕ = (124 ∷ (itemsOf Argument ts ++ barsEnd (isNone ts))) ++ bytes " " in
+      let lk : length k ≤ last = omega (arith, placed-long l k (124 ∷ []) pos p w) in
+      let lm : length m ≤ last = omega (arith, placed-long k m (itemsOf Argument ts) p (i .pos) (d .placed)) in
+      let c : Placed m (i .pos) (barsEnd (isNone ts)) q n = subst (λ (j : Bool). Placed m (i .pos) (barsEnd j) q n) (d .tells) x in
+      let w₂ : Placed l pos pre z o =
+      placed-both l n o (124 ∷ (itemsOf Argument ts ++ barsEnd (isNone ts))) (bytes " ") pos q z f
+      (placed-both l k n (124 ∷ []) (itemsOf Argument ts ++ barsEnd (isNone ts)) pos p q f w (placed-both k m n (itemsOf Argument ts) (barsEnd (isNone ts)) p (i .pos) q lk (d .placed) c)) y in
+      let is : funHere ≡ then t (λ t q₂ u₂. ok (node functionKind (a .start) q₂ (behind ts t)) q₂ u₂) =
+      fun-is ∙ ap (λ (j : Ans Trees). then j result) (d .is) ∙ ap (λ (j : Scanned). then (readType left j) λ t q₂ u₂. ok (node functionKind (a .start) q₂ (behind ts t)) q₂ u₂)
+      (scans-on text (a .end) (d .at) (d .rest) (i .next) (here text a h .fits) e (d .next)) in
+      shows-as shown isFunction funHere (then t λ t q₂ u₂. ok (node functionKind (a .start) q₂ (behind ts t)) q₂ u₂) pos l v (flagged true s) is
+      (shows-made (λ t. pre ++ shown t) (λ _. true) t pos l v shown isFunction (λ t q. node functionKind (a .start) q (behind ts t))
+      (λ t q. function-line (a .start) q ts t ∙ sym (append-assoc (124 ∷ (itemsOf Argument ts ++ barsEnd (isNone ts))) (bytes " ") (shown t))) (λ t q. fun-true (a .start) q (behind ts t)) (flagged true s)
+      (shows-flag (λ t. pre ++ shown t) isFunction t pos l v true s (shows-behind shown isFunction t z o v pos l pre f w₂ s b)))
+
+-- types by their names
+is-none : (ts : Trees) → isNone ts ≡ true → ts ≡ none
+unfolding isNone
+is-none none e = refl
+is-none (more t ts) e = false-true _ e
+
+module _ (text : List ℕ) (left : ℕ) (a : Token) (h : Stands text a) (pos : ℕ) (l m : List ℕ) where
+  abbrev namedHere : Ans Tree
+  namedHere = named (readType left) (a .start) (scanned text a)
+
+  pub named-failed : (r : Refusal) → Shows shown never (chain (scanned text a)) pos l m (Refused r) → Shows shown isFunction namedHere pos l m (Refused r)
+  unfolding named withArguments
+  named-failed r g =
+      shows-fails shown isFunction namedHere pos l m r
+      (fails-then (λ c q u. withArguments (readType left) (a .start) c q u) (chain (scanned text a)) r (fails shown never (chain (scanned text a)) pos l m r g)
+      (λ c q u e. fails-look _ (lex q u) r e))
+
+  module _ (d : Drawn) (g : Shows shown never (chain (scanned text a)) pos l m (Line d)) where
+    name : Drew shown never (chain (scanned text a)) pos l m d
+    name = drew shown never (chain (scanned text a)) pos l m d g
+
+    name-on : On text (a .start) (name .at) (name .rest)
+    name-on = chain-on text a h pos l m d name
+
+    name-scans : lex (name .at) (name .rest) ≡ scanned text (d .next)
+    name-scans = scans-on text (a .start) (name .at) (name .rest) (d .next) (here text a h .fits) name-on (name .next)
+
+    with-name : namedHere ≡ withArguments (readType left) (a .start) (name .what) (name .at) (name .rest)
+    unfolding named then
+    with-name = ap (λ (j : Ans Tree). then j λ c q u. withArguments (readType left) (a .start) c q u) (name .is)
+
+    pub named-plain : (d .next .kind ≡ 25 → ⊥) → Shows shown isFunction namedHere pos l m (Line d)
+    unfolding withArguments look when
+    named-plain k =
+        let is : namedHere ≡ ok (node typeKind (a .start) (name .at) (more (name .what) none)) (name .at) (name .rest) = with-name ∙ rw (name-scans, ne-eqb (d .next .kind) 25 k) in
+        shows-line shown isFunction namedHere (node typeKind (a .start) (name .at) (more (name .what) none)) (name .at) (name .rest) pos l m d is (name .tells ∙ sym (type-tells (a .start) (name .at) (more (name .what) none))) (name .next)
+        (placed-as l m (shown (name .what)) (shown (node typeKind (a .start) (name .at) (more (name .what) none))) pos (d .pos) (sym (named-line (a .start) (name .at) (name .what))) (name .placed))
+
+    module _ (k : d .next .kind ≡ 25) (p : ℕ) (i : p ≡ cap (d .pos + 1)) (f : length l ≤ last) where
+      abbrev targs : Ans Trees
+      targs = listBehind (itemOf Plain left) 32 (d .next .start) (d .next .end) (drop (d .next .end) text)
+
+      abbrev applied : Trees → ℕ → List ℕ → Ans Tree
+      applied ts q u = ok (node typeKind (a .start) q (more (name .what) ts)) q u
+
+      with-args : namedHere ≡ then targs applied
+      unfolding withArguments look when itemOf
+      with-args = with-name ∙ rw (name-scans, eq-eqb (d .next .kind) 25 k)
+
+      by-args : (n o : List ℕ) (j : Drawn) (w : Drew (itemsOf Plain) isNone targs p m n j) (ts : Trees) → w .what ≡ ts → (b : Bool) → j .flag ≡ b → o ≡ cond b n (sets (sets n (d .pos) (60 ∷ [])) (j .pos) (62 ∷ []))
+          → Shows shown isFunction namedHere pos l o (Line (drawn (cond b (d .pos) (cap (j .pos + 1))) false (j .next)))
+      unfolding then isNone itemsOf
+      by-args n o j w none e true z y =
+          let is : namedHere ≡ ok (node typeKind (a .start) (w .at) (more (name .what) none)) (w .at) (w .rest) = with-args ∙ ap (λ (x : Ans Trees). then x applied) (w .is ∙ ap (λ (ts : Trees). ok ts (w .at) (w .rest)) e) in
+          let same : n ≡ m = w .placed .holds ∙ ap (λ (ts : Trees). sets m p (itemsOf Plain ts)) e in
+          shows-line shown isFunction namedHere (node typeKind (a .start) (w .at) (more (name .what) none)) (w .at) (w .rest) pos l o (drawn (d .pos) false (j .next)) is (sym (type-tells (a .start) (w .at) (more (name .what) none))) (w .next)
+          (placed-as l o (shown (name .what)) (shown (node typeKind (a .start) (w .at) (more (name .what) none))) pos (d .pos) (sym (named-line (a .start) (w .at) (name .what)))
+          (subst (λ (x : List ℕ). Placed l pos (shown (name .what)) (d .pos) x) (sym (y ∙ same)) (name .placed)))
+      by-args n o j w none e false z y = false-true _ (sym z ∙ w .tells ∙ ap isNone e)
+      by-args n o j w (more t ts) e true z y = false-true _ (sym (sym z ∙ w .tells ∙ ap isNone e))
+      by-args n o j w (more t ts) e false z y =
+          let is : namedHere ≡ ok (node typeKind (a .start) (w .at) (more (name .what) (more t ts))) (w .at) (w .rest) = with-args ∙ ap (λ (x : Ans Trees). then x applied) (w .is ∙ ap (λ (ts : Trees). ok ts (w .at) (w .rest)) e) in
+          let lm : length m ≤ last = omega (arith, placed-long l m (shown (name .what)) pos (d .pos) (name .placed)) in
+          let xs : List ℕ = itemsOf Plain (more t ts) in
+          let v : Placed m (cap (d .pos + 1)) xs (j .pos) n = subst (λ (x : ℕ). Placed m x xs (j .pos) n) i (subst (λ (us : Trees). Placed m p (itemsOf Plain us) (j .pos) n) e (w .placed)) in
+          let u : Placed m (d .pos) (60 ∷ (xs ++ bytes ">")) (cap (j .pos + 1)) o =
+          placed-both m (sets n (d .pos) (60 ∷ [])) o (60 ∷ xs) (bytes ">") (d .pos) (j .pos) (cap (j .pos + 1)) lm (placed-before m n (sets n (d .pos) (60 ∷ [])) xs (d .pos) (j .pos) 60 lm v refl) (record { ends = refl; holds = y }) in
+          shows-line shown isFunction namedHere (node typeKind (a .start) (w .at) (more (name .what) (more t ts))) (w .at) (w .rest) pos l o (drawn (cap (j .pos + 1)) false (j .next)) is
+          (sym (type-tells (a .start) (w .at) (more (name .what) (more t ts)))) (w .next)
+          (placed-as l o (shown (name .what) ++ (60 ∷ (xs ++ bytes ">"))) (shown (node typeKind (a .start) (w .at) (more (name .what) (more t ts)))) pos (cap (j .pos + 1)) (sym (applied-line (a .start) (w .at) (name .what) t ts))
+          (placed-both l m o (shown (name .what)) (60 ∷ (xs ++ bytes ">")) pos (d .pos) (cap (j .pos + 1)) f (name .placed) u))
+
+      pub named-applied : (n o : List ℕ) (s x : Shown) → Shows (itemsOf Plain) isNone targs p m n s → x ≡ angled (d .pos) s → o ≡ putAngles (d .pos) s n → Shows shown isFunction namedHere pos l o x
+      unfolding angled putAngles
+      named-applied n o (Line j) x y e z = let w = drew (itemsOf Plain) isNone targs p m n j y in rw e (by-args n o j w (w .what) refl (j .flag) refl z)
+      named-applied n o (Refused r) x y e z =
+          rw e
+          (shows-fails shown isFunction namedHere pos l o r
+          (fails-as namedHere (then targs applied) r with-args (fails-then applied targs r (fails (itemsOf Plain) isNone targs p m n r y) (λ ts q u v. late (node typeKind (a .start) q (more (name .what) ts)) q u r v))))
+
+-- an argument of a function type
+pub argument-shown : (a : Ans Tree) (pos : ℕ) (l m o : List ℕ) (s x : Shown) → length l ≤ last → Shows shown isFunction a pos l m s → x ≡ enclosed s → o ≡ putBrackets pos s m → Shows (shownIn Argument) isFunction a pos l o x
+unfolding enclosed putBrackets
+argument-shown a pos l m o (Refused r) x i g e z = rw e (shows-fails (shownIn Argument) isFunction a pos l o r (fails shown isFunction a pos l m r g))
+argument-shown a pos l m o (Line d) x i g e z = rw e (by (d .flag) refl z)
+  where
+    w : Drew shown isFunction a pos l m d
+    w = drew shown isFunction a pos l m d g
+
+    by : (b : Bool) → d .flag ≡ b → o ≡ cond b (sets (openedAt pos (d .pos) m) (cap (d .pos + 1)) (41 ∷ [])) m
+        → Shows (shownIn Argument) isFunction a pos l o (Line (drawn (cond b (cap (cap (d .pos + 1) + 1)) (d .pos)) b (d .next)))
+    by true f y =
+        let k : List ℕ = openedAt pos (d .pos) m in
+        let p : Placed l pos (40 ∷ shown (w .what)) (cap (d .pos + 1)) k = placed-opened l m k (shown (w .what)) pos (d .pos) (cap (d .pos + 1)) i (w .placed) refl refl in
+        shows-line (shownIn Argument) isFunction a (w .what) (w .at) (w .rest) pos l o (drawn (cap (cap (d .pos + 1) + 1)) true (d .next)) (w .is) (sym f ∙ w .tells) (w .next)
+        (placed-as l o (40 ∷ (shown (w .what) ++ bytes ")")) (shownIn Argument (w .what)) pos (cap (cap (d .pos + 1) + 1))
+        (sym (argument-line (w .what) ∙ ap (λ (c : Bool). cond c (40 ∷ (shown (w .what) ++ bytes ")")) (shown (w .what))) (sym (w .tells) ∙ f)))
+        (placed-both l k o (40 ∷ shown (w .what)) (bytes ")") pos (cap (d .pos + 1)) (cap (cap (d .pos + 1) + 1)) i p (record { ends = refl; holds = y })))
+    by false f y =
+        shows-line (shownIn Argument) isFunction a (w .what) (w .at) (w .rest) pos l o (drawn (d .pos) false (d .next)) (w .is) (sym f ∙ w .tells) (w .next)
+        (placed-as l o (shown (w .what)) (shownIn Argument (w .what)) pos (d .pos)
+        (sym (argument-line (w .what) ∙ ap (λ (c : Bool). cond c (40 ∷ (shown (w .what) ++ bytes ")")) (shown (w .what))) (sym (w .tells) ∙ f)))
+        (subst (λ (v : List ℕ). Placed l pos (shown (w .what)) (d .pos) v) (sym y) (w .placed)))
+
+-- a list goes on: it has an item
+abbrev Some : Trees → Type 0
+Some ts = isNone ts ≡ false
+
+any : {A : Type 0} (x : Ans A) → Every (λ (t : A). Unit {0}) x
+any (ok t q u) = tt
+any (no r) = tt
+
+after-some : (again : Scanned → Ans Trees) (close o : ℕ) (t : Tree) (q : ℕ) (u : List ℕ) → Every Some (afterItem again close o t q u)
+unfolding afterItem isNone
+after-some again close o t q u =
+    look-every Some (lex q u) _ λ k s e w r.
+    closed-every Some (closing close k s e r) _ _ (λ q₂ u₂. refl)
+    (when-every Some (eqb k commaTok) _ _ (then-every (λ (ts : Trees). Unit {0}) Some (again (lex e r)) _ (any (again (lex e r))) λ ts q₂ u₂ _. refl) tt)
+
+-- round brackets
+module _ (text : List ℕ) (left : ℕ) (a : Token) (h : Stands text a) (pos : ℕ) (l m : List ℕ) where
+  abbrev roundHere : Ans Tree
+  roundHere = brackets (readType left) (a .start) (a .end) (drop (a .end) text)
+
+  abbrev inside : ℕ → Ans Trees
+  inside at = listBehind (itemOf Plain left) 12 (a .start) at (drop at text)
+
+  abbrev boxed : Trees → ℕ → List ℕ → Ans Tree
+  boxed ts q u = ok (bracketed (a .start) q ts) q u
+
+  round-is : roundHere ≡ then (inside (a .end)) boxed
+  unfolding brackets itemOf
+  round-is = refl
+
+  abbrev firstStep : Ans Passed
+  firstStep = listStep (itemOf Plain left) 12 (a .start) (lex (a .end) (drop (a .end) text))
+
+  fits : length text ≤ textLimit
+  fits = here text a h .fits
+
+  pub round-stopped : (r : Refusal) → Steps (formOf true Plain) firstStep pos l m (Stopped r) → Shows shown isFunction roundHere pos l m (Refused r)
+  round-stopped r g =
+      shows-fails shown isFunction roundHere pos l m r
+      (fails-as roundHere (then (inside (a .end)) boxed) r round-is
+      (fails-then boxed (inside (a .end)) r (list-stopped text fits Plain left 12 (a .start) (omega arith) true (a .end) (here text a h .standing .2) pos l m r g) (λ ts q u e. late (bracketed (a .start) q ts) q u r e)))
+
+  pub round-empty : (o : List ℕ) (q p : ℕ) (x : Shown) → Steps (formOf true Plain) firstStep pos l m (Empty q) → Placed m pos (bytes "()") p o → x ≡ lined p false (nextToken text q) → Shows shown isFunction roundHere pos l o x
+  unfolding then bracketed
+  round-empty o q p x g w e =
+      let b = list-empty text fits Plain left 12 (a .start) (omega arith) true (a .end) (here text a h .standing .2) pos l m q g in
+      shows-finish shown isFunction text fits roundHere (leaf unitKind (a .start) q []) q pos p false l o x (b .on .inside) (round-is ∙ ap (λ (y : Ans Trees). then y boxed) (b .is)) (sym (unit-tells (a .start) q))
+      (placed-as l o (bytes "()") (shown (leaf unitKind (a .start) q [])) pos p (sym (unit-line (a .start) q)) (subst (λ (v : List ℕ). Placed v pos (bytes "()") p o) (b .same) w)) e
+
+  pub round-single : (f : Passing) (x : Shown) → Steps (formOf true Plain) firstStep pos l m (Ended f) → x ≡ lined (f .pos) (f .flag) (nextToken text (f .at)) → Shows shown isFunction roundHere pos l m x
+  unfolding then bracketed formOf shownIn
+  round-single f x g e =
+      let b = list-ended text fits Plain left 12 (a .start) (omega arith) true (a .end) (here text a h .standing .2) pos l m f g in
+      let t : Tree = respan (a .start) (f .at) (b .tree) in
+      shows-finish shown isFunction text fits roundHere t (f .at) pos (f .pos) (f .flag) l m x (b .on .inside) (round-is ∙ ap (λ (y : Ans Trees). then y boxed) (b .is)) (b .took .tells ∙ sym (respan-function (a .start) (f .at) (b .tree)))
+      (placed-as l m (shown (b .tree)) (shown t) pos (f .pos) (sym (respan-line (a .start) (f .at) (b .tree))) (b .took .placed)) e
+
+  -- an item and a comma
+  module _ (f : Passing) (g : Steps (formOf true Plain) firstStep pos l m (Onward f)) where
+    item₁ : Longer text fits Plain left 12 (a .start) (omega arith) true (a .end) (here text a h .standing .2) pos l m f
+    item₁ = list-onward text fits Plain left 12 (a .start) (omega arith) true (a .end) (here text a h .standing .2) pos l m f g
+
+    item₁-placed : Placed l pos (shown (item₁ .tree)) (f .pos) m
+    unfolding formOf shownIn
+    item₁-placed = item₁ .took .placed
+
+    pub round-inside : f .at ≤ length text
+    round-inside = item₁ .on .inside
+
+    round-others : roundHere ≡ then (then (inside (f .at)) λ ts q u. ok (more (item₁ .tree) ts) q u) boxed
+    round-others = round-is ∙ ap (λ (y : Ans Trees). then y boxed) (item₁ .is)
+
+    abbrev made : Trees → ℕ → List ℕ → Ans Tree
+    made ts q u = ok (bracketed (a .start) q (more (item₁ .tree) ts)) q u
+
+    round-made : roundHere ≡ then (inside (f .at)) made
+    unfolding then
+    round-made = round-others ∙ go (inside (f .at))
+      where
+        go : (y : Ans Trees) → then (then y λ ts q u. ok (more (item₁ .tree) ts) q u) boxed ≡ then y made
+        go (ok ts q u) = refl
+        go (no r) = refl
+
+    pub round-late : (k : List ℕ) (r : Refusal) → nextToken text (f .at) ≡ Bad r → Shows shown isFunction roundHere pos l k (Refused r)
+    unfolding then listBehind list look
+    round-late k r e =
+        shows-fails shown isFunction roundHere pos l k r
+        (fails-no roundHere r r (round-made ∙ rw (refused-token text fits (f .at) round-inside r e)) refl)
+
+    -- the comma was the last
+    pub round-comma : (b : Token) (x : Shown) → nextToken text (f .at) ≡ Found b → b .kind ≡ 12 → x ≡ lined (f .pos) (f .flag) (nextToken text (b .end)) → Shows shown isFunction roundHere pos l m x
+    unfolding then listBehind list look when closing closed bracketed
+    round-comma b x e k z =
+        let d = found-token text fits (f .at) round-inside b e in
+        let t : Tree = respan (a .start) (b .end) (item₁ .tree) in
+        let is : roundHere ≡ ok t (b .end) (drop (b .end) text) = round-made ∙ rw (d .0, eq-eqb (b .kind) 12 k) in
+        shows-finish shown isFunction text fits roundHere t (b .end) pos (f .pos) (f .flag) l m x (d .1 .2) is (item₁ .took .tells ∙ sym (respan-function (a .start) (b .end) (item₁ .tree)))
+        (placed-as l m (shown (item₁ .tree)) (shown t) pos (f .pos) (sym (respan-line (a .start) (b .end) (item₁ .tree))) item₁-placed) z
+
+    -- another item follows
+    module _ (b : Token) (e : nextToken text (f .at) ≡ Found b) (k : b .kind ≡ 12 → ⊥) where
+      stays-open : closing 12 (b .kind) (b .start) (b .end) (drop (b .end) text) ≡ stays
+      unfolding closing when
+      stays-open = rw (ne-eqb (b .kind) 12 k)
+
+      some-inside : Every Some (inside (f .at))
+      unfolding listBehind list look closed
+      some-inside =
+          let d = found-token text fits (f .at) round-inside b e in
+          rw (d .0, stays-open)
+          (when-every Some (eqb (b .kind) commaTok) _ _ tt
+          (then-every (λ (t : Tree). Unit {0}) Some (itemOf Plain left (scanned text b)) _ (any (itemOf Plain left (scanned text b))) λ t q u _. after-some _ 12 (a .start) t q u))
+
+      tuple-by : (o n v : List ℕ) (p : ℕ) (d : Drawn) → length l ≤ last → Placed l pos (40 ∷ shown (item₁ .tree)) p o → (w : Drew (restOf Plain) never (inside (f .at)) p o n d) (ts : Trees) → w .what ≡ ts → isNone ts ≡ false
+          → v ≡ sets n (d .pos) (41 ∷ []) → Shows shown isFunction roundHere pos l v (Line (drawn (cap (d .pos + 1)) false (d .next)))
+      unfolding then bracketed isNone
+      tuple-by o n v p d i y w none z c x = false-true _ (sym c)
+      tuple-by o n v p d i y w (more t ts) z c x =
+          let us : Trees = more (item₁ .tree) (more t ts) in
+          let is : roundHere ≡ ok (node tupleKind (a .start) (w .at) us) (w .at) (w .rest) = round-made ∙ ap (λ (j : Ans Trees). then j made) (w .is ∙ ap (λ (vs : Trees). ok vs (w .at) (w .rest)) z) in
+          let r : List ℕ = restOf Plain (more t ts) in
+          let q : Placed o p r (d .pos) n = subst (λ (vs : Trees). Placed o p (restOf Plain vs) (d .pos) n) z (w .placed) in
+          let lo : length o ≤ last = omega (arith, placed-long l o (40 ∷ shown (item₁ .tree)) pos p y) in
+          shows-line shown isFunction roundHere (node tupleKind (a .start) (w .at) us) (w .at) (w .rest) pos l v (drawn (cap (d .pos + 1)) false (d .next)) is (sym (tuple-tells (a .start) (w .at) us)) (w .next)
+          (placed-as l v ((40 ∷ shown (item₁ .tree)) ++ (r ++ bytes ")")) (shown (node tupleKind (a .start) (w .at) us)) pos (cap (d .pos + 1)) (sym (tuple-line (a .start) (w .at) (item₁ .tree) (more t ts)))
+          (placed-both l o v (40 ∷ shown (item₁ .tree)) (r ++ bytes ")") pos p (cap (d .pos + 1)) i y
+          (placed-both o n v r (bytes ")") p (d .pos) (cap (d .pos + 1)) lo q (record { ends = refl; holds = x }))))
+
+      pub round-tuple : (o n v : List ℕ) (p : ℕ) (s x : Shown) → length l ≤ last → p ≡ cap (f .pos + 1) → o ≡ openedAt pos (f .pos) m → Shows (restOf Plain) never (inside (f .at)) p o n s → x ≡ marked s → v ≡ putMark 41 s n
+          → Shows shown isFunction roundHere pos l v x
+      unfolding marked putMark
+      round-tuple o n v p (Refused r) x i c y g z w =
+          rw z
+          (shows-fails shown isFunction roundHere pos l v r
+          (fails-as roundHere (then (inside (f .at)) made) r round-made (fails-then made (inside (f .at)) r (fails (restOf Plain) never (inside (f .at)) p o n r g) (λ ts q u j. late (bracketed (a .start) q (more (item₁ .tree) ts)) q u r j))))
+      round-tuple o n v p (Line d) x i c y g z w =
+          let j = drew (restOf Plain) never (inside (f .at)) p o n d g in
+          rw z
+          (tuple-by o n v p d i (placed-opened l m o (shown (item₁ .tree)) pos (f .pos) p i item₁-placed c y) j (j .what) refl (subst (Every Some) (j .is) some-inside) w)
+
+-- the step behind an item, by the code of names
+module _ (close o : ℕ) (d : Drawn) where
+  abbrev itemPart : Part
+  itemPart = record { len = d .pos; end = d .pos; next = d .next }
+
+  abbrev Stepping : Step → Pass → Type 0
+  Stepping x p = itemStep close o itemPart ≡ x → p ≡ passAfter close o d
+
+  pub after-refused : (r : Refusal) → Stepping (StepRefused r) (Stopped r)
+  unfolding itemStep passAfter
+  after-refused r e = by (closesList close (d .next .kind)) (eqb (d .next .kind) commaTok) e
+    where
+      by : (x y : Bool) → cond x (Last (d .pos) (closeEnd close (d .next))) (cond y (StepItem (d .pos) (d .next .end)) (StepRefused (refusal₂ 12 (d .next .start) (d .next .start) o o))) ≡ StepRefused r
+          → Stopped r ≡ cond x (Ended (passing (d .pos) (closeEnd close (d .next)) (d .flag))) (cond y (Onward (passing (d .pos) (d .next .end) (d .flag))) (Stopped (refusal₂ 12 (d .next .start) (d .next .start) o o)))
+      by true y f = let z : _≡_ {A = ℕ} 0 1 = cc in absurd (omega arith)
+      by false true f = let z : _≡_ {A = ℕ} 0 1 = cc in absurd (omega arith)
+      by false false f = let z : r ≡ refusal₂ 12 (d .next .start) (d .next .start) o o = cc in ap Stopped z
+
+  pub after-last : (p q : ℕ) → Stepping (Last p q) (Ended (passing p q (d .flag)))
+  unfolding itemStep passAfter
+  after-last p q e = by (closesList close (d .next .kind)) (eqb (d .next .kind) commaTok) e
+    where
+      by : (x y : Bool) → cond x (Last (d .pos) (closeEnd close (d .next))) (cond y (StepItem (d .pos) (d .next .end)) (StepRefused (refusal₂ 12 (d .next .start) (d .next .start) o o))) ≡ Last p q
+          → Ended (passing p q (d .flag)) ≡ cond x (Ended (passing (d .pos) (closeEnd close (d .next)) (d .flag))) (cond y (Onward (passing (d .pos) (d .next .end) (d .flag))) (Stopped (refusal₂ 12 (d .next .start) (d .next .start) o o)))
+      by true y f = let z : p ≡ d .pos = cc in let w : q ≡ closeEnd close (d .next) = cc in rw (z, w)
+      by false true f = let z : _≡_ {A = ℕ} 0 1 = cc in absurd (omega arith)
+      by false false f = let z : _≡_ {A = ℕ} 0 1 = cc in absurd (omega arith)
+
+  pub after-comma : (p q : ℕ) → Stepping (StepItem p q) (Onward (passing p q (d .flag)))
+  unfolding itemStep passAfter
+  after-comma p q e = by (closesList close (d .next .kind)) (eqb (d .next .kind) commaTok) e
+    where
+      by : (x y : Bool) → cond x (Last (d .pos) (closeEnd close (d .next))) (cond y (StepItem (d .pos) (d .next .end)) (StepRefused (refusal₂ 12 (d .next .start) (d .next .start) o o))) ≡ StepItem p q
+          → Onward (passing p q (d .flag)) ≡ cond x (Ended (passing (d .pos) (closeEnd close (d .next)) (d .flag))) (cond y (Onward (passing (d .pos) (d .next .end) (d .flag))) (Stopped (refusal₂ 12 (d .next .start) (d .next .start) o o)))
+      by true y f = let z : _≡_ {A = ℕ} 0 1 = cc in absurd (omega arith)
+      by false true f = let z : p ≡ d .pos = cc in let w : q ≡ d .next .end = cc in rw (z, w)
+      by false false f = let z : _≡_ {A = ℕ} 0 1 = cc in absurd (omega arith)
+
+-- arguments in angles, and an argument in brackets
+pub angles-some : (s : Shown) (d : Drawn) (pos e : ℕ) (l m n : List ℕ) → s ≡ Line d → d .flag ≡ false → m ≡ set l pos 60 → Placed m (d .pos) (62 ∷ []) e n → (Line (drawn e false (d .next)) ≡ angled pos s) × (n ≡ putAngles pos s l)
+unfolding angled putAngles
+angles-some s d pos e l m n z f w p = rw (z, f) (ap (λ (k : ℕ). Line (drawn k false (d .next))) (p .ends), p .holds ∙ ap (λ (x : List ℕ). sets x (d .pos) (62 ∷ [])) w)
+
+pub brackets-some : (s : Shown) (d : Drawn) (pos p e : ℕ) (l m n : List ℕ) → s ≡ Line d → d .flag ≡ true → (p ≡ cap (d .pos + 1)) × (m ≡ openedAt pos (d .pos) l) → Placed m p (41 ∷ []) e n
+    → (Line (drawn e true (d .next)) ≡ enclosed s) × (n ≡ putBrackets pos s l)
+unfolding enclosed putBrackets
+brackets-some s d pos p e l m n z f w q =
+    rw (z, f) (
+      ap (λ (k : ℕ). Line (drawn k true (d .next))) (q .ends ∙ ap (λ (k : ℕ). cap (k + 1)) (w .0)),
+      q .holds ∙ ap (λ (k : ℕ). sets m k (41 ∷ [])) (w .0) ∙ ap (λ (x : List ℕ). sets x (cap (d .pos + 1)) (41 ∷ [])) (w .1),
+    )
+
+pub brackets-none : (s : Shown) (d : Drawn) (pos : ℕ) (l : List ℕ) → s ≡ Line d → d .flag ≡ false → (Line d ≡ enclosed s) × (l ≡ putBrackets pos s l)
+unfolding enclosed putBrackets
+brackets-none s d pos l z f = rw z (by (d .flag) f)
+  where
+    by : (b : Bool) → b ≡ false → (Line (drawn (d .pos) b (d .next)) ≡ Line (drawn (cond b (cap (cap (d .pos + 1) + 1)) (d .pos)) b (d .next))) × (l ≡ cond b (sets (openedAt pos (d .pos) l) (cap (d .pos + 1)) (41 ∷ [])) l)
+    by true e = false-true _ (sym e)
+    by false e = (refl, refl)
+
+-- an item by its sort
+module _ (s : Sort) (left pos : ℕ) (l m : List ℕ) (x : Scanned) (r : Shown) where
+  pub item-plain : s ≡ Plain → Shows shown isFunction (readType left x) pos l m r → Shows (shownIn s) isFunction (itemOf s left x) pos l m r
+  unfolding itemOf shownIn
+  item-plain e g = rw e (shows-same shown (shownIn Plain) isFunction isFunction (readType left x) pos l m (λ t. refl) (λ t. refl) r g)
+
+  pub item-argument : s ≡ Argument → Shows (shownIn Argument) isFunction (readType left x) pos l m r → Shows (shownIn s) isFunction (itemOf s left x) pos l m r
+  unfolding itemOf
+  item-argument e g = rw e g
+
+  pub item-field : s ≡ Field → Shows shown isFunction (readField left (readBind left) x) pos l m r → Shows (shownIn s) isFunction (itemOf s left x) pos l m r
+  unfolding itemOf shownIn
+  item-field e g = rw e (shows-same shown (shownIn Field) isFunction isFunction (readField left (readBind left) x) pos l m (λ t. refl) (λ t. refl) r g)
+
+  pub item-binding : s ≡ Binding → Shows shown isFunction (readBind left x) pos l m r → Shows (shownIn s) isFunction (itemOf s left x) pos l m r
+  unfolding itemOf shownIn
+  item-binding e g = rw e (shows-same shown (shownIn Binding) isFunction isFunction (readBind left x) pos l m (λ t. refl) (λ t. refl) r g)

@@ -1,0 +1,547 @@
+//! What must hold of displays, checked item by item: the answer and the line of each,
+//! that the line is read back, and that two items have one line exactly where they have
+//! one build (document 01, "The words of demand 3").
+
+use crate::{
+    answer::{Answer, ItemCall},
+    builds::build_of,
+    displays::{self, Show},
+    expected::Text,
+    lent::{Ask, Buffer, ItemAt, Room, Wrong},
+    parsing::ItemKind,
+    random::Random,
+    reads::{self, Cause, Expected, Lent, LONGEST_WRITTEN},
+};
+use std::{collections::HashMap, rc::Rc};
+
+/// What did not hold.
+#[derive(Clone, Copy, PartialEq, Eq, Debug)]
+pub enum Property {
+    /// The display answers and writes what it must.
+    Displayed,
+    /// So does the read: where it is refused, the display is refused alike.
+    Read,
+    /// The Rust reads the line to its last byte, as the same build.
+    ReadByTheRust,
+    /// The port's read of the line writes the Rust's tree of it, in the item's room.
+    ReadByThePort,
+    /// The port's display of the line gives the line again, in the item's room.
+    DisplayedAgain,
+    /// Lines are equal exactly where builds are.
+    OneLineOneBuild,
+}
+
+impl Property {
+    pub fn words(self) -> &'static str {
+        match self {
+            Property::Displayed => "the display is another one",
+            Property::Read => "the read is another one",
+            Property::ReadByTheRust => "the Rust does not read the line as this build",
+            Property::ReadByThePort => "the port does not read the line as the Rust does",
+            Property::DisplayedAgain => "the port displays the line as another line",
+            Property::OneLineOneBuild => "lines and builds are not equal together",
+        }
+    }
+}
+
+/// An item of which a property does not hold.
+#[derive(Clone, Debug)]
+pub struct Fault {
+    pub property: Property,
+    pub kind: u64,
+    pub text: Vec<u8>,
+    pub at: usize,
+    /// What was due and what was found, a line each.
+    pub told: Vec<String>,
+}
+
+/// How many items were checked, and what came of them.
+#[derive(Clone, Copy, Default)]
+pub struct Tally {
+    pub items: u64,
+    pub answers: u64,
+    /// Items whose line has at most 65,535 bytes, and those that can be read too.
+    pub displayed: u64,
+    pub accepted: u64,
+    /// Lines that were read back. Each different one is once.
+    pub read_back: u64,
+    pub listed: [u64; Cause::ALL.len()],
+}
+
+/// Checks items, and keeps the lines and builds of those that were accepted.
+pub struct Properties {
+    buffer: Buffer,
+    show: Show,
+    groups: [Groups; ItemKind::ALL.len()],
+    random: Random,
+    pub tally: Tally,
+}
+
+/// A property that does not hold, with what is told of it.
+type Broken = (Property, Vec<String>);
+
+type Bytes = Rc<[u8]>;
+
+impl Properties {
+    /// `ask` is the port; `show` gives the line that is due.
+    pub fn new(ask: Ask, show: Show, random: Random) -> Properties {
+        Properties {
+            buffer: Buffer::new(ask),
+            show,
+            groups: Default::default(),
+            random,
+            tally: Tally::default(),
+        }
+    }
+
+    pub fn random(&mut self) -> &mut Random {
+        &mut self.random
+    }
+
+    /// An item with the rooms that matter.
+    pub fn check(&mut self, kind: u64, text: &Text, at: usize) -> Option<Fault> {
+        self.checked(kind, text, at, |random, accepted| match accepted {
+            true => vec![Room::Exact, Room::OneLess, Room::None, Room::More(1)],
+            false => vec![random.pick(&[Room::None, Room::Exact, Room::More(37)])],
+        })
+    }
+
+    /// An item with all sorts of rooms.
+    pub fn check_thoroughly(&mut self, kind: u64, text: &Text, at: usize) -> Option<Fault> {
+        self.checked(kind, text, at, |_, _| {
+            let more = [1_000, 7, 1].map(Room::More);
+            [&more, &[Room::Exact, Room::OneLess, Room::None][..]].concat()
+        })
+    }
+
+    /// An item with every room up to more than is needed.
+    pub fn check_each_room(&mut self, kind: u64, text: &Text, at: usize) -> Option<Fault> {
+        let read = reads::expected(kind, text, at);
+        let needed = displays::expected(&read, text, at, self.show).written.len();
+        self.checked(kind, text, at, |_, _| {
+            (0..needed + 2).map(Room::Bytes).collect()
+        })
+    }
+
+    fn checked(
+        &mut self,
+        kind: u64,
+        text: &Text,
+        at: usize,
+        rooms: impl FnOnce(&mut Random, bool) -> Vec<Room>,
+    ) -> Option<Fault> {
+        let read = reads::expected(kind, text, at);
+        let due = displays::expected(&read, text, at, self.show);
+        self.tally.items += 1;
+        let rooms = rooms(&mut self.random, !due.written.is_empty());
+        let broken = self
+            .display_broken((kind, text.bytes, at), &due, &rooms)
+            .or_else(|| self.read_broken((kind, text.bytes, at), &read))
+            .or_else(|| self.line_broken(kind, text, &read, &due));
+        broken.map(|(property, told)| Fault {
+            property,
+            kind,
+            text: text.bytes.to_vec(),
+            at,
+            told,
+        })
+    }
+
+    /// The display, with each of the rooms.
+    fn display_broken(&mut self, item: ItemAt, due: &Expected, rooms: &[Room]) -> Option<Broken> {
+        for room in rooms {
+            let room = room.of(due);
+            let lent = due.within(room);
+            self.tally.answers += 1;
+            if let Some(cause) = lent.cause {
+                self.tally.listed[cause as usize] += 1;
+            }
+            if let Some(wrong) = self.buffer.wrong(ItemCall::Display, item, room, lent) {
+                return Some((Property::Displayed, told(room, lent, &wrong)));
+            }
+        }
+        None
+    }
+
+    /// The read, with enough room.
+    fn read_broken(&mut self, item: ItemAt, due: &Expected) -> Option<Broken> {
+        let room = Room::Exact.of(due);
+        let lent = due.within(room);
+        let wrong = self.buffer.wrong(ItemCall::Read, item, room, lent)?;
+        Some((Property::Read, told(room, lent, &wrong)))
+    }
+
+    /// What must hold of the line of an item, if it has one that is not too long.
+    fn line_broken(
+        &mut self,
+        kind: u64,
+        text: &Text,
+        read: &Expected,
+        due: &Expected,
+    ) -> Option<Broken> {
+        let line = &due.written;
+        if line.is_empty() || line.len() > LONGEST_WRITTEN {
+            return None;
+        }
+        self.tally.displayed += 1;
+        if read.written.len() > LONGEST_WRITTEN {
+            // It has a line and no stored tree, so no build to compare.
+            return self.back_broken(kind, line, read.written.len(), None);
+        }
+        self.tally.accepted += 1;
+        let build = build_of(&read.written, text.bytes);
+        let group = kind as usize - 1;
+        if self.groups[group].knows(line, &build) {
+            return None;
+        }
+        self.back_broken(kind, line, read.written.len(), Some(&build))
+            .or_else(|| self.groups[group].pair_broken(line, &build))
+    }
+
+    /// Reads the line alone, and displays it. `length` is that of the item's tree.
+    fn back_broken(
+        &mut self,
+        kind: u64,
+        line: &[u8],
+        length: usize,
+        build: Option<&[u8]>,
+    ) -> Option<Broken> {
+        self.tally.read_back += 1;
+        let end = line.len();
+        let read = reads::expected(kind, &Text::new(line), 0);
+        let whole = Answer::read(length, 0, end, end);
+        let same = |build| build_of(&read.written, line) == build;
+        if read.answer != Some(whole) || read.cause.is_some() || !build.is_none_or(same) {
+            let found = read.answer.map_or("a panic".into(), |it| it.to_string());
+            let told = vec![
+                format!("line     '{}'", cut(line)),
+                format!("expected {whole}, and the same build"),
+                format!("the Rust {found}"),
+            ];
+            return Some((Property::ReadByTheRust, told));
+        }
+        let room = length.min(LONGEST_WRITTEN);
+        let due = read.within(room);
+        let item = (kind, line, 0);
+        if let Some(wrong) = self.buffer.wrong(ItemCall::Read, item, room, due) {
+            return Some((Property::ReadByThePort, told_of(line, room, due, &wrong)));
+        }
+        let due = Lent {
+            answer: Some(Answer::display(end)),
+            written: line,
+            cause: None,
+        };
+        let wrong = self.buffer.wrong(ItemCall::Display, item, end, due)?;
+        Some((Property::DisplayedAgain, told_of(line, end, due, &wrong)))
+    }
+
+    /// The pairs of accepted items of one kind, and those of them with one line.
+    pub fn pairs(&self) -> (u128, u128) {
+        let sum = |of: fn(&Groups) -> u128| self.groups.iter().map(of).sum();
+        (sum(Groups::pairs), sum(Groups::pairs_of_one_line))
+    }
+
+    /// How many different lines were met.
+    pub fn lines(&self) -> usize {
+        self.groups.iter().map(|group| group.lines.len()).sum()
+    }
+}
+
+fn told(room: usize, due: Lent, wrong: &Wrong) -> Vec<String> {
+    let mut told = vec![format!("room     {room}")];
+    match due.answer {
+        Some(answer) => told.push(format!("expected {answer}")),
+        None => told.push("expected nothing: the Rust panics, and no list says why".into()),
+    }
+    if let Some(cause) = due.cause {
+        told.push(format!("because  {}", cause.words()));
+    }
+    told.push(format!("found    {}", wrong.found));
+    if let Some(fault) = &wrong.buffer {
+        told.push(format!("buffer   {fault}"));
+        told.push(format!("due      '{}'", cut(due.written)));
+        told.push(format!("written  '{}'", cut(&wrong.written)));
+    }
+    told
+}
+
+fn told_of(line: &[u8], room: usize, due: Lent, wrong: &Wrong) -> Vec<String> {
+    let mut told = told(room, due, wrong);
+    told.insert(0, format!("line     '{}'", cut(line)));
+    told
+}
+
+/// The first 200 bytes, readable.
+fn cut(bytes: &[u8]) -> String {
+    let more = if bytes.len() > 200 { "..." } else { "" };
+    bytes[..bytes.len().min(200)].escape_ascii().to_string() + more
+}
+
+/// The lines and builds of the accepted items of one kind.
+#[derive(Default)]
+struct Groups {
+    lines: HashMap<Bytes, Group>,
+    builds: HashMap<Bytes, Bytes>,
+}
+
+/// The items of one line.
+struct Group {
+    build: Bytes,
+    items: u64,
+}
+
+impl Groups {
+    /// Whether an item of this line and this build was met before; counts it.
+    fn knows(&mut self, line: &[u8], build: &[u8]) -> bool {
+        match self.lines.get_mut(line) {
+            Some(group) if *group.build == *build => {
+                group.items += 1;
+                true
+            }
+            _ => false,
+        }
+    }
+
+    /// Takes in an item whose line was met with another build or not at all.
+    fn pair_broken(&mut self, line: &[u8], build: &[u8]) -> Option<Broken> {
+        let told = |other: &[u8], how| {
+            vec![
+                format!("line     '{}'", cut(line)),
+                format!("{how} '{}'", cut(other)),
+            ]
+        };
+        if let Some(group) = self.lines.get(line) {
+            let told = told(&group.build, "the same line with another build:");
+            return Some((Property::OneLineOneBuild, told));
+        }
+        if let Some(other) = self.builds.get(build) {
+            let told = told(other, "the same build with another line:");
+            return Some((Property::OneLineOneBuild, told));
+        }
+        let (line, build) = (Bytes::from(line), Bytes::from(build));
+        self.builds.insert(build.clone(), line.clone());
+        self.lines.insert(line, Group { build, items: 1 });
+        None
+    }
+
+    fn pairs(&self) -> u128 {
+        pairs_of(self.lines.values().map(|group| group.items).sum())
+    }
+
+    fn pairs_of_one_line(&self) -> u128 {
+        self.lines.values().map(|group| pairs_of(group.items)).sum()
+    }
+}
+
+/// How many pairs so many items make.
+pub fn pairs_of(items: u64) -> u128 {
+    let items = items as u128;
+    items * items.saturating_sub(1) / 2
+}
+
+#[cfg(test)]
+mod tests {
+    use super::*;
+    use crate::{line::line_of, parsing::Item};
+
+    /// A port that reads and displays as it should, its lines shown by `show`.
+    fn port(
+        call: ItemCall,
+        (kind, text, at): (u64, &[u8], usize),
+        room: &mut [u8],
+        answer: &mut [u64; 6],
+        show: Show,
+    ) -> u32 {
+        let text = Text::new(text);
+        let read = reads::expected(kind, &text, at);
+        let due = match call {
+            ItemCall::Read => read,
+            ItemCall::Display => displays::expected(&read, &text, at, show),
+        };
+        let lent = due.within(room.len());
+        room[..lent.written.len()].copy_from_slice(lent.written);
+        let given = lent.answer.expect("a listed cause");
+        *answer = given.numbers;
+        given.result
+    }
+
+    /// A way to show lines, and a port that shows them so.
+    macro_rules! shown_by {
+        ($show:expr) => {{
+            const SHOW: Show = $show;
+            let ask: Ask = |call, kind, text, at, room, answer| {
+                port(call, (kind, text, at), room, answer, SHOW)
+            };
+            (ask, SHOW)
+        }};
+    }
+
+    fn replaced(item: &Item, text: &[u8], from: &str, to: &str) -> Vec<u8> {
+        let line = String::from_utf8(line_of(item, text)).expect("lines are ASCII");
+        line.replace(from, to).into_bytes()
+    }
+
+    const ITEMS: [(u64, &str); 22] = [
+        (1, "a :: b"),
+        (1, "0x1::b::c"),
+        (2, "@ 0x1"),
+        (2, "b\"a , b\""),
+        (3, "|(|u8|u8)|u8"),
+        (3, "|u8| |u8|u8"),
+        (3, "| | a"),
+        (3, "( a , (b) , )"),
+        (3, "(a,(b,c))"),
+        (3, "((a,b),c)"),
+        (3, "(a,b,c)"),
+        (3, "a<b,c>"),
+        (3, "a<>"),
+        (3, "& mut"),
+        (3, "&mut a"),
+        (4, "S{f}"),
+        (4, "S{f:f}"),
+        (4, "S<>{f}"),
+        (4, "(x, S<u8>{}, y)"),
+        (4, "$"),
+        (5, "| |"),
+        (5, "|x, y|"),
+    ];
+
+    /// The first property that is found broken.
+    fn broken((ask, show): (Ask, Show)) -> Option<Property> {
+        let mut properties = Properties::new(ask, show, Random::new(1));
+        ITEMS.iter().find_map(|(kind, text)| {
+            let text = Text::new(text.as_bytes());
+            let fault = properties.check(*kind, &text, 0);
+            fault
+                .or_else(|| properties.check_thoroughly(*kind, &text, 0))
+                .or_else(|| properties.check_each_room(*kind, &text, 0))
+                .map(|fault| fault.property)
+        })
+    }
+
+    #[test]
+    fn a_right_display_passes() {
+        assert_eq!(broken(shown_by!(line_of)), None);
+    }
+
+    /// Wrong lines, each beside an oracle that wants the right ones.
+    #[test]
+    fn wrong_lines_differ() {
+        for (ask, _) in [
+            shown_by!(|item, text| replaced(item, text, "| |", "||")),
+            shown_by!(|item, text| replaced(item, text, "(|", "|")),
+            shown_by!(|item, text| replaced(item, text, "<>", "")),
+            shown_by!(|item, text| replaced(item, text, "f: f", "f")),
+            shown_by!(|item, text| replaced(item, text, "& mut", "&mut")),
+            shown_by!(|item, text| replaced(item, text, "{}", "{ }")),
+            shown_by!(|_, text| text.to_vec()),
+        ] {
+            assert_eq!(broken((ask, line_of)), Some(Property::Displayed));
+        }
+    }
+
+    /// The same where the oracle wants the wrong lines too: what else must hold of
+    /// lines tells them. Lines that only their own definition forbids are not among
+    /// these: `&mut` at the end for `& mut`, `{ }` for `{}`, shorthand kept everywhere.
+    #[test]
+    fn wrong_lines_do_not_keep_the_other_properties() {
+        let not_read = Some(Property::ReadByTheRust);
+        for wrong in [
+            shown_by!(|item, text| replaced(item, text, "| |", "||")),
+            shown_by!(|item, text| replaced(item, text, "(|", "|")),
+            shown_by!(|item, text| replaced(item, text, "(|u8| u8)", "|u8| u8")),
+            shown_by!(|item, text| replaced(item, text, "<>", "")),
+            shown_by!(|item, text| replaced(item, text, "(b, c)", "b, c")),
+            shown_by!(|item, text| replaced(item, text, "&mut a", "&muta")),
+            shown_by!(|item, text| replaced(item, text, "<b, c>", "<b>")),
+            shown_by!(|_, _| b"a".to_vec()),
+        ] {
+            assert_eq!(broken(wrong), not_read);
+        }
+    }
+
+    /// A display that copies the text: the same build has two lines.
+    #[test]
+    fn one_build_with_two_lines_is_found() {
+        let copied = shown_by!(|_, text| text.to_vec());
+        let mut properties = Properties::new(copied.0, copied.1, Random::new(1));
+        let mut check = |text: &[u8]| {
+            let fault = properties.check(4, &Text::new(text), 0);
+            fault.map(|fault| fault.property)
+        };
+        assert_eq!(check(b"S{f}"), None);
+        assert_eq!(check(b"S{f}"), None);
+        assert_eq!(check(b"S{f:f}"), Some(Property::OneLineOneBuild));
+        assert_eq!(check(b"S{f};"), Some(Property::ReadByTheRust));
+    }
+
+    /// A port whose lines are right where they are not read back.
+    #[test]
+    fn a_line_that_is_displayed_otherwise_is_found() {
+        let ask: Ask = |call, kind, text, at, room, answer| {
+            let show: Show = match text {
+                b"(a, b)" => |_, _| b"(b, a)".to_vec(),
+                _ => line_of,
+            };
+            port(call, (kind, text, at), room, answer, show)
+        };
+        let mut properties = Properties::new(ask, line_of, Random::new(1));
+        let fault = properties.check(3, &Text::new(b"(a,b)"), 0);
+        assert_eq!(fault.unwrap().property, Property::DisplayedAgain);
+    }
+
+    /// A port that reads lines otherwise than other texts.
+    #[test]
+    fn a_line_that_the_port_does_not_read_is_found() {
+        let ask: Ask = |call, kind, text, at, room, answer| {
+            let text = if text == b"(a, b)" { b"(a, c)" } else { text };
+            let kind = if text == b"(a, c)" { 9 } else { kind };
+            port(call, (kind, text, at), room, answer, line_of)
+        };
+        let mut properties = Properties::new(ask, line_of, Random::new(1));
+        let fault = properties.check(3, &Text::new(b"(a,b)"), 0);
+        assert_eq!(fault.unwrap().property, Property::ReadByThePort);
+    }
+
+    #[test]
+    fn what_a_call_may_not_do_is_found() {
+        // Writes on a refusal, writes behind the line, forgets a number.
+        let writes: Ask = |call, kind, text, at, room, answer| {
+            let result = port(call, (kind, text, at), room, answer, line_of);
+            if result != 0 && !room.is_empty() {
+                room[0] = room[0].wrapping_add(1);
+            }
+            result
+        };
+        let writes_behind: Ask = |call, kind, text, at, room, answer| {
+            let result = port(call, (kind, text, at), room, answer, line_of);
+            let length = answer[0] as usize;
+            if result == 0 && room.len() > length {
+                room[length] = room[length].wrapping_add(1);
+            }
+            result
+        };
+        let forgets: Ask = |call, kind, text, at, room, answer| {
+            let last = answer[5];
+            let result = port(call, (kind, text, at), room, answer, line_of);
+            answer[5] = last;
+            result
+        };
+        for ask in [writes, writes_behind, forgets] {
+            assert_eq!(broken((ask, line_of)), Some(Property::Displayed));
+        }
+    }
+
+    #[test]
+    fn pairs() {
+        let (ask, show) = shown_by!(line_of);
+        let mut properties = Properties::new(ask, show, Random::new(1));
+        for text in ["a", "(a)", "a<>", "b", "(a,b)"] {
+            let fault = properties.check(3, &Text::new(text.as_bytes()), 0);
+            assert!(fault.is_none());
+        }
+        assert_eq!(properties.pairs(), (10, 3));
+        assert_eq!(properties.lines(), 3);
+        assert_eq!(properties.tally.read_back, 3);
+    }
+}

@@ -1,0 +1,54 @@
+//! The port's calls on items, read and display, through its C interface. Programs that
+//! link the static library include this file as a module.
+
+use oracle::answer::ItemCall;
+
+#[link(name = "station", kind = "static")]
+extern "C" {
+    pub fn movesig_read(
+        kind: u64,
+        text: *const u8,
+        len: usize,
+        at: usize,
+        out: *mut u8,
+        room: usize,
+        answer: *mut u64,
+    ) -> u32;
+    pub fn movesig_display(
+        kind: u64,
+        text: *const u8,
+        len: usize,
+        at: usize,
+        line: *mut u8,
+        room: usize,
+        answer: *mut u64,
+    ) -> u32;
+}
+
+/// Makes the call, lending it the room.
+pub fn ask(
+    call: ItemCall,
+    kind: u64,
+    text: &[u8],
+    at: usize,
+    room: &mut [u8],
+    answer: &mut [u64; 6],
+) -> u32 {
+    let ask = match call {
+        ItemCall::Read => movesig_read,
+        ItemCall::Display => movesig_display,
+    };
+    // A text of no bytes may lie anywhere: here something to read lies there.
+    let place = if text.is_empty() { b"a" } else { text };
+    unsafe {
+        ask(
+            kind,
+            place.as_ptr(),
+            text.len(),
+            at,
+            room.as_mut_ptr(),
+            room.len(),
+            answer.as_mut_ptr(),
+        )
+    }
+}
