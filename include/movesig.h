@@ -1,29 +1,65 @@
-/* The calls of the Move signature reader. See README.md.
+/* The calls of the Move signature reader, for C and C++. See README.md.
  *
- * Every call takes a text of `len` bytes and a start offset `at`, writes all six numbers of
- * `answer` and returns 0 or the number of a refusal. No call allocates, keeps state, reads past
- * the text or fails in any other way. A `text` of length 0 may be any pointer but a null one.
+ * Four calls read a text of Move source: the next token, the next doc comment, an item as a stored
+ * tree, an item as one line. They are proved: each answers every text, every offset and every buffer
+ * as the definitions in crates/ say, stays inside the buffers it is lent, and returns.
  *
- * A refusal answers { start, end, second start, second end, 0, 0 }: the span it is about, and a
- * second span, which is the first one again unless named below. Spans count bytes from 0, and
- * `end` is the first byte behind. The numbers:
- *   1  the text is longer than 65,535 bytes          (0, 0)
- *   2  `at` is past the text's end                   (0, 0)
- *   3  the number is no kind of item                 (0, 0)
- *   4  the answer is longer than the room lent, or
- *      than 65,535 bytes                             (0, 0)
- *   5  no token starts with this byte                (s, s)
- *   6  a block comment is not closed                 the innermost opener still open
- *   7  x" without a closing quote in its line        from the token to the end of its line
- *   8  b" without a closing quote in its line        from the token to the end of its line
- *   9  a byte of 128 or more in a closed string      the first such byte
- *  10  another token was due                         the token; second, where a name begins with a
- *                                                    number and no `::` follows: the number
- *  11  a comma where an item of a list was due       (s, s)
- *  12  neither a comma nor the closing token behind
- *      an item of a list                             (s, s) of the token; second: (o, o) of the opening one
- *  13  no value                                      the token
- *  14  more than 64 levels                           the token
+ * WHAT EVERY CALL DOES
+ *
+ * It takes a text of `len` bytes at `text`, any bytes at all, and an offset `at` from which it reads.
+ * It returns 0 where it accepts, else the number of a refusal, and writes all six numbers of `answer`.
+ * No call allocates, keeps state between calls, writes elsewhere, prints, sets errno, reads past the
+ * text or fails in any other way. Calls may run on several threads at once.
+ *
+ * WHAT THE CALLER SEES TO
+ *
+ * - `text` points to `len` bytes that nobody writes during the call; `answer` to six numbers, aligned
+ *   as uint64_t is; `out` and `line` to `room` bytes.
+ * - `text`, `answer` and the buffer do not overlap.
+ * - No pointer is null, also where `len` or `room` is 0; then it may be any other pointer.
+ * - The stack has room for the call: 128 KB are enough (the most that was measured is about half).
+ *
+ * LIMITS
+ *
+ * A text has at most MOVESIG_LONGEST (65,535) bytes, and so have a tree and a line. An item has at most
+ * MOVESIG_LEVELS (64) levels. A tree has at most 24 bytes for each byte of text that was read.
+ *
+ * SPANS
+ *
+ * A span is a start and an end, counted in bytes from the first byte of the text, which is 0. `end` is
+ * the first byte behind the span. Where start and end are equal the span is a place between two bytes.
+ *
+ * REFUSALS
+ *
+ * A refused call answers { start, end, second start, second end, 0, 0 }: the span it is about, and a
+ * second span, which is the first one again unless the list names another. It leaves the buffer that it
+ * was lent as it was, every byte. (s, s) stands for a span without length at the byte or token meant.
+ *
+ * number  when                                                  span
+ *   By what the caller asked:
+ *   1     the text is longer than 65,535 bytes                  (0, 0)
+ *   2     `at` is past the text's end (`at` = `len` is not)     (0, 0)
+ *   3     `kind` is no kind of item                             (0, 0)
+ *   4     the item is accepted, but its tree (movesig_read) or
+ *         its line (movesig_display) is longer than `room` or
+ *         than 65,535 bytes                                     (0, 0)
+ *   By the text:
+ *   5     no token starts with this byte                        (s, s) at the byte
+ *   6     a block comment is not closed                         the innermost opener still open: 3 bytes
+ *                                                               for a doc comment's, else 2
+ *   7     x" without a closing quote in its line                from the token to the end of its line
+ *   8     b" without a closing quote in its line                from the token to the end of its line
+ *   9     a byte of 128 or more in a closed string              the first such byte
+ *  10     another token was due                                 the token that stands there;
+ *                                                               second, where a name begins with a number
+ *                                                               and no `::` follows: the number
+ *  11     a comma where an item of a list was due               (s, s) at the comma
+ *  12     neither a comma nor the closing token behind an item  (s, s) at the token that stands there;
+ *         of a list                                             second: (o, o) at the list's first byte
+ *  13     no value (a number before `::` is none either)        the token
+ *  14     more than 64 levels                                   the first token of the item at level 65
+ *
+ * They are tried in this order: 1, 2, 3; then 5 to 14, whichever is met first in reading; 4 last.
  */
 #ifndef MOVESIG_H
 #define MOVESIG_H
@@ -35,22 +71,177 @@
 extern "C" {
 #endif
 
-/* The next token from `at` on: { kind, start, end, 0, 0, 0 }. Kinds are numbered from 0, EOF, to
- * 67, AtSign, in the order of `Tok` of the Move compiler's lexer. Refusals 1, 2 and 5 to 9. */
+/* The most bytes of a text, of a tree and of a line. A buffer longer than this never changes an answer. */
+#define MOVESIG_LONGEST 65535
+
+/* The most levels of an item. */
+#define MOVESIG_LEVELS 64
+
+/* What a call returns. */
+enum movesig_result {
+    MOVESIG_ACCEPTED = 0,
+    MOVESIG_TEXT_TOO_LONG = 1,
+    MOVESIG_START_PAST_END = 2,
+    MOVESIG_NO_SUCH_KIND = 3,
+    MOVESIG_NO_ROOM = 4,
+    MOVESIG_NO_TOKEN = 5,
+    MOVESIG_COMMENT_NOT_CLOSED = 6,
+    MOVESIG_HEX_STRING_NOT_CLOSED = 7,
+    MOVESIG_BYTE_STRING_NOT_CLOSED = 8,
+    MOVESIG_STRING_NOT_ASCII = 9,
+    MOVESIG_UNEXPECTED_TOKEN = 10,
+    MOVESIG_COMMA_FOR_ITEM = 11,
+    MOVESIG_LIST_NOT_CLOSED = 12,
+    MOVESIG_NO_VALUE = 13,
+    MOVESIG_TOO_DEEP = 14
+};
+
+/* The kinds of items, for movesig_read and movesig_display. */
+enum movesig_item {
+    MOVESIG_NAME = 1,      /* a, a::b, a::b::c; the first part may be a number */
+    MOVESIG_VALUE = 2,     /* @0x1, @a, 1, 1u8, true, false, x"00", b"text" */
+    MOVESIG_TYPE = 3,      /* a::b<T>, &T, &mut T, (), (T, U), |T, U| V */
+    MOVESIG_BIND_LIST = 4, /* x, or (x, S {f: y}) */
+    MOVESIG_LAMBDA_BIND_LIST = 5 /* |x, y| */
+};
+
+/* The next token from `at` on, behind blanks and comments. Accepted: { kind, start, end, 0, 0, 0 },
+ * the kind as in enum movesig_token. At the end of the text it is MOVESIG_EOF at (len, len), each time.
+ * Every other token has at least one byte, so asking again from `end` comes to the end.
+ * Refusals 1, 2 and 5 to 9. */
 uint32_t movesig_next_token(const uint8_t *text, size_t len, size_t at, uint64_t answer[6]);
 
-/* The first doc comment in the gap from `at` on: { 1, start, end, text start, text end, 0 }, or
- * { 0, 0, 0, 0, 0, 0 } where there is none. Refusals 1, 2 and 6. */
+/* The first doc comment among the blanks and comments from `at` on, up to the next token. Accepted:
+ * { 1, start, end, text start, text end, 0 }, the comment and its text, or { 0, 0, 0, 0, 0, 0 } where
+ * there is none. Asking again from `end` gives the next one of the same gap. Refusals 1, 2 and 6; where
+ * a doc comment stands before a comment that is not closed, the doc comment is the answer. */
 uint32_t movesig_next_comment(const uint8_t *text, size_t len, size_t at, uint64_t answer[6]);
 
-/* Reads the item of the kind from `at` on: 1 a name, 2 a value, 3 a type, 4 a binding list, 5 a lambda's
- * binding list. Writes its tree into the `room` bytes at `out` and answers { length of the tree, kind,
- * start and end of the token that follows, 0, 0 }. A tree is its records: length with its children,
- * kind, start and end in two bytes each, the low one first, then the children. Bytes of `out` past the
- * tree stay as they are, and all of them where the call is refused. `out`, `answer` and `text` may not
- * overlap; an `out` of room 0 may be any pointer but a null one. Refusals 1 to 14. */
+/* Reads the item of the kind (enum movesig_item) from `at` on and writes its tree into the first bytes
+ * of the `room` bytes at `out`. Accepted: { length of the tree, kind, start and end of the token that
+ * follows the item, 0, 0 }, the token's kind as in enum movesig_token. Bytes of `out` past the tree stay
+ * as they are. Refusals 1 to 14.
+ *
+ * The tree is one record with its children: two bytes each, the low one first, for the length of the
+ * record with all its children, for its kind (enum movesig_record), its start and its end; then the
+ * children, each a record again. */
 uint32_t movesig_read(uint64_t kind, const uint8_t *text, size_t len, size_t at, uint8_t *out, size_t room,
                       uint64_t answer[6]);
+
+/* Writes the item of the kind (enum movesig_item) from `at` on as one line, without a line end, into the
+ * first bytes of the `room` bytes at `line`. Accepted: { length of the line, 0, 0, 0, 0, 0 }. Bytes of
+ * `line` past the line stay as they are. Refused as movesig_read is, but with 4 by the line's length
+ * alone, not the tree's. The line is of ASCII bytes; a control byte can stand in it only inside a string,
+ * and a line feed nowhere. Where the item's tree is accepted too, the line read from 0 as the same kind
+ * gives the same tree but for the spans, and itself as its line.
+ *
+ * Leaves stand as spelled; then `@0x1`, `a::b`, `T<a, b>`, `& T`, `&mut T`, `()`, `(a, b)`, `|a, b| r`,
+ * `| | r` without arguments, and `(|a| b)` where a function type is directly an argument of another;
+ * bindings `x`, `S {f: x, g: y}`, `S<u8> {f: x}`; the lists `(x, y)` and `|x, y|`, empty `()` and `| |`. */
+uint32_t movesig_display(uint64_t kind, const uint8_t *text, size_t len, size_t at, uint8_t *line, size_t room,
+                         uint64_t answer[6]);
+
+/* The kinds of records of a tree. Behind each its children in order; `leaf` has none, and its spelling is
+ * the bytes of its span. `first` is an address or a name; a chain is one of 3 to 5; a type one of 10 to
+ * 15; a binding one of 20 to 22. */
+enum movesig_record {
+    MOVESIG_REC_NAME = 1,               /* leaf */
+    MOVESIG_REC_ADDRESS = 2,            /* leaf: a number as a name's first part or behind `@` */
+    MOVESIG_REC_ONE_PART = 3,           /* leaf: the chain `a` */
+    MOVESIG_REC_TWO_PART = 4,           /* first, name: the chain `a::b` */
+    MOVESIG_REC_THREE_PART = 5,         /* pair, name: the chain `a::b::c` */
+    MOVESIG_REC_PAIR = 6,               /* first, name: the `a::b` of `a::b::c` */
+    MOVESIG_REC_TYPE = 10,              /* chain, then its types: `a`, `a<T, U>` */
+    MOVESIG_REC_REF = 11,               /* type: `&T` */
+    MOVESIG_REC_REF_MUT = 12,           /* type: `&mut T` */
+    MOVESIG_REC_FUNCTION = 13,          /* types, the result last: `|T, U| V` */
+    MOVESIG_REC_UNIT = 14,              /* none, and no spelling: `()` */
+    MOVESIG_REC_TUPLE = 15,             /* two types or more: `(T, U)` */
+    MOVESIG_REC_VARIABLE = 20,          /* leaf: `x` */
+    MOVESIG_REC_STRUCT = 21,            /* chain, then its fields: `S {f: x}` */
+    MOVESIG_REC_STRUCT_TYPED = 22,      /* chain, then its types, then its fields: `S<T> {f: x}` */
+    MOVESIG_REC_FIELD = 24,             /* name, binding: `f: x`, also where `f` alone is written */
+    MOVESIG_REC_BIND_LIST = 25,         /* bindings: `(x, y)` */
+    MOVESIG_REC_LAMBDA_BIND_LIST = 26,  /* bindings: `|x, y|` */
+    MOVESIG_REC_ADDRESS_VALUE = 30,     /* first: `@0x1` */
+    MOVESIG_REC_NUMBER = 31,            /* leaf */
+    MOVESIG_REC_TRUE = 32,              /* leaf */
+    MOVESIG_REC_FALSE = 33,             /* leaf */
+    MOVESIG_REC_HEX_STRING = 34,        /* leaf */
+    MOVESIG_REC_BYTE_STRING = 35        /* leaf */
+};
+
+/* The kinds of tokens, in the order of `Tok` of the Move compiler's lexer. */
+enum movesig_token {
+    MOVESIG_EOF = 0, /* the end of the text */
+    MOVESIG_NUM_VALUE = 1, /* 1, 0x1f */
+    MOVESIG_NUM_TYPED_VALUE = 2, /* 1u8, 0x1fu64 */
+    MOVESIG_BYTE_STRING_VALUE = 3, /* x"00", b"text" */
+    MOVESIG_IDENTIFIER = 4,
+    MOVESIG_EXCLAIM = 5, /* ! */
+    MOVESIG_EXCLAIM_EQUAL = 6, /* != */
+    MOVESIG_PERCENT = 7, /* % */
+    MOVESIG_AMP = 8, /* & */
+    MOVESIG_AMP_AMP = 9, /* && */
+    MOVESIG_AMP_MUT = 10, /* &mut and one space, which belongs to it */
+    MOVESIG_L_PAREN = 11, /* ( */
+    MOVESIG_R_PAREN = 12, /* ) */
+    MOVESIG_L_BRACKET = 13, /* [ */
+    MOVESIG_R_BRACKET = 14, /* ] */
+    MOVESIG_STAR = 15, /* * */
+    MOVESIG_PLUS = 16, /* + */
+    MOVESIG_COMMA = 17, /* , */
+    MOVESIG_MINUS = 18, /* - */
+    MOVESIG_PERIOD = 19, /* . */
+    MOVESIG_PERIOD_PERIOD = 20, /* .. */
+    MOVESIG_SLASH = 21, /* / */
+    MOVESIG_COLON = 22, /* : */
+    MOVESIG_COLON_COLON = 23, /* :: */
+    MOVESIG_SEMICOLON = 24, /* ; */
+    MOVESIG_LESS = 25, /* < */
+    MOVESIG_LESS_EQUAL = 26, /* <= */
+    MOVESIG_LESS_LESS = 27, /* << */
+    MOVESIG_EQUAL = 28, /* = */
+    MOVESIG_EQUAL_EQUAL = 29, /* == */
+    MOVESIG_EQUAL_EQUAL_GREATER = 30, /* ==> */
+    MOVESIG_LESS_EQUAL_EQUAL_GREATER = 31, /* <==> */
+    MOVESIG_GREATER = 32, /* > */
+    MOVESIG_GREATER_EQUAL = 33, /* >= */
+    MOVESIG_GREATER_GREATER = 34, /* >> */
+    MOVESIG_CARET = 35, /* ^ */
+    MOVESIG_ABORT = 36, /* the keywords, as they are spelled: abort */
+    MOVESIG_ACQUIRES = 37,
+    MOVESIG_AS = 38,
+    MOVESIG_BREAK = 39,
+    MOVESIG_CONTINUE = 40,
+    MOVESIG_COPY = 41,
+    MOVESIG_ELSE = 42,
+    MOVESIG_FALSE = 43,
+    MOVESIG_IF = 44,
+    MOVESIG_INVARIANT = 45,
+    MOVESIG_LET = 46,
+    MOVESIG_LOOP = 47,
+    MOVESIG_MODULE = 48,
+    MOVESIG_MOVE = 49,
+    MOVESIG_NATIVE = 50,
+    MOVESIG_PUBLIC = 51,
+    MOVESIG_RETURN = 52,
+    MOVESIG_SPEC = 53,
+    MOVESIG_STRUCT = 54,
+    MOVESIG_TRUE = 55,
+    MOVESIG_USE = 56,
+    MOVESIG_WHILE = 57,
+    MOVESIG_L_BRACE = 58, /* { */
+    MOVESIG_PIPE = 59, /* | */
+    MOVESIG_PIPE_PIPE = 60, /* || */
+    MOVESIG_R_BRACE = 61, /* } */
+    MOVESIG_FUN = 62,
+    MOVESIG_SCRIPT = 63,
+    MOVESIG_CONST = 64,
+    MOVESIG_FRIEND = 65,
+    MOVESIG_NUM_SIGN = 66, /* # */
+    MOVESIG_AT_SIGN = 67 /* @ */
+};
 
 #ifdef __cplusplus
 }

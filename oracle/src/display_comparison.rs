@@ -81,7 +81,7 @@ fn families(displays: &mut Displays, size: &Size) {
         (
             "variants of items of 1 to 3 levels",
             51,
-            size.of(400_000, 6_000),
+            size.of(800_000, 6_000),
             3,
         ),
         (

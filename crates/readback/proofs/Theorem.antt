@@ -2,15 +2,15 @@
 -- Assumes nothing.
 use mathlib.Core.Path.{_≡_, refl, subst, sym, ap, _∙_}
 use mathlib.Core.Logic.{_↔_}
-use mathlib.Core.List.{List}
+use mathlib.Core.List.{List, _++_}
 use Prim.Native.Nat.{ℕ, _≤_}
 use native.Mathlib.Omega.{arith}
-use lib.ListN.{length}
+use lib.ListN.{length, drop}
 use Rattle.tokens.specs.declared.Token.{Token}
 use Rattle.records.specs.Tree.{Tree, build}
 use Rattle.records.specs.Stored.{stored}
 use Rattle.reader.specs.Items.{Item, item, refused, readItem}
-use Rattle.reader.specs.Calls.{read, readNumber, readValues}
+use Rattle.reader.specs.Calls.{read, readBuffer, written, readNumber, readValues}
 use Rattle.reader.proofs.Room.{roomed-fits}
 use Rattle.lines.specs.Line.{shown}
 use Rattle.display.specs.Calls.{display, displayNumber, displayValues}
@@ -29,6 +29,11 @@ lines-builds i j t u n m k a b =
       λ e. l ∙ same-shown t u e ∙ sym r,
     )
 
+-- what an accepted read writes
+tree-written : (j : Lent) (t : Tree) (n : Token) → readOf j ≡ item t n → readBuffer (j .kind) (j .text) (j .at) (j .forTree) ≡ stored t ++ drop (length (stored t)) (j .forTree)
+unfolding readBuffer written
+tree-written j t n e = rw e
+
 -- every accepted item's line, read back from 0 as that kind, is accepted to its last byte, with the same build and the same line, in any
 -- buffers that are as long as the item's tree and line
 pub reads-back : (i : Lent) (t : Tree) (n : Token) → Accepted i t n → (out lineOut : List ℕ) → treeLength i ≤ length out → lineLength i ≤ length lineOut → ReadBack i t (lineBack i out lineOut)
@@ -36,8 +41,10 @@ reads-back i t n a out lineOut g h =
     let j : Lent = lineBack i out lineOut in
     let d = known i t n a .isShown in
     let b = lined i t n a out lineOut g h in
+    let s : length (stored (b .tree)) ≡ treeLength i = same-size (b .tree) t (b .sameBuild) ∙ sym (tree-length i t n (a .isRead)) in
     record {
       tree = b .tree;
+      treeWritten = tree-written j (b .tree) _ (b .isRead) ∙ rw s;
       accepted = record { isRead = b .isRead; isShown = subst NotRefused (sym (b .isShown)) tt };
       sameBuild = b .sameBuild;
       sameLine = line-is j (b .tree) _ (b .isShown) ∙ same-shown (b .tree) t (b .sameBuild) ∙ sym (line-is i t n d);

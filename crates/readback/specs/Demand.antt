@@ -9,7 +9,8 @@ use Rattle.tokens.specs.declared.Token.{Token}
 use Rattle.records.specs.Tree.{Tree, build}
 use Rattle.names.specs.Reading.{eofTok}
 use Rattle.reader.specs.Items.{Item, item, refused}
-use Rattle.reader.specs.Calls.{read, readNumber, readValues}
+use Rattle.records.specs.Stored.{stored}
+use Rattle.reader.specs.Calls.{read, readBuffer, readNumber, readValues}
 use Rattle.display.specs.Calls.{display, displayBuffer, displayNumber, displayValues}
 
 -- an item is a text, a start offset and an item kind; with it come the buffers lent to its read and to its display
@@ -58,11 +59,12 @@ abbrev pub eofAt : ℕ → Token
 eofAt n = token eofTok n n
 
 -- the line of i, whose tree is t, is read back as j: accepted to its last byte, since the token that follows is EOF at (n,n), n being the
--- line's length; with the same build and the same line, and with as much room taken by both
+-- line's length; with the same build and the same line, the tree's records in front of the buffer, and with as much room taken by both
 pub record ReadBack (i : Lent) (t : Tree) (j : Lent) : Type 0 where
   pub tree : Tree
   pub accepted : Accepted j tree (eofAt (length (lineOf i)))
   pub sameBuild : build tree ≡ build t
+  pub treeWritten : readBuffer (j .kind) (j .text) (j .at) (j .forTree) ≡ stored tree ++ drop (treeLength i) (j .forTree)
   pub sameLine : lineOf j ≡ lineOf i
   pub sameTreeLength : treeLength j ≡ treeLength i
   pub sameLineLength : lineLength j ≡ lineLength i

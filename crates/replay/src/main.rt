@@ -2,8 +2,9 @@
 // those that the calls answer otherwise. A line of the sample is one call, single blanks between:
 // - `t` for the token call or `c` for the comment call, the start offset, the result, the six numbers
 //   of the answer and the text;
-// - `r` for the read call, the item kind, the start offset, the room lent, the result, the six
-//   numbers, the text and the bytes that must be written.
+// - `r` for the read call or `d` for the display call, the item kind, the start offset, the room
+//   lent, the result, the six numbers, the text and the bytes that must be written: the tree or the
+//   display line.
 // Texts and bytes are in hexadecimal, `-` for none.
 ghost use Prim.Native.Nat.{_≤_, _<_};
 ghost use lib.ListN.{length};
@@ -132,13 +133,21 @@ fn expected_at(line: &[u8], at: usize) -> Expected
     }
 }
 
+// Whether the call is one that is made of an item: a read or a display.
+fn is_of_item(call: u8) -> bool {
+    if call == b'r' {
+        return true;
+    }
+    call == b'd'
+}
+
 // Whether the line's call is answered as the line says.
 fn holds(line: &[u8]) -> bool {
     if line.len() < 2 {
         return false;
     }
-    if line[0] == b'r' {
-        return read_holds(line);
+    if is_of_item(line[0]) {
+        return item_holds(line);
     }
     let at = field_at(line, 2);
     let due = expected_at(line, at.next);
@@ -169,8 +178,8 @@ fn as_due(r: u32, answer: &[u64; 6], due: Expected) -> bool {
     same(answer, &due.values)
 }
 
-// Whether the line's read is answered as the line says.
-fn read_holds(line: &[u8]) -> bool
+// Whether the line's read or display is answered as the line says.
+fn item_holds(line: &[u8]) -> bool
     requires { ⌜ 2 ≤ length (now line) ⌝ }
 {
     let kind = field_at(line, 2);
@@ -183,26 +192,28 @@ fn read_holds(line: &[u8]) -> bool
     }
     let mut text = [0u8; 512];
     let n = decode(line, due.next, e, &mut text);
-    let mut tree = [0u8; 2048];
-    let m = decode(line, e + 1, line.len(), &mut tree);
-    read_answers(
+    let mut bytes = [0u8; 2048];
+    let m = decode(line, e + 1, line.len(), &mut bytes);
+    item_answers(
+        line[0],
         kind.value,
         &text[..n],
         at.value as usize,
         room.value as usize,
         due,
-        &tree[..m],
+        &bytes[..m],
     )
 }
 
-// Whether the read gives this result, these numbers and these bytes, and leaves all others alone.
-fn read_answers(
+// Whether the call gives this result, these numbers and these bytes, and leaves all others alone.
+fn item_answers(
+    call: u8,
     kind: u64,
     text: &[u8],
     at: usize,
     room: usize,
     due: Expected,
-    tree: &[u8],
+    bytes: &[u8],
 ) -> bool {
     if 2048 < room {
         return false;
@@ -210,14 +221,29 @@ fn read_answers(
     let mut out = [0u8; 2048];
     fill(&mut out);
     let mut answer = [77u64; 6];
-    let r = station::movesig_read(kind, text, at, &mut out[..room], &mut answer);
+    let r = item_result(call, kind, text, at, &mut out[..room], &mut answer);
     if !as_due(r, &answer, due) {
         return false;
     }
-    as_written(&out, tree)
+    as_written(&out, bytes)
 }
 
-// The byte that stands at place i of the buffer before a read.
+// Makes the call that the letter names, a display for `d` and else a read.
+fn item_result(
+    call: u8,
+    kind: u64,
+    text: &[u8],
+    at: usize,
+    out: &mut [u8],
+    answer: &mut [u64; 6],
+) -> u32 {
+    if call == b'd' {
+        return station::movesig_display(kind, text, at, out, answer);
+    }
+    station::movesig_read(kind, text, at, out, answer)
+}
+
+// The byte that stands at place i of the buffer before a call.
 fn byte_before(i: usize) -> u8 {
     200 + (i % 31) as u8
 }
@@ -230,19 +256,19 @@ fn fill(out: &mut [u8]) {
     }
 }
 
-// The byte that must stand at place i after a read that writes the tree.
-fn byte_after(tree: &[u8], i: usize) -> u8 {
-    if i < tree.len() {
-        return tree[i];
+// The byte that must stand at place i after a call that writes these bytes.
+fn byte_after(bytes: &[u8], i: usize) -> u8 {
+    if i < bytes.len() {
+        return bytes[i];
     }
     byte_before(i)
 }
 
-// Whether the tree stands at the buffer's start and every byte behind it is as it was before.
-fn as_written(out: &[u8], tree: &[u8]) -> bool {
+// Whether the bytes stand at the buffer's start and every byte behind them is as it was before.
+fn as_written(out: &[u8], bytes: &[u8]) -> bool {
     let mut i = 0;
     while i < out.len() {
-        if out[i] != byte_after(tree, i) {
+        if out[i] != byte_after(bytes, i) {
             return false;
         }
         i += 1;

@@ -5,10 +5,10 @@ use Rattle.replay.proofs.as_written.Statement.{statement}
 use Rattle.replay.proofs.as_written.Tie as tie
 
 abbrev Inv-loop : tie.InvT-loop
-Inv-loop out tree i₀ i = Unit {0}
+Inv-loop out bytes i₀ i = Unit {0}
 
 abbrev μ-loop : tie.MeasureT-loop
-μ-loop out tree i₀ i = length out - i
+μ-loop out bytes i₀ i = length out - i
 
 loop-holds : tie.Need-loop-holds Inv-loop μ-loop
 loop-holds c = search needs

@@ -7,11 +7,14 @@ use Rattle.replay.proofs.holds.Tie as tie
 returns : tie.Need-returns
 returns c = search needs
 
-shared-slice-read-if2 : tie.Need-shared-slice-read-if2
-shared-slice-read-if2 c = search needs
+shared-slice-read-is-of-item : tie.Need-shared-slice-read-is-of-item
+shared-slice-read-is-of-item c = search needs
 
-read-holds-requires : tie.Need-read-holds-requires
-read-holds-requires c κs = search needs
+is-of-item-requires : tie.Need-is-of-item-requires
+is-of-item-requires c κs = search needs
+
+item-holds-requires : tie.Need-item-holds-requires
+item-holds-requires c κs = search needs
 
 returns-2 : tie.Need-returns-2
 returns-2 c = search needs
@@ -48,8 +51,9 @@ holds-spec =
     tie.close
     (tie.spec
     returns
-    shared-slice-read-if2
-    read-holds-requires
+    shared-slice-read-is-of-item
+    is-of-item-requires
+    item-holds-requires
     returns-2
     field-at-requires
     expected-at-requires

@@ -5,8 +5,8 @@ use lib.ListN.{length, drop, take, length-append, length-drop}
 use lib.Seq.{length-take-le}
 use native.Mathlib.Omega.{arith}
 use borrow.Author.Needs.{needs}
-use Rattle.replay.proofs.read_answers.Statement.{statement}
-use Rattle.replay.proofs.read_answers.Tie as tie
+use Rattle.replay.proofs.item_answers.Statement.{statement}
+use Rattle.replay.proofs.item_answers.Tie as tie
 
 -- A buffer whose front is written anew with as many bytes has the length that it had.
 patched : (n room : ℕ) (front base : List ℕ) → length front ≡ length (take room base) → room ≤ length base → n ≡ length base → n ≡ length (front ++ drop room base)
@@ -24,11 +24,11 @@ fill-requires c κs = search needs
 array-borrow-prefix-out : tie.Need-array-borrow-prefix-out
 array-borrow-prefix-out c = search needs
 
-slice-aggregate-movesig-read : tie.Need-slice-aggregate-movesig-read
-slice-aggregate-movesig-read c = sym (length-take-le (c .before .before .before .before .before .before .before .args .room) (c .before .before .fill .last .0) (omega (arith, c .before .before .fill .kept .0, c .before .before .before .before .if1 .left)))
+slice-aggregate-item-result : tie.Need-slice-aggregate-item-result
+slice-aggregate-item-result c = sym (length-take-le (c .before .before .before .before .before .before .before .args .room) (c .before .before .fill .last .0) (omega (arith, c .before .before .fill .kept .0, c .before .before .before .before .if1 .left)))
 
-movesig-read-requires : tie.Need-movesig-read-requires
-movesig-read-requires c κs = search needs
+item-result-requires : tie.Need-item-result-requires
+item-result-requires c κs = search needs
 
 as-due-requires : tie.Need-as-due-requires
 as-due-requires c κs = search needs
@@ -37,7 +37,7 @@ returns-2 : tie.Need-returns-2
 returns-2 c = search needs
 
 slice-aggregate-as-written : tie.Need-slice-aggregate-as-written
-slice-aggregate-as-written c = patched 2048 (c .before .before .before .before .before .before .before .before .before .before .before .before .before .before .args .room) (c .before .before .before .before .before .movesig-read .last .1 .1 .1 .0) (c .before .before .before .before .before .before .before .before .before .fill .last .0) (c .before .before .before .before .before .movesig-read .kept .1 .1 .1 .0) (omega (arith, c .before .before .before .before .before .before .before .before .before .fill .kept .0, c .before .before .before .before .before .before .before .before .before .before .before .if1 .left)) (omega (arith, c .before .before .before .before .before .before .before .before .before .fill .kept .0))
+slice-aggregate-as-written c = patched 2048 (c .before .before .before .before .before .before .before .before .before .before .before .before .before .before .args .room) (c .before .before .before .before .before .item-result .last .1 .1 .1 .1 .0) (c .before .before .before .before .before .before .before .before .before .fill .last .0) (c .before .before .before .before .before .item-result .kept .1 .1 .1 .1 .0) (omega (arith, c .before .before .before .before .before .before .before .before .before .fill .kept .0, c .before .before .before .before .before .before .before .before .before .before .before .if1 .left)) (omega (arith, c .before .before .before .before .before .before .before .before .before .fill .kept .0))
 
 as-written-requires : tie.Need-as-written-requires
 as-written-requires c κs = search needs
@@ -45,16 +45,16 @@ as-written-requires c κs = search needs
 returns-3 : tie.Need-returns-3
 returns-3 c = search needs
 
-pub read-answers-spec : {M : Type 1} → statement M
-read-answers-spec =
+pub item-answers-spec : {M : Type 1} → statement M
+item-answers-spec =
     tie.close
     (tie.spec
     returns
     slice-aggregate-fill
     fill-requires
     array-borrow-prefix-out
-    slice-aggregate-movesig-read
-    movesig-read-requires
+    slice-aggregate-item-result
+    item-result-requires
     as-due-requires
     returns-2
     slice-aggregate-as-written

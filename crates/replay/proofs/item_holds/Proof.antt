@@ -1,8 +1,8 @@
 use mathlib.Core.Path.{sym}
 use lib.Seq.{length-take-le}
 use borrow.Author.Needs.{needs}
-use Rattle.replay.proofs.read_holds.Statement.{statement}
-use Rattle.replay.proofs.read_holds.Tie as tie
+use Rattle.replay.proofs.item_holds.Statement.{statement}
+use Rattle.replay.proofs.item_holds.Tie as tie
 
 field-at-requires : tie.Need-field-at-requires
 field-at-requires c κs = search needs
@@ -37,26 +37,29 @@ slice-aggregate-decode-2 c = search needs
 decode-requires-2 : tie.Need-decode-requires-2
 decode-requires-2 c κs = search needs
 
+shared-slice-read-item-answers : tie.Need-shared-slice-read-item-answers
+shared-slice-read-item-answers c = search needs
+
 array-share-prefix-text : tie.Need-array-share-prefix-text
 array-share-prefix-text c = search needs
 
-slice-aggregate-read-answers : tie.Need-slice-aggregate-read-answers
-slice-aggregate-read-answers c = sym (length-take-le (c .before .before .before .before .before .decode .result) (c .before .before .before .before .before .decode .last .1 .1 .1 .0) (c .before .before .before .before .before .decode .ensures))
+slice-aggregate-item-answers : tie.Need-slice-aggregate-item-answers
+slice-aggregate-item-answers c = sym (length-take-le (c .before .before .before .before .before .before .decode .result) (c .before .before .before .before .before .before .decode .last .1 .1 .1 .0) (c .before .before .before .before .before .before .decode .ensures))
 
-array-share-prefix-tree : tie.Need-array-share-prefix-tree
-array-share-prefix-tree c = search needs
+array-share-prefix-bytes : tie.Need-array-share-prefix-bytes
+array-share-prefix-bytes c = search needs
 
-slice-aggregate-read-answers-2 : tie.Need-slice-aggregate-read-answers-2
-slice-aggregate-read-answers-2 c = sym (length-take-le (c .before .before .before .decode2 .result) (c .before .before .before .decode2 .last .1 .1 .1 .0) (c .before .before .before .decode2 .ensures))
+slice-aggregate-item-answers-2 : tie.Need-slice-aggregate-item-answers-2
+slice-aggregate-item-answers-2 c = sym (length-take-le (c .before .before .before .before .decode2 .result) (c .before .before .before .before .decode2 .last .1 .1 .1 .0) (c .before .before .before .before .decode2 .ensures))
 
-read-answers-requires : tie.Need-read-answers-requires
-read-answers-requires c κs = search needs
+item-answers-requires : tie.Need-item-answers-requires
+item-answers-requires c κs = search needs
 
 returns-2 : tie.Need-returns-2
 returns-2 c = search needs
 
-pub read-holds-spec : {M : Type 1} → statement M
-read-holds-spec =
+pub item-holds-spec : {M : Type 1} → statement M
+item-holds-spec =
     tie.close
     (tie.spec
     field-at-requires
@@ -70,9 +73,10 @@ read-holds-spec =
     add-decode
     slice-aggregate-decode-2
     decode-requires-2
+    shared-slice-read-item-answers
     array-share-prefix-text
-    slice-aggregate-read-answers
-    array-share-prefix-tree
-    slice-aggregate-read-answers-2
-    read-answers-requires
+    slice-aggregate-item-answers
+    array-share-prefix-bytes
+    slice-aggregate-item-answers-2
+    item-answers-requires
     returns-2)

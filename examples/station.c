@@ -1,0 +1,91 @@
+/* A station's inner loop, in C and C++: opens a file, lists its tokens, then reads and displays
+ * the type behind each colon. What is refused is shown with its number and place.
+ *
+ *     cc station.c $(pkg-config --cflags --libs movesig) -o station && ./station coin.move
+ */
+#include <movesig.h>
+#include <stdio.h>
+
+/* One byte more than a text may have, so that a longer file is refused and not cut. */
+static uint8_t text[MOVESIG_LONGEST + 1];
+
+/* Lent to every call; no call needs more. */
+static uint8_t tree[MOVESIG_LONGEST];
+static uint8_t line[MOVESIG_LONGEST];
+
+static void show_refusal(uint32_t number, const uint64_t answer[6])
+{
+    printf("refused %u at %u..%u", (unsigned)number, (unsigned)answer[0], (unsigned)answer[1]);
+    if (answer[2] != answer[0] || answer[3] != answer[1])
+        printf(", second place %u..%u", (unsigned)answer[2], (unsigned)answer[3]);
+    printf("\n");
+}
+
+/* A number of two bytes, the low one first. */
+static unsigned two_bytes(const uint8_t *at)
+{
+    return at[0] | (unsigned)at[1] << 8;
+}
+
+/* Reads the type at the offset, shows its records and its line. */
+static void show_type(size_t len, size_t at)
+{
+    uint64_t answer[6];
+    size_t length, record;
+    uint32_t number = movesig_read(MOVESIG_TYPE, text, len, at, tree, sizeof tree, answer);
+    if (number != MOVESIG_ACCEPTED) {
+        show_refusal(number, answer);
+        return;
+    }
+    length = (size_t)answer[0];
+    number = movesig_display(MOVESIG_TYPE, text, len, at, line, sizeof line, answer);
+    if (number != MOVESIG_ACCEPTED) {
+        show_refusal(number, answer);
+        return;
+    }
+    printf("type ");
+    fwrite(line, 1, (size_t)answer[0], stdout);
+    printf("\n");
+    /* A record is eight bytes and its children follow, so this visits each, parents first. */
+    for (record = 0; record < length; record += 8)
+        printf("  record %u at %u..%u\n", two_bytes(tree + record + 2), two_bytes(tree + record + 4),
+               two_bytes(tree + record + 6));
+}
+
+int main(int count, char **words)
+{
+    uint64_t answer[6];
+    size_t len, at;
+    uint32_t number;
+    FILE *file;
+    if (count != 2) {
+        fprintf(stderr, "usage: station FILE\n");
+        return 2;
+    }
+    file = fopen(words[1], "rb");
+    if (file == NULL) {
+        perror(words[1]);
+        return 2;
+    }
+    len = fread(text, 1, sizeof text, file);
+    if (ferror(file)) {
+        perror(words[1]);
+        return 2;
+    }
+    fclose(file);
+
+    /* Token after token, each from where the last one ended. */
+    for (at = 0;; at = (size_t)answer[2]) {
+        number = movesig_next_token(text, len, at, answer);
+        if (number != MOVESIG_ACCEPTED) {
+            show_refusal(number, answer);
+            break;
+        }
+        printf("token %u at %u..%u\n", (unsigned)answer[0], (unsigned)answer[1], (unsigned)answer[2]);
+        if (answer[0] == MOVESIG_EOF)
+            break;
+        if (answer[0] == MOVESIG_COLON)
+            show_type(len, (size_t)answer[2]);
+    }
+    return number == MOVESIG_ACCEPTED ? 0 : 1;
+}

@@ -1,0 +1,66 @@
+//! A station's inner loop: opens a file, lists its tokens, then reads and displays the type
+//! behind each colon. What is refused is shown with its number and place.
+//!
+//!     cargo run --example station -- ../../examples/coin.move
+
+use movesig::{display, read, tokens, Kind, Refusal, TokenKind, Tree, LONGEST};
+use std::{env, fs::File, io::Read, process::ExitCode};
+
+fn main() -> ExitCode {
+    let Some(name) = env::args_os().nth(1) else {
+        eprintln!("usage: station FILE");
+        return ExitCode::from(2);
+    };
+    // One byte more than a text may have, so that a longer file is refused and not cut.
+    let mut text = vec![];
+    let file = File::open(&name).map(|file| file.take(LONGEST as u64 + 1));
+    if let Err(error) = file.and_then(|mut file| file.read_to_end(&mut text)) {
+        eprintln!("{}: {error}", name.to_string_lossy());
+        return ExitCode::from(2);
+    }
+    match show(&text) {
+        Ok(()) => ExitCode::SUCCESS,
+        Err(refusal) => {
+            show_refusal(refusal);
+            ExitCode::FAILURE
+        }
+    }
+}
+
+fn show(text: &[u8]) -> Result<(), Refusal> {
+    // Lent to every call; no call needs more.
+    let mut buffer = vec![0; LONGEST];
+    for token in tokens(text, 0) {
+        let token = token?;
+        println!("token {} at {}", token.kind.number(), token.span);
+        if token.kind == TokenKind::COLON {
+            // One type that is refused does not end the walk.
+            show_type(text, token.span.end, &mut buffer).unwrap_or_else(show_refusal);
+        }
+    }
+    Ok(())
+}
+
+fn show_type(text: &[u8], at: usize, buffer: &mut [u8]) -> Result<(), Refusal> {
+    let line = display(Kind::Type, text, at, buffer)?
+        .escape_ascii()
+        .to_string();
+    let item = read(Kind::Type, text, at, buffer)?;
+    println!("type {line}");
+    show_records(item.tree);
+    Ok(())
+}
+
+fn show_records(tree: Tree) {
+    println!("  record {} at {}", tree.kind().number(), tree.span());
+    tree.children().for_each(show_records);
+}
+
+fn show_refusal(refusal: Refusal) {
+    let (place, second) = (refusal.place(), refusal.second());
+    print!("refused {} at {place}", refusal.number());
+    if second != place {
+        print!(", second place {second}");
+    }
+    println!();
+}

@@ -1,0 +1,142 @@
+//! The unsafe boundary: the C calls of `include/movesig.h`, and one safe function for each.
+//!
+//! Why they are sound. What the header asks of a caller is what Rust's references promise:
+//!
+//! - A slice's pointer is not null, also where the slice is empty, and its length's bytes can
+//!   be read; through `&mut` they can be written too, and they hold some value already.
+//! - Nobody writes the text during the call, since it is lent as `&[u8]`.
+//! - Text, buffer and the six numbers do not overlap, since a `&mut` shuts out every other
+//!   reference to the same bytes.
+//!
+//! And what the calls do is proved (crates/station): for every text, offset, kind number and
+//! buffer they return, read no byte outside the text, write no byte outside the buffer and
+//! the six numbers, write all six, and keep no pointer. So no further test is needed here, and
+//! none is made.
+
+#![allow(unsafe_code)]
+
+#[cfg(test)]
+mod fuzz;
+
+use std::mem::MaybeUninit;
+
+/// Room for the six numbers of an answer. Every call writes them all, so nothing is there before.
+pub(crate) struct Numbers(MaybeUninit<[u64; 6]>);
+
+impl Numbers {
+    #[inline]
+    pub(crate) fn new() -> Numbers {
+        Numbers(MaybeUninit::uninit())
+    }
+
+    /// What a call answered that has written the numbers.
+    ///
+    /// # Safety
+    ///
+    /// A call has written all six.
+    #[inline]
+    unsafe fn answer(&self, result: u32) -> Answer<'_> {
+        Answer {
+            result,
+            // SAFETY: all six are written, as this function asks.
+            numbers: unsafe { self.0.assume_init_ref() },
+        }
+    }
+}
+
+/// What a call answered.
+#[derive(Clone, Copy)]
+pub(crate) struct Answer<'n> {
+    /// 0, or the number of a refusal.
+    pub(crate) result: u32,
+    numbers: &'n [u64; 6],
+}
+
+impl Answer<'_> {
+    /// The number at the index, below 6.
+    #[inline]
+    pub(crate) fn number(self, index: usize) -> usize {
+        self.numbers[index] as usize
+    }
+}
+
+unsafe extern "C" {
+    fn movesig_next_token(text: *const u8, len: usize, at: usize, answer: *mut u64) -> u32;
+    fn movesig_next_comment(text: *const u8, len: usize, at: usize, answer: *mut u64) -> u32;
+    fn movesig_read(
+        kind: u64,
+        text: *const u8,
+        len: usize,
+        at: usize,
+        out: *mut u8,
+        room: usize,
+        answer: *mut u64,
+    ) -> u32;
+    fn movesig_display(
+        kind: u64,
+        text: *const u8,
+        len: usize,
+        at: usize,
+        line: *mut u8,
+        room: usize,
+        answer: *mut u64,
+    ) -> u32;
+}
+
+#[inline]
+pub(crate) fn next_token<'n>(text: &[u8], at: usize, numbers: &'n mut Numbers) -> Answer<'n> {
+    let answer = numbers.0.as_mut_ptr().cast();
+    // SAFETY: pointer and length are one slice's, and `answer` points to six aligned numbers;
+    // both are lent for the call. Any offset may be asked for. The call writes all six numbers.
+    unsafe {
+        let result = movesig_next_token(text.as_ptr(), text.len(), at, answer);
+        numbers.answer(result)
+    }
+}
+
+#[inline]
+pub(crate) fn next_comment<'n>(text: &[u8], at: usize, numbers: &'n mut Numbers) -> Answer<'n> {
+    let answer = numbers.0.as_mut_ptr().cast();
+    // SAFETY: as for `next_token`.
+    unsafe {
+        let result = movesig_next_comment(text.as_ptr(), text.len(), at, answer);
+        numbers.answer(result)
+    }
+}
+
+#[inline]
+pub(crate) fn read<'n>(
+    kind: u64,
+    text: &[u8],
+    at: usize,
+    out: &mut [u8],
+    numbers: &'n mut Numbers,
+) -> Answer<'n> {
+    let answer = numbers.0.as_mut_ptr().cast();
+    let (start, room) = (out.as_mut_ptr(), out.len());
+    // SAFETY: each pointer stands with the length of its own slice, and all are lent for the call;
+    // `out` and `numbers` are `&mut`, so they overlap neither `text` nor each other. Any kind and
+    // any offset may be asked for. Every byte that is written is a valid `u8`, and the call writes
+    // all six numbers.
+    unsafe {
+        let result = movesig_read(kind, text.as_ptr(), text.len(), at, start, room, answer);
+        numbers.answer(result)
+    }
+}
+
+#[inline]
+pub(crate) fn display<'n>(
+    kind: u64,
+    text: &[u8],
+    at: usize,
+    line: &mut [u8],
+    numbers: &'n mut Numbers,
+) -> Answer<'n> {
+    let answer = numbers.0.as_mut_ptr().cast();
+    let (start, room) = (line.as_mut_ptr(), line.len());
+    // SAFETY: as for `read`, with `line` in the place of `out`.
+    unsafe {
+        let result = movesig_display(kind, text.as_ptr(), text.len(), at, start, room, answer);
+        numbers.answer(result)
+    }
+}

@@ -1,0 +1,231 @@
+//! Random texts, lengths, offsets, kinds and rooms, between bytes that must stay as they are.
+//! The boundary is asked and not the crate's own functions, so that kinds that no `Kind` names
+//! are asked too, and every number of an answer is seen.
+
+use super::Numbers;
+use std::mem::MaybeUninit;
+
+/// What a call returned, and its six numbers, which are filled first: one that is not written
+/// shows.
+type Answer = (u32, [usize; 6]);
+
+fn asked(ask: impl FnOnce(&mut Numbers) -> super::Answer<'_>) -> Answer {
+    let mut numbers = Numbers(MaybeUninit::new([0xa5a5_a5a5_a5a5_a5a5; 6]));
+    let answer = ask(&mut numbers);
+    (
+        answer.result,
+        [0, 1, 2, 3, 4, 5].map(|index| answer.number(index)),
+    )
+}
+
+fn next_token(text: &[u8], at: usize) -> Answer {
+    asked(|numbers| super::next_token(text, at, numbers))
+}
+
+fn next_comment(text: &[u8], at: usize) -> Answer {
+    asked(|numbers| super::next_comment(text, at, numbers))
+}
+
+fn read(kind: u64, text: &[u8], at: usize, out: &mut [u8]) -> Answer {
+    asked(|numbers| super::read(kind, text, at, out, numbers))
+}
+
+fn display(kind: u64, text: &[u8], at: usize, line: &mut [u8]) -> Answer {
+    asked(|numbers| super::display(kind, text, at, line, numbers))
+}
+
+const ROUNDS: usize = 100_000;
+const BESIDE: usize = 16;
+
+/// A small generator of numbers (xorshift64*), so that each run is the same.
+struct Random(u64);
+
+impl Random {
+    fn next(&mut self) -> u64 {
+        self.0 ^= self.0 >> 12;
+        self.0 ^= self.0 << 25;
+        self.0 ^= self.0 >> 27;
+        self.0.wrapping_mul(0x2545_f491_4f6c_dd1d)
+    }
+
+    fn below(&mut self, bound: usize) -> usize {
+        (self.next() >> 11) as usize % bound
+    }
+
+    fn of<'a>(&mut self, all: &[&'a [u8]]) -> &'a [u8] {
+        all[self.below(all.len())]
+    }
+}
+
+const WORDS: [&[u8]; 34] = [
+    b"a",
+    b"S",
+    b"u8",
+    b"mut",
+    b"0x1",
+    b"0x",
+    b"1u8",
+    b"true",
+    b"::",
+    b":",
+    b"<",
+    b">",
+    b">>",
+    b">=",
+    b"(",
+    b")",
+    b"|",
+    b"||",
+    b",",
+    b"&",
+    b"&mut ",
+    b"{",
+    b"}",
+    b"@",
+    b" ",
+    b"\t",
+    b"\r\n",
+    b"/*",
+    b"*/",
+    b"/**",
+    b"//",
+    b"b\"\\\"\"",
+    b"x\"",
+    b"\xff",
+];
+
+fn text_of(random: &mut Random) -> Vec<u8> {
+    let mut text = vec![];
+    match random.below(1_000) {
+        0..100 => text.extend((0..random.below(40)).map(|_| random.next() as u8)),
+        100 => {
+            let word = random.of(&WORDS);
+            let length = 65_530 + random.below(10);
+            while text.len() < length {
+                text.extend_from_slice(word);
+            }
+            text.truncate(length);
+        }
+        _ => (0..random.below(24)).for_each(|_| text.extend_from_slice(random.of(&WORDS))),
+    }
+    text
+}
+
+fn offset_of(random: &mut Random, length: usize) -> usize {
+    match random.below(8) {
+        0 => length,
+        1 => length + 1 + random.below(3),
+        2 => usize::MAX - random.below(3),
+        3 => 1 << (16 + random.below(48)),
+        4 | 5 => 0,
+        _ => random.below(length + 1),
+    }
+}
+
+/// A span of a text.
+fn inside(start: usize, end: usize, text: &[u8]) -> bool {
+    start <= end && end <= text.len()
+}
+
+fn refused_well(number: u32, values: [usize; 6], text: &[u8], allowed: &[u32]) {
+    assert!(allowed.contains(&number), "{number}");
+    let [start, end, second, second_end, nothing, nothing_too] = values;
+    assert!(inside(start, end, text), "{values:?}");
+    assert!(inside(second, second_end, text), "{values:?}");
+    assert_eq!([nothing, nothing_too], [0, 0]);
+}
+
+#[test]
+fn token_and_comment() {
+    let mut random = Random(1);
+    for _ in 0..ROUNDS {
+        let text = text_of(&mut random);
+        let at = offset_of(&mut random, text.len());
+        let (number, values) = next_token(&text, at);
+        match number {
+            0 => {
+                let [kind, start, end, rest @ ..] = values;
+                assert!(kind <= 67 && at <= start && inside(start, end, &text));
+                assert_eq!(kind == 0, start == end);
+                assert_eq!(rest, [0; 3]);
+            }
+            _ => refused_well(number, values, &text, &[1, 2, 5, 6, 7, 8, 9]),
+        }
+        let (number, values) = next_comment(&text, at);
+        match number {
+            0 => {
+                let [found, start, end, from, to, nothing] = values;
+                assert!(found <= 1 && inside(start, end, &text) && inside(from, to, &text));
+                assert!(start <= from && to <= end);
+                assert_eq!(nothing, 0);
+            }
+            _ => refused_well(number, values, &text, &[1, 2, 6]),
+        }
+    }
+}
+
+fn with_a_buffer(seed: u64, ask: fn(u64, &[u8], usize, &mut [u8]) -> Answer, tree: bool) {
+    let mut random = Random(seed);
+    let mut whole = vec![0; 65_600 + 2 * BESIDE];
+    for _ in 0..ROUNDS {
+        let text = text_of(&mut random);
+        let at = offset_of(&mut random, text.len());
+        let kind = match random.below(16) {
+            0 => random.next(),
+            1 => 0,
+            2 => 6,
+            3 => 1 << 32 | 3,
+            other => other as u64 % 5 + 1,
+        };
+        let room = match random.below(1_000) {
+            0..100 => 0,
+            100 => 65_535,
+            101 => 65_600,
+            _ => random.below(400),
+        };
+        let fill = random.next() as u8;
+        let used = &mut whole[..room + 2 * BESIDE];
+        used.fill(fill);
+        let (number, values) = ask(kind, &text, at, &mut used[BESIDE..BESIDE + room]);
+        let mut written = 0;
+        if number == 0 {
+            let [length, token, start, end, rest @ ..] = values;
+            written = length;
+            assert!(written <= room && written <= 65_535);
+            assert_eq!(rest, [0; 2]);
+            if tree {
+                assert!(token <= 67 && inside(start, end, &text));
+                let low_first = [used[BESIDE], used[BESIDE + 1]];
+                assert_eq!(u16::from_le_bytes(low_first) as usize, written);
+            } else {
+                assert_eq!([token, start, end], [0; 3]);
+            }
+            assert!((1..=5).contains(&kind));
+        } else {
+            refused_well(number, values, &text, &(1..=14).collect::<Vec<_>>());
+        }
+        let outside = |place: &[u8]| place.iter().all(|&byte| byte == fill);
+        assert!(outside(&used[..BESIDE]), "bytes before the buffer");
+        assert!(outside(&used[BESIDE + written..]), "bytes behind");
+    }
+}
+
+#[test]
+fn reading() {
+    with_a_buffer(2, read, true);
+}
+
+#[test]
+fn displaying() {
+    with_a_buffer(3, display, false);
+}
+
+#[test]
+fn empty_everything() {
+    assert_eq!(next_token(&[], 0), (0, [0; 6]));
+    assert_eq!(next_comment(&[], 0), (0, [0; 6]));
+    assert_eq!(read(3, &[], 0, &mut []), (10, [0; 6]));
+    assert_eq!(display(3, &[], 0, &mut []), (10, [0; 6]));
+    assert_eq!(read(3, b"u8", 0, &mut []), (4, [0; 6]));
+    assert_eq!(display(3, b"u8", 0, &mut []), (4, [0; 6]));
+}

@@ -1,0 +1,160 @@
+use crate::{
+    boundary::{self, Numbers},
+    Refusal, Token, Tree, LONGEST,
+};
+use std::fmt;
+
+/// The kinds of items.
+#[derive(Clone, Copy, Debug, PartialEq, Eq, Hash)]
+#[repr(u8)]
+pub enum Kind {
+    /// `a`, `a::b`, `a::b::c`; the first part may be a number.
+    Name = 1,
+    /// `@0x1`, `@a`, `1`, `1u8`, `true`, `false`, `x"00"`, `b"text"`
+    Value = 2,
+    /// `a::b<T>`, `&T`, `&mut T`, `()`, `(T, U)`, `|T, U| V`
+    Type = 3,
+    /// `x`, or `(x, S {f: y})`
+    BindList = 4,
+    /// `|x, y|`
+    LambdaBindList = 5,
+}
+
+impl Kind {
+    /// All of them, by number.
+    pub const ALL: [Kind; 5] = [
+        Kind::Name,
+        Kind::Value,
+        Kind::Type,
+        Kind::BindList,
+        Kind::LambdaBindList,
+    ];
+
+    /// Its number in `movesig.h`.
+    #[inline]
+    pub const fn number(self) -> u64 {
+        self as u64
+    }
+
+    /// Its short name: `name`, `value`, `type`, `binds` or `lambda`.
+    pub const fn name(self) -> &'static str {
+        match self {
+            Kind::Name => "name",
+            Kind::Value => "value",
+            Kind::Type => "type",
+            Kind::BindList => "binds",
+            Kind::LambdaBindList => "lambda",
+        }
+    }
+
+    /// The kind with this short name.
+    ///
+    /// ```
+    /// use movesig::Kind;
+    ///
+    /// assert_eq!(Kind::from_name("type"), Some(Kind::Type));
+    /// assert_eq!(Kind::from_name("Type"), None);
+    /// ```
+    pub fn from_name(name: &str) -> Option<Kind> {
+        Kind::ALL.into_iter().find(|kind| kind.name() == name)
+    }
+}
+
+/// Its short name.
+impl fmt::Display for Kind {
+    fn fmt(&self, to: &mut fmt::Formatter<'_>) -> fmt::Result {
+        to.pad(self.name())
+    }
+}
+
+/// An item that was read.
+#[derive(Clone, Copy, Debug)]
+pub struct Read<'t, 'b> {
+    /// The item, in the buffer that was lent.
+    pub tree: Tree<'t, 'b>,
+    /// The token that follows it.
+    pub next: Token,
+}
+
+/// Reads the item of the kind from `at` on into the buffer. Its tree takes the first bytes of
+/// the buffer; the others stay as they are, and all of them where the read is refused. Refused
+/// with 1, 2 and 4 to 14.
+///
+/// ```
+/// use movesig::{read, Kind, RecordKind};
+///
+/// let text = b"fun f(x: &Coin<u8>)";
+/// let mut buffer = [0; 256];
+/// let item = read(Kind::Type, text, 9, &mut buffer)?;
+///
+/// assert_eq!(item.tree.kind(), RecordKind::Ref);
+/// let coin = item.tree.children().next().expect("what it refers to");
+/// let parts: Vec<RecordKind> = coin.children().map(|child| child.kind()).collect();
+/// assert_eq!(parts, [RecordKind::OnePart, RecordKind::Type]);
+/// assert_eq!(item.next.kind, movesig::TokenKind::R_PAREN);
+/// # Ok::<(), movesig::Refusal>(())
+/// ```
+#[inline]
+pub fn read<'t, 'b>(
+    kind: Kind,
+    text: &'t [u8],
+    at: usize,
+    buffer: &'b mut [u8],
+) -> Result<Read<'t, 'b>, Refusal> {
+    let mut numbers = Numbers::new();
+    let answer = boundary::read(kind.number(), text, at, buffer, &mut numbers);
+    if answer.result != 0 {
+        return Err(Refusal::new(answer));
+    }
+    Ok(Read {
+        tree: Tree::new(text, first_bytes(buffer, answer.number(0))),
+        next: Token::new(answer, 1),
+    })
+}
+
+/// Writes the item of the kind from `at` on as one line into the buffer and gives its bytes,
+/// which are ASCII and hold no line feed. The buffer's other bytes stay as they are, and all of
+/// them where the display is refused. Refused as [`read`] is, but with 4 by the length of the
+/// line alone.
+///
+/// ```
+/// use movesig::{display, Kind};
+///
+/// let mut buffer = [0; 80];
+/// let line = display(Kind::BindList, b"( x,S{f} )", 0, &mut buffer)?;
+/// assert_eq!(line, b"(x, S {f: f})");
+/// # Ok::<(), movesig::Refusal>(())
+/// ```
+#[inline]
+pub fn display<'b>(
+    kind: Kind,
+    text: &[u8],
+    at: usize,
+    buffer: &'b mut [u8],
+) -> Result<&'b [u8], Refusal> {
+    let mut numbers = Numbers::new();
+    let answer = boundary::display(kind.number(), text, at, buffer, &mut numbers);
+    if answer.result != 0 {
+        return Err(Refusal::new(answer));
+    }
+    Ok(first_bytes(buffer, answer.number(0)))
+}
+
+/// As [`display`], into a string of its own. This one allocates.
+///
+/// ```
+/// use movesig::{display_to_string, Kind};
+///
+/// assert_eq!(display_to_string(Kind::Type, b"|u8,&T|()", 0)?, "|u8, & T| ()");
+/// # Ok::<(), movesig::Refusal>(())
+/// ```
+pub fn display_to_string(kind: Kind, text: &[u8], at: usize) -> Result<String, Refusal> {
+    let mut buffer = vec![0; LONGEST];
+    let line = display(kind, text, at, &mut buffer)?;
+    Ok(String::from_utf8_lossy(line).into_owned())
+}
+
+#[inline]
+fn first_bytes(buffer: &[u8], length: usize) -> &[u8] {
+    buffer.get(..length).unwrap_or(&[])
+}

@@ -1,0 +1,64 @@
+//! The proved Move signature reader, for Rust: the four calls of `movesig.h` over slices.
+//!
+//! Each call takes a text, any bytes at all, and an offset from which it reads. It gives an
+//! answer or a [`Refusal`] with a number and a place; it neither panics nor fails in any other
+//! way, and it allocates nothing.
+//!
+//! | call | gives |
+//! |---|---|
+//! | [`next_token`] | the token at an offset; [`tokens`] walks over all of them |
+//! | [`next_comment`] | the first doc comment before the next token; [`comments`] walks over all of them |
+//! | [`read`] | an item as a [`Tree`], stored in a buffer of yours |
+//! | [`display`] | an item as one line, in a buffer of yours |
+//!
+//! ```
+//! use movesig::{display, read, Kind, RecordKind, Refusal, LONGEST};
+//!
+//! let text = b"vector< u8 > {";
+//! let mut buffer = [0; LONGEST];
+//!
+//! let item = read(Kind::Type, text, 0, &mut buffer)?;
+//! assert_eq!(item.tree.kind(), RecordKind::Type);
+//! assert_eq!(item.tree.span().of(text), b"vector< u8 >");
+//! assert_eq!(item.next.span.of(text), b"{");
+//!
+//! assert_eq!(display(Kind::Type, text, 0, &mut buffer)?, b"vector<u8>");
+//!
+//! let refused = read(Kind::Type, b"(u8", 0, &mut buffer).unwrap_err();
+//! assert_eq!(refused.number(), 12);
+//! assert_eq!(
+//!     refused.to_string(),
+//!     "refused 12: list neither continued nor closed, at 3..3 (second place 0..0)"
+//! );
+//! # Ok::<(), Refusal>(())
+//! ```
+//!
+//! Offsets and spans count bytes from 0. Nothing is asked of the text: it need not be UTF-8.
+//!
+//! All `unsafe` code stands in one module, `boundary`, which says why each call is sound.
+
+#![deny(unsafe_op_in_unsafe_fn)]
+#![deny(unsafe_code)]
+#![warn(missing_docs)]
+
+mod boundary;
+mod comment;
+mod item;
+mod refusal;
+mod span;
+mod token;
+mod tree;
+
+pub use comment::{comments, next_comment, Comment, Comments};
+pub use item::{display, display_to_string, read, Kind, Read};
+pub use refusal::Refusal;
+pub use span::Span;
+pub use token::{next_token, tokens, Token, TokenKind, Tokens};
+pub use tree::{Children, RecordKind, Tree};
+
+/// The most bytes of a text, of a tree and of a line. A buffer longer than this never changes an
+/// answer.
+pub const LONGEST: usize = 65_535;
+
+/// The most levels of an item.
+pub const LEVELS: usize = 64;

@@ -1,0 +1,108 @@
+//! The header and the library from C and C++: the example, random calls between guarded pages
+//! under the sanitizers, and the stack that the calls take. Each needs gcc or g++, and says so
+//! where it is not there.
+
+use std::{
+    fs,
+    path::{Path, PathBuf},
+    process::{Command, Output},
+};
+
+fn top() -> PathBuf {
+    Path::new(env!("CARGO_MANIFEST_DIR")).join("../..")
+}
+
+fn tests() -> PathBuf {
+    Path::new(env!("CARGO_MANIFEST_DIR")).join("tests")
+}
+
+/// The compiler with the words that all calls of it have; none where it is not here.
+fn compiler(name: &str) -> Option<Command> {
+    if Command::new(name).arg("--version").output().is_err() {
+        eprintln!("{name} is not here: left out");
+        return None;
+    }
+    let mut command = Command::new(name);
+    command.args(["-Wall", "-Wextra", "-Werror", "-pedantic", "-I"]);
+    command.arg(top().join("include"));
+    Some(command)
+}
+
+/// Runs it: what it wrote, with both its exit status and its name where it failed.
+fn run(command: &mut Command) -> Output {
+    let output = command.output().expect("it can be run");
+    let said = String::from_utf8_lossy(&output.stderr);
+    assert!(output.status.success(), "{command:?}: {said}");
+    output
+}
+
+/// A program of one source file, read as `language`, and the library.
+fn program(name: &str, mut compiler: Command, language: &str, source: &Path) -> PathBuf {
+    let made = Path::new(env!("CARGO_TARGET_TMPDIR")).join(name);
+    compiler.args(["-x", language]).arg(source);
+    compiler.args(["-x", "none", env!("MOVESIG_LIBRARY"), "-o"]);
+    run(compiler.arg(&made));
+    made
+}
+
+#[test]
+fn header_alone() {
+    let source = Path::new(env!("CARGO_TARGET_TMPDIR")).join("header.c");
+    // twice, since a header may be included twice
+    fs::write(&source, "#include <movesig.h>\n#include <movesig.h>\n").expect("written");
+    for (name, language, standards) in [
+        ("gcc", "c", ["-std=c99", "-std=c11", "-std=c17"]),
+        ("g++", "c++", ["-std=c++98", "-std=c++11", "-std=c++20"]),
+    ] {
+        for standard in standards {
+            if let Some(mut compiler) = compiler(name) {
+                compiler.args([standard, "-fsyntax-only", "-x", language]);
+                run(compiler.arg(&source));
+            }
+        }
+    }
+}
+
+#[test]
+fn example() {
+    let source = top().join("examples/station.c");
+    for (name, language, standard) in [("gcc", "c", "-std=c99"), ("g++", "c++", "-std=c++98")] {
+        let Some(mut compiler) = compiler(name) else {
+            continue;
+        };
+        compiler.arg(standard);
+        let station = program(&format!("station-{name}"), compiler, language, &source);
+        for (file, status) in [("coin", 0), ("damaged", 1)] {
+            let output = Command::new(&station)
+                .arg(format!("{file}.move"))
+                .current_dir(top().join("examples"))
+                .output()
+                .expect("the example can be run");
+            let expected = top().join(format!("examples/{file}.expected"));
+            let expected = fs::read_to_string(expected).expect("what is expected");
+            assert_eq!(String::from_utf8_lossy(&output.stdout), expected, "{name}");
+            assert_eq!(output.status.code(), Some(status), "{name}: {file}");
+        }
+    }
+}
+
+#[test]
+fn random_calls_under_sanitizers() {
+    let Some(mut compiler) = compiler("gcc") else {
+        return;
+    };
+    compiler.args(["-std=c99", "-g", "-O1", "-fno-sanitize-recover=all"]);
+    compiler.arg("-fsanitize=address,undefined");
+    let program = program("boundary", compiler, "c", &tests().join("boundary.c"));
+    run(&mut Command::new(program));
+}
+
+#[test]
+fn stack() {
+    let Some(mut compiler) = compiler("gcc") else {
+        return;
+    };
+    compiler.args(["-std=c11", "-O1", "-pthread"]);
+    let program = program("stack", compiler, "c", &tests().join("stack.c"));
+    run(&mut Command::new(program));
+}

@@ -1,0 +1,278 @@
+//! The crate's functions: examples of the specification, all refusals, trees and their views.
+
+use movesig::{
+    comments, display, display_to_string, next_comment, next_token, read, tokens, Kind, RecordKind,
+    Refusal, Span, TokenKind, Tree, LONGEST,
+};
+use std::error::Error;
+
+fn span(start: usize, end: usize) -> Span {
+    Span { start, end }
+}
+
+fn token(text: &[u8]) -> Result<(u8, Span), Refusal> {
+    next_token(text, 0).map(|token| (token.kind.number(), token.span))
+}
+
+fn refused(kind: Kind, text: &[u8]) -> (u32, Span, Span) {
+    let mut buffer = vec![7; LONGEST];
+    let refusal = read(kind, text, 0, &mut buffer).expect_err("this is refused");
+    assert_eq!(display_to_string(kind, text, 0), Err(refusal));
+    assert!(buffer.iter().all(|&byte| byte == 7));
+    (refusal.number(), refusal.place(), refusal.second())
+}
+
+fn line(kind: Kind, text: &[u8]) -> String {
+    display_to_string(kind, text, 0).expect("this is accepted")
+}
+
+#[test]
+fn examples_of_tokens() {
+    assert_eq!(token(b""), Ok((0, span(0, 0))));
+    assert_eq!(token(b"0xu8"), Ok((2, span(0, 4))));
+    assert_eq!(token(b"0x"), Ok((1, span(0, 1))));
+    assert_eq!(token(b"&mut"), Ok((8, span(0, 1))));
+    assert_eq!(token(b"/**/a"), Ok((4, span(4, 5))));
+    let opener = span(0, 2);
+    assert_eq!(token(b"/*/"), Err(Refusal::CommentNotClosed { opener }));
+    let opener = span(4, 6);
+    assert_eq!(token(b"/** /*"), Err(Refusal::CommentNotClosed { opener }));
+    assert_eq!(token(b"b\"a\\\"c\""), Ok((3, span(0, 7))));
+    let rest = span(0, 3);
+    assert_eq!(token(b"b\"a"), Err(Refusal::ByteStringNotClosed { rest }));
+}
+
+#[test]
+fn examples_of_items() {
+    let mut buffer = [0xee; 20];
+    let item = read(Kind::Type, b"u8", 0, &mut buffer).expect("a type");
+    let stored = [16, 0, 10, 0, 0, 0, 2, 0, 8, 0, 3, 0, 0, 0, 2, 0];
+    assert_eq!(item.tree.as_bytes(), stored);
+    assert!(item.next.is_eof());
+    assert_eq!(buffer[16..], [0xee; 4]);
+
+    // the tree that README.md shows byte by byte
+    let mut buffer = [0; 32];
+    let item = read(Kind::Type, b"a<u8>", 0, &mut buffer).expect("a type");
+    let stored = [
+        [0x20, 0, 0x0a, 0, 0, 0, 5, 0],
+        [0x08, 0, 0x03, 0, 0, 0, 1, 0],
+        [0x10, 0, 0x0a, 0, 2, 0, 4, 0],
+        [0x08, 0, 0x03, 0, 2, 0, 4, 0],
+    ];
+    assert_eq!(item.tree.as_bytes(), stored.concat());
+
+    assert_eq!(line(Kind::Type, b"|(|u8|u8)|u8"), "|(|u8| u8)| u8");
+    assert_eq!(line(Kind::BindList, b"S{f}"), "(S {f: f})");
+    let places = (12, span(3, 3), span(0, 0));
+    assert_eq!(refused(Kind::Type, b"(u8"), places);
+    assert_eq!(refused(Kind::Name, b"0x1"), (10, span(3, 3), span(0, 3)));
+    let places = (12, span(4, 4), span(1, 1));
+    assert_eq!(refused(Kind::Type, b"a<u8>="), places);
+}
+
+#[test]
+fn every_refusal() {
+    let long = vec![b' '; LONGEST + 1];
+    assert_eq!(next_token(&long, 0), Err(Refusal::TextTooLong));
+    assert_eq!(next_comment(b"", 1), Err(Refusal::StartPastEnd));
+    assert_eq!(next_token(b"", usize::MAX), Err(Refusal::StartPastEnd));
+    let room = &mut [0; 15];
+    assert_eq!(
+        read(Kind::Type, b"u8", 0, room).err(),
+        Some(Refusal::NoRoom)
+    );
+    assert_eq!(
+        display(Kind::Type, b"u8", 0, &mut [0]),
+        Err(Refusal::NoRoom)
+    );
+
+    let once = |number, start, end| (number, span(start, end), span(start, end));
+    assert_eq!(refused(Kind::Type, b"u8 $"), once(5, 3, 3));
+    assert_eq!(refused(Kind::Value, b"1 /*"), once(6, 2, 4));
+    assert_eq!(refused(Kind::Value, b"x\"00"), once(7, 0, 4));
+    assert_eq!(refused(Kind::Value, b"b\"a\r\n"), once(8, 0, 3));
+    assert_eq!(refused(Kind::Value, b"b\"a\xff\""), once(9, 3, 4));
+    assert_eq!(refused(Kind::Type, b"||u8"), once(10, 0, 2));
+    assert_eq!(refused(Kind::Type, b"(,"), once(11, 1, 1));
+    assert_eq!(refused(Kind::Value, b"0x1::M"), once(13, 0, 3));
+    let deep = "(".repeat(64) + "u8" + &")".repeat(64);
+    assert_eq!(refused(Kind::Type, deep.as_bytes()), once(14, 64, 66));
+}
+
+#[test]
+fn refusals_for_people() {
+    let said = |text: &[u8]| {
+        let error: Box<dyn Error> = next_token(text, 0).expect_err("refused").into();
+        error.to_string()
+    };
+    assert_eq!(
+        said(b" $"),
+        "refused 5: no token starts with this byte, at 1..1"
+    );
+    assert_eq!(
+        said(&[b' '; LONGEST + 1]),
+        "refused 1: text over 65,535 bytes"
+    );
+}
+
+/// The line is judged by its own length and not by the tree's.
+#[test]
+fn long_answers() {
+    let flat = format!("({})", "a,".repeat(5_000));
+    let mut buffer = vec![0; LONGEST];
+    let tree = read(Kind::Type, flat.as_bytes(), 0, &mut buffer);
+    assert_eq!(tree.err(), Some(Refusal::NoRoom));
+    assert_eq!(line(Kind::Type, flat.as_bytes()).len(), 15_000);
+
+    let wide = format!("({})", "a,".repeat(30_000));
+    let line = display(Kind::Type, wide.as_bytes(), 0, &mut buffer);
+    assert_eq!(line, Err(Refusal::NoRoom));
+}
+
+fn outline(tree: Tree) -> String {
+    let children: Vec<String> = tree.children().map(outline).collect();
+    let name = match tree.spelling() {
+        Some(spelling) => String::from_utf8_lossy(spelling).into_owned(),
+        None => tree.kind().to_string(),
+    };
+    match children[..] {
+        [] => name,
+        _ => format!("{name}[{}]", children.join(" ")),
+    }
+}
+
+fn outlined(kind: Kind, text: &[u8]) -> String {
+    outline(
+        read(kind, text, 0, &mut [0; 1_000])
+            .expect("this is accepted")
+            .tree,
+    )
+}
+
+#[test]
+fn trees() {
+    let name = |text: &[u8]| outlined(Kind::Name, text);
+    assert_eq!(name(b"a"), "a");
+    assert_eq!(name(b"0x1::b"), "two-part chain[0x1 b]");
+    assert_eq!(name(b"a::b::c"), "three-part chain[pair[a b] c]");
+
+    let value = |text: &[u8]| outlined(Kind::Value, text);
+    assert_eq!(value(b"@0x1"), "address value[0x1]");
+    assert_eq!(value(b"true"), "true");
+    assert_eq!(value(b"x\"00\""), "x\"00\"");
+
+    let types = |text: &[u8]| outlined(Kind::Type, text);
+    assert_eq!(types(b"( /* gap */ )"), "unit");
+    assert_eq!(types(b"&mut (u8)"), "mutable reference[type[u8]]");
+    assert_eq!(types(b"|u8| ()"), "function type[type[u8] unit]");
+    assert_eq!(types(b"(&a, b)"), "tuple[reference[type[a]] type[b]]");
+
+    let binds = |text: &[u8]| outlined(Kind::BindList, text);
+    assert_eq!(
+        binds(b"(x, S<u8> {f, g: y})"),
+        "binding list[x struct with types[S type[u8] field[f f] field[g y]]]"
+    );
+    assert_eq!(
+        outlined(Kind::LambdaBindList, b"| |"),
+        "lambda binding list"
+    );
+}
+
+#[test]
+fn tree_views() {
+    let text = b" (u8 , bool) {";
+    let mut buffer = [0; 100];
+    let item = read(Kind::Type, text, 0, &mut buffer).expect("a type");
+    assert_eq!(item.next.kind, TokenKind::L_BRACE);
+    assert_eq!(item.tree.span(), span(1, 12));
+    assert_eq!(item.tree.text(), b"(u8 , bool)");
+    assert_eq!(item.tree.spelling(), None);
+    let parts: Vec<&[u8]> = item.tree.children().map(Tree::text).collect();
+    assert_eq!(parts, [&b"u8"[..], b"bool"]);
+    assert_eq!(
+        format!("{:?}", item.tree),
+        "Tuple 1..12 [Type 2..4 [OnePart 2..4 []], Type 7..11 [OnePart 7..11 []]]"
+    );
+    let numbers: Vec<u16> = (item.tree.children().map(|child| child.kind().number())).collect();
+    assert_eq!(numbers, [10, 10]);
+}
+
+#[test]
+fn walks() {
+    let kinds: Vec<TokenKind> = tokens(b"a<b>>c", 0)
+        .map(|token| token.expect("a token").kind)
+        .collect();
+    assert_eq!(
+        kinds,
+        [
+            TokenKind::IDENTIFIER,
+            TokenKind::LESS,
+            TokenKind::IDENTIFIER,
+            TokenKind::GREATER_GREATER,
+            TokenKind::IDENTIFIER,
+            TokenKind::EOF
+        ]
+    );
+    assert_eq!(
+        tokens(b"a", 7).collect::<Vec<_>>(),
+        [Err(Refusal::StartPastEnd)]
+    );
+
+    let text = b"/** a */ /// b\n x /* no */ /// c\r\n y $ /// d";
+    let found: Vec<Result<&[u8], u32>> = comments(text, 0)
+        .map(|comment| match comment {
+            Ok(comment) => Ok(comment.text.of(text)),
+            Err(refusal) => Err(refusal.number()),
+        })
+        .collect();
+    assert_eq!(found, [Ok(&b" a "[..]), Ok(b" b"), Ok(b" c"), Err(5)]);
+}
+
+/// What the header names is numbered as the crate numbers it.
+#[test]
+fn names_of_the_header() {
+    let header = include_str!("../../../include/movesig.h");
+    let section = |name: &str| -> Vec<(String, usize)> {
+        let (_, rest) = header
+            .split_once(&format!("enum {name} {{"))
+            .expect("it is there");
+        let (inside, _) = rest.split_once("};").expect("it ends");
+        let lines = inside.lines().filter_map(|line| line.split_once(" = "));
+        lines
+            .map(|(name, rest)| {
+                let digits: String = rest.chars().take_while(char::is_ascii_digit).collect();
+                (plain(name), digits.parse().expect("a number"))
+            })
+            .collect()
+    };
+    /// Without what marks words: `MOVESIG_AMP_MUT` as `ampmut`, and `AmpMut` too.
+    fn plain(name: &str) -> String {
+        let name = name.trim().trim_start_matches("MOVESIG_").to_lowercase();
+        name.trim_start_matches("rec_").replace(['_', '-', ' '], "")
+    }
+    let found = section("movesig_token");
+    assert_eq!(found.len(), 68);
+    for (number, (name, given)) in found.into_iter().enumerate() {
+        assert_eq!(number, given);
+        let token = TokenKind::from_number(number as u8).expect("a kind");
+        assert_eq!(plain(token.name()), name);
+    }
+    assert_eq!(TokenKind::from_number(68), None);
+    let names: Vec<_> = Kind::ALL
+        .iter()
+        .map(|kind| plain(&format!("{kind:?}")))
+        .collect();
+    let numbers: Vec<_> = Kind::ALL
+        .iter()
+        .map(|kind| kind.number() as usize)
+        .collect();
+    let items: Vec<_> = names.into_iter().zip(numbers).collect();
+    assert_eq!(section("movesig_item"), items);
+    assert_eq!(section("movesig_result").len(), 15);
+    let records: Vec<_> = RecordKind::ALL
+        .iter()
+        .map(|kind| (plain(&format!("{kind:?}")), kind.number() as usize))
+        .collect();
+    assert_eq!(section("movesig_record"), records);
+}
