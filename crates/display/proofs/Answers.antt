@@ -1,26 +1,22 @@
 -- What each return of the display call's code gives.
 -- Assumes nothing.
-use mathlib.Core.Path.{_≡_, refl, ap, sym, _∙_, subst}
+use mathlib.Core.Path.{_≡_, refl, ap, sym, _∙_}
 use mathlib.Core.Bool.{Bool, true, false, _||_}
-use mathlib.Core.List.{List, [], _∷_, _++_}
+use mathlib.Core.List.{List, [], _∷_}
 use Prim.Native.Nat.{ℕ, _<_, _≤_}
 use native.Mathlib.Omega.{arith}
-use borrow.Author.Tests.{le-leb, lt-leb, leb-true, lt-ltb, eq-eqb, ne-eqb, ltb-true, ltb-false}
+use borrow.Author.Tests.{le-leb, lt-leb, leb-true, lt-ltb, ltb-true, ltb-false}
 use lib.Dec.{eqb, ltb, leb}
-use lib.ListN.{length, take, drop}
+use lib.ListN.{length, take}
 use lib.Seq.{sets}
 use Rattle.classes.proofs.Bools.{or-left, or-right}
 use Rattle.tokens.specs.Answers.{refusal, places}
-use Rattle.tokens.specs.Token.{Scanned, bad, lex}
-use Rattle.tokens.specs.Calls.{textLimit, admitted}
+use Rattle.tokens.specs.Token.{lex}
+use Rattle.tokens.specs.Calls.{textLimit}
 use Rattle.tokens.specs.declared.Refusal.{Refusal}
 use Rattle.records.specs.Tree.{Tree}
-use Rattle.names.specs.Reading.{Ans, ok, no, when}
-use Rattle.names.specs.Names.{chain}
-use Rattle.names.specs.Values.{value}
+use Rattle.names.specs.Reading.{Ans, when}
 use Rattle.names.specs.Parsed.{put, admittedPart}
-use Rattle.types.specs.Types.{levels, readType}
-use Rattle.binds.specs.Binds.{readBindList, readLambdaList}
 use Rattle.lines.specs.Line.{shown}
 use Rattle.lines.specs.Placed.{last, cap}
 use Rattle.reader.specs.Items.{Item, item, refused, readKind, followed, finished, readItem}
@@ -30,42 +26,10 @@ use Rattle.shows.specs.declared.Drawn.{Drawn}
 use Rattle.shows.specs.declared.Shown.{Shown}
 use Rattle.shows.specs.declared.Shown.the-variants.{Line as Shown-line, Refused as Shown-refused}
 use Rattle.shows.specs.Shown.{never, shownAs, keptLine}
-use Rattle.shows.proofs.Showing.{Shows, shows-as, Fails, at-once, late, Drew, drew, fails, shows-drew}
+use Rattle.shows.proofs.Showing.{Shows, Fails, at-once, late, Drew, drew, fails}
 use Rattle.display.specs.declared.Displayed.{Displayed}
 use Rattle.display.specs.declared.Displayed.the-variants.{Line, Refused}
 use Rattle.display.specs.Calls.{display, displayBuffer, displayNumber, displayValues, displayed}
-
--- an item by its kind
-module _ (kind : ℕ) (text : List ℕ) (at : ℕ) (l m : List ℕ) (s : Shown) where
-  abbrev Part-of : (Scanned → Ans Tree) → Type 0
-  Part-of one = Shows shown never (admittedPart one text at) 0 l m s
-
-  as-kind : (one : Scanned → Ans Tree) → readKind kind (lex at (drop at text)) ≡ one (lex at (drop at text)) → Part-of one → Part-of (readKind kind)
-  unfolding admittedPart
-  as-kind one e g = shows-as shown never (admittedPart (readKind kind) text at) (admittedPart one text at) 0 l m s (ap (admitted no text at) e) g
-
-  pub kind-name : kind ≡ 1 → Part-of chain → Part-of (readKind kind)
-  unfolding readKind when
-  kind-name k g = as-kind chain (rw (eq-eqb kind 1 k)) g
-
-  module _ (k₁ : kind ≡ 1 → ⊥) where
-    pub kind-value : kind ≡ 2 → Part-of value → Part-of (readKind kind)
-    unfolding readKind when
-    kind-value k g = as-kind value (rw (ne-eqb kind 1 k₁, eq-eqb kind 2 k)) g
-
-    module _ (k₂ : kind ≡ 2 → ⊥) where
-      pub kind-type : kind ≡ 3 → Part-of (readType levels) → Part-of (readKind kind)
-      unfolding readKind when
-      kind-type k g = as-kind (readType levels) (rw (ne-eqb kind 1 k₁, ne-eqb kind 2 k₂, eq-eqb kind 3 k)) g
-
-      module _ (k₃ : kind ≡ 3 → ⊥) where
-        pub kind-bind : kind ≡ 4 → Part-of readBindList → Part-of (readKind kind)
-        unfolding readKind when
-        kind-bind k g = as-kind readBindList (rw (ne-eqb kind 1 k₁, ne-eqb kind 2 k₂, ne-eqb kind 3 k₃, eq-eqb kind 4 k)) g
-
-        pub kind-lambda : (kind ≡ 4 → ⊥) → Part-of readLambdaList → Part-of (readKind kind)
-        unfolding readKind when
-        kind-lambda k g = as-kind readLambdaList (rw (ne-eqb kind 1 k₁, ne-eqb kind 2 k₂, ne-eqb kind 3 k₃, ne-eqb kind 4 k)) g
 
 -- the answer of the whole call, and the buffer l that becomes m
 abbrev pub Call : ℕ → List ℕ → ℕ → List ℕ → List ℕ → Displayed → Type 0

@@ -2,7 +2,7 @@
 -- Assumes nothing.
 use Prim.Native.Nat.{ℕ}
 use mathlib.Core.Bool.{Bool, not, cond, _||_}
-use mathlib.Core.List.{List, [], _∷_, _++_, map}
+use mathlib.Core.List.{List, [], _∷_, _++_}
 use lib.Dec.{eqb}
 use Rattle.classes.specs.Bytes.{bytes}
 use Rattle.records.specs.Tree.{twoKind, threeKind, pairKind, typeKind, refKind, refMutKind, functionKind, unitKind, tupleKind, structKind, structWithKind, fieldKind, bindListKind, lambdaListKind, addressValueKind, Tree, Build, spelled, made, Builds, bnone, bmore, build}

@@ -28,7 +28,7 @@ use Rattle.names.specs.Parsed.{given, follow, kept, put, admittedPart}
 use Rattle.names.specs.declared.Part.{Part}
 use Rattle.names.specs.declared.Parsed.{Parsed}
 use Rattle.names.specs.declared.Parsed.the-variants.{Read, Refused}
-use Rattle.names.proofs.Steps.{tokenIn, IsFound, Gives, gives-as}
+use Rattle.names.proofs.Steps.{tokenIn, IsFound, Gives}
 use Rattle.names.proofs.Listing.{refusedIn, isRead, Opened, opened, wrote}
 use Rattle.types.specs.Types.{levels, readType}
 use Rattle.binds.specs.Binds.{readBindList, readLambdaList}
@@ -37,37 +37,34 @@ use Rattle.reader.specs.declared.Answer.the-variants.{Item as Accepted, 
 use Rattle.reader.specs.Items.{Item, item, refused, readKind, followed, finished, readItem}
 use Rattle.reader.specs.Calls.{answerLimit, copied, roomed, written, answered, readNumber, readValues, read, readBuffer}
 
--- an item by its kind
-module _ (kind : ℕ) (text : List ℕ) (at pos : ℕ) (l m : List ℕ) (p : Parsed) where
-  abbrev Part-of : (Scanned → Ans Tree) → Type 0
-  Part-of one = Gives stored (admittedPart one text at) pos l m p
-
-  as-kind : (one : Scanned → Ans Tree) → readKind kind (lex at (drop at text)) ≡ one (lex at (drop at text)) → Part-of one → Part-of (readKind kind)
+-- an item by its kind: which reader reads it
+module _ (kind : ℕ) (text : List ℕ) (at : ℕ) where
+  by-kind : (one : Scanned → Ans Tree) → readKind kind (lex at (drop at text)) ≡ one (lex at (drop at text)) → admittedPart (readKind kind) text at ≡ admittedPart one text at
   unfolding admittedPart
-  as-kind one e g = gives-as stored (admittedPart (readKind kind) text at) (admittedPart one text at) pos l m p (ap (admitted no text at) e) g
+  by-kind one e = ap (admitted no text at) e
 
-  pub kind-name : kind ≡ 1 → Part-of chain → Part-of (readKind kind)
+  pub kind-name : kind ≡ 1 → admittedPart (readKind kind) text at ≡ admittedPart chain text at
   unfolding readKind when
-  kind-name k g = as-kind chain (rw (eq-eqb kind 1 k)) g
+  kind-name k = by-kind chain (rw (eq-eqb kind 1 k))
 
   module _ (k₁ : kind ≡ 1 → ⊥) where
-    pub kind-value : kind ≡ 2 → Part-of value → Part-of (readKind kind)
+    pub kind-value : kind ≡ 2 → admittedPart (readKind kind) text at ≡ admittedPart value text at
     unfolding readKind when
-    kind-value k g = as-kind value (rw (ne-eqb kind 1 k₁, eq-eqb kind 2 k)) g
+    kind-value k = by-kind value (rw (ne-eqb kind 1 k₁, eq-eqb kind 2 k))
 
     module _ (k₂ : kind ≡ 2 → ⊥) where
-      pub kind-type : kind ≡ 3 → Part-of (readType levels) → Part-of (readKind kind)
+      pub kind-type : kind ≡ 3 → admittedPart (readKind kind) text at ≡ admittedPart (readType levels) text at
       unfolding readKind when
-      kind-type k g = as-kind (readType levels) (rw (ne-eqb kind 1 k₁, ne-eqb kind 2 k₂, eq-eqb kind 3 k)) g
+      kind-type k = by-kind (readType levels) (rw (ne-eqb kind 1 k₁, ne-eqb kind 2 k₂, eq-eqb kind 3 k))
 
       module _ (k₃ : kind ≡ 3 → ⊥) where
-        pub kind-bind : kind ≡ 4 → Part-of readBindList → Part-of (readKind kind)
+        pub kind-bind : kind ≡ 4 → admittedPart (readKind kind) text at ≡ admittedPart readBindList text at
         unfolding readKind when
-        kind-bind k g = as-kind readBindList (rw (ne-eqb kind 1 k₁, ne-eqb kind 2 k₂, ne-eqb kind 3 k₃, eq-eqb kind 4 k)) g
+        kind-bind k = by-kind readBindList (rw (ne-eqb kind 1 k₁, ne-eqb kind 2 k₂, ne-eqb kind 3 k₃, eq-eqb kind 4 k))
 
-        pub kind-lambda : (kind ≡ 4 → ⊥) → Part-of readLambdaList → Part-of (readKind kind)
+        pub kind-lambda : (kind ≡ 4 → ⊥) → admittedPart (readKind kind) text at ≡ admittedPart readLambdaList text at
         unfolding readKind when
-        kind-lambda k g = as-kind readLambdaList (rw (ne-eqb kind 1 k₁, ne-eqb kind 2 k₂, ne-eqb kind 3 k₃, ne-eqb kind 4 k)) g
+        kind-lambda k = by-kind readLambdaList (rw (ne-eqb kind 1 k₁, ne-eqb kind 2 k₂, ne-eqb kind 3 k₃, ne-eqb kind 4 k))
 
 -- the answer of the whole call, and the buffer l that becomes m
 abbrev pub Call : ℕ → List ℕ → ℕ → List ℕ → List ℕ → Answer → Type 0

@@ -1,26 +1,24 @@
 -- What each return of the code of bindings gives, from what its callees gave.
 -- Assumes nothing.
 use mathlib.Core.Path.{_≡_, refl, ap, sym, _∙_, subst}
-use mathlib.Core.Bool.{Bool, true, false, cond}
-use mathlib.Core.List.{List, [], _∷_, _++_, append-nil, append-assoc}
-use Prim.Native.Nat.{ℕ, zero, suc, _+_, _-_, _<_, _≤_}
+use mathlib.Core.Bool.{Bool, true, false}
+use mathlib.Core.List.{List, [], _∷_, _++_}
+use Prim.Native.Nat.{ℕ, suc, _+_, _-_, _<_, _≤_}
 use native.Mathlib.Omega.{arith}
 use borrow.Author.Tests.{eq-eqb, ne-eqb}
 use lib.Dec.{eqb}
 use lib.ListN.{length, drop}
-use lib.Seq.{sets}
 use Rattle.classes.specs.Bytes.{bytes}
 use Rattle.tokens.specs.Answers.{refusal}
-use Rattle.tokens.specs.Token.{Scanned, tok, bad, lex}
-use Rattle.tokens.specs.Calls.{textLimit, lexed, nextToken}
+use Rattle.tokens.specs.Token.{Scanned, bad, lex}
+use Rattle.tokens.specs.Calls.{nextToken}
 use Rattle.tokens.specs.declared.Refusal.{Refusal}
 use Rattle.tokens.specs.declared.Token.{Token}
 use Rattle.tokens.specs.declared.Lexed.the-variants.{Found, Refused as Bad}
-use Rattle.records.specs.Tree.{nameKind, variableKind, structKind, structWithKind, fieldKind, bindListKind, lambdaListKind, Tree, leaf, node, Trees, none, more, joined, build, builds}
+use Rattle.records.specs.Tree.{nameKind, variableKind, structKind, structWithKind, fieldKind, bindListKind, lambdaListKind, Tree, leaf, node, Trees, none, more, joined, build}
 use Rattle.names.specs.Reading.{Ans, ok, no, then, look, when, braceTok, listBehind}
 use Rattle.names.specs.Names.{chain}
 use Rattle.names.specs.Parsed.{Stands, wordOf, scanned, admittedPart}
-use Rattle.names.proofs.Sure.{On}
 use Rattle.names.proofs.Kinded.{Every, when-every}
 use Rattle.names.proofs.Steps.{found-token, refused-token}
 use Rattle.names.proofs.Opening.{here}
@@ -29,7 +27,7 @@ use Rattle.names.proofs.Returns.{part-no, part-as}
 use Rattle.types.specs.Types.{levels, readType}
 use Rattle.binds.specs.Binds.{isStruct, fields, structOver, unpacked, bindOver, fieldOver, readField, readBind, readBindList, readLambdaList}
 use Rattle.binds.proofs.Sure.{bind-bad}
-use Rattle.lines.specs.Placed.{last, cap, Placed}
+use Rattle.lines.specs.Placed.{last, Placed}
 use Rattle.lines.specs.Line.{kindOf, line, shown}
 use Rattle.lines.proofs.Placing.{placed-both, placed-long, placed-as}
 use Rattle.shows.specs.declared.Drawn.{Drawn}
@@ -37,7 +35,7 @@ use Rattle.shows.specs.declared.Shown.{Shown}
 use Rattle.shows.specs.declared.Shown.the-variants.{Line, Refused}
 use Rattle.shows.specs.declared.Sort.the-variants.{Plain, Field, Binding}
 use Rattle.shows.specs.Shown.{itemOf, isFunction, itemsOf, isNone, never, bracesOf, drawn, refusedAt, flagged, marked, putMark, barsEnd, barred, putBar}
-use Rattle.shows.proofs.Showing.{Shows, shows-as, Fails, at-once, late, Drew, drew, shows-line, fails, shows-fails, fails-then, fails-look, fails-no, fails-as, shows-behind, shows-made, shows-flag, shows-mark, shows-bar, shows-same}
+use Rattle.shows.proofs.Showing.{Shows, shows-as, at-once, late, Drew, drew, shows-line, fails, shows-fails, fails-then, fails-look, fails-no, fails-as, shows-behind, shows-made, shows-flag, shows-mark, shows-bar, shows-same}
 use Rattle.shows.proofs.Lines.{All, NoField, IsField, behind-all, type-no-field, field-is-field, struct-line, with-line, field-line, list-line, one-line, lambda-line}
 use Rattle.shows.proofs.Returns.{chain-on, scans-on, items-on, found-shown}
 

@@ -1,15 +1,15 @@
 -- The lines of records by those of their parts, as the code writes them.
 -- Assumes nothing.
-use mathlib.Core.Path.{_≡_, refl, ap, sym, _∙_, subst}
-use mathlib.Core.Bool.{Bool, true, false, not, cond}
+use mathlib.Core.Path.{_≡_, refl, ap, sym, _∙_}
+use mathlib.Core.Bool.{Bool, true, false, cond}
 use mathlib.Core.List.{List, [], _∷_, _++_, append-nil, append-assoc}
 use Prim.Native.Nat.{ℕ, zero, suc}
 use lib.Dec.{eqb}
 use lib.ListN.{length}
 use Rattle.classes.specs.Bytes.{bytes}
 use Rattle.tokens.specs.Token.{Scanned, lex}
-use Rattle.records.specs.Tree.{typeKind, refKind, refMutKind, functionKind, unitKind, tupleKind, structKind, structWithKind, fieldKind, bindListKind, lambdaListKind, Tree, leaf, node, Trees, none, more, behind, joined, respan, build, builds}
-use Rattle.names.specs.Reading.{Ans, ok, no, then, look, when, commaTok, lessTok, ampTok, ampMutTok, openTok, closeTok, greaterTok, pipeTok, colonTok, identifierTok, Close, closing, afterItem, list, listBehind}
+use Rattle.records.specs.Tree.{typeKind, refKind, refMutKind, functionKind, tupleKind, structKind, structWithKind, fieldKind, bindListKind, lambdaListKind, Tree, leaf, node, Trees, none, more, behind, joined, respan, build, builds}
+use Rattle.names.specs.Reading.{Ans, ok, no, commaTok, lessTok, ampTok, ampMutTok, openTok, closeTok, greaterTok, pipeTok, colonTok, identifierTok, closing, afterItem, list, listBehind}
 use Rattle.names.specs.Names.{chain}
 use Rattle.names.proofs.Kinded.{Every, look-every, when-every, then-every, closed-every}
 use Rattle.types.specs.Types.{bracketed, withArguments, named, brackets, reference, function, typeOver, readType}

@@ -2,8 +2,8 @@
 -- Assumes nothing.
 use mathlib.Core.Path.{_≡_, refl, ap, sym, _∙_, subst}
 use mathlib.Core.Bool.{Bool, true, false, cond}
-use mathlib.Core.List.{List, [], _∷_, _++_, append-nil, append-assoc}
-use Prim.Native.Nat.{ℕ, zero, suc, _+_, _-_, _<_, _≤_}
+use mathlib.Core.List.{List, [], _∷_, _++_, append-assoc}
+use Prim.Native.Nat.{ℕ, _+_, _-_, _<_, _≤_}
 use native.Mathlib.Omega.{arith}
 use borrow.Author.Tests.{eq-eqb, ne-eqb}
 use lib.Dec.{eqb}
@@ -16,11 +16,10 @@ use Rattle.tokens.specs.Token.{Scanned, tok, bad, lex}
 use Rattle.tokens.specs.Calls.{textLimit, lexed, nextToken}
 use Rattle.tokens.specs.declared.Refusal.{Refusal}
 use Rattle.tokens.specs.declared.Token.{Token}
-use Rattle.tokens.specs.declared.Lexed.{Lexed}
 use Rattle.tokens.specs.declared.Lexed.the-variants.{Found, Refused as Bad}
 use Rattle.tokens.proofs.Again.{admitted-in, found-again}
 use Rattle.tokens.proofs.Lexing.{Good, Sound, lex-sound}
-use Rattle.records.specs.Tree.{nameKind, typeKind, functionKind, unitKind, tupleKind, variableKind, structKind, structWithKind, fieldKind, Tree, leaf, node, Trees, none, more, behind, joined, respan, build, builds}
+use Rattle.records.specs.Tree.{typeKind, functionKind, unitKind, tupleKind, Tree, leaf, node, Trees, none, more, behind, respan, build}
 use Rattle.records.specs.Stored.{stored}
 use Rattle.names.specs.Reading.{Ans, ok, no, refusal₂, then, look, when, commaTok, stays, closing, closed, afterItem, list, listBehind}
 use Rattle.names.specs.Lists.{Passed, listStep, closesList, closeEnd, itemStep}
@@ -29,26 +28,23 @@ use Rattle.names.specs.declared.Step.the-variants.{Item as StepItem, Last, Refu
 use Rattle.shows.specs.declared.Pass.{Pass}
 use Rattle.names.specs.Names.{chain}
 use Rattle.names.specs.Values.{value}
-use Rattle.names.specs.Parsed.{Stands, Standing, wordOf, scanned, follow, given, onToken, admittedPart, put}
+use Rattle.names.specs.Parsed.{Stands, wordOf, scanned, follow, given, onToken, admittedPart}
 use Rattle.names.specs.declared.Part.{Part}
-use Rattle.names.specs.declared.Parsed.{Parsed}
 use Rattle.names.specs.declared.Parsed.the-variants.{Read as Parsed-read, Refused as Parsed-refused}
-use Rattle.names.proofs.Sure.{On, Read as Sound-read, Reads, Sure, SureAll, Reader, behind-sure}
+use Rattle.names.proofs.Sure.{On, Sure, SureAll, behind-sure}
 use Rattle.names.proofs.Parts.{chain-from}
 use Rattle.names.proofs.Kinded.{Every, look-every, when-every, then-every, closed-every}
 use Rattle.names.proofs.Steps.{found-token, refused-token}
 use Rattle.names.proofs.Entries.{on-token}
-use Rattle.names.proofs.Listing.{Opened, opened}
-use Rattle.names.proofs.Opening.{Here, here, Next, next-of}
-use Rattle.types.specs.Types.{bracketed, withArguments, named, brackets, reference, function, typeOver, readType}
-use Rattle.types.proofs.Sure.{read-type-sure}
+use Rattle.names.proofs.Listing.{opened}
+use Rattle.names.proofs.Opening.{here, Next, next-of}
+use Rattle.types.specs.Types.{bracketed, withArguments, named, brackets, reference, function, readType}
 use Rattle.types.proofs.Returns.{type-bads}
-use Rattle.binds.specs.Binds.{isStruct, fields, structOver, unpacked, bindOver, fieldOver, readField, readBind}
-use Rattle.binds.proofs.Sure.{field-sure, read-bind-sure, bind-bad}
+use Rattle.binds.specs.Binds.{readField, readBind}
 use Rattle.lines.specs.Placed.{last, cap, Placed, opened as openedAt}
 use Rattle.lines.specs.Words.{words}
 use Rattle.lines.specs.Line.{kindOf, line, shown}
-use Rattle.lines.proofs.Placing.{placed-none, placed-both, placed-before, placed-opened, placed-long, placed-as}
+use Rattle.lines.proofs.Placing.{placed-both, placed-before, placed-opened, placed-long, placed-as}
 use Rattle.shows.specs.declared.Drawn.{Drawn}
 use Rattle.shows.specs.declared.Shown.{Shown}
 use Rattle.shows.specs.declared.Shown.the-variants.{Line, Refused}
@@ -56,11 +52,11 @@ use Rattle.shows.specs.declared.Sort.{Sort}
 use Rattle.shows.specs.declared.Sort.the-variants.{Plain, Argument, Field, Binding}
 use Rattle.shows.specs.declared.Passing.{Passing}
 use Rattle.shows.specs.declared.Pass.the-variants.{Empty, Ended, Onward, Refused as Stopped}
-use Rattle.shows.specs.Shown.{passing, passAfter, itemOf, isFunction, shownIn, formOf, restOf, itemsOf, isNone, never, bracesOf, drawn, lined, shownAs, keptLine, refusedAt, flagged, marked, putMark, barsEnd, angled, putAngles, enclosed, putBrackets}
-use Rattle.shows.proofs.Showing.{Shows, shows-as, Fails, at-once, late, Drew, drew, shows-line, shows-drew, fails, shows-fails, fails-then, fails-look, fails-no, fails-as, shows-behind, shows-made, shows-flag, shows-mark, shows-same}
-use Rattle.shows.proofs.Steps.{Steps, item-sure, shows-finish, Took, Single, Longer, list-stopped, list-empty, list-ended, list-onward}
+use Rattle.shows.specs.Shown.{passing, passAfter, itemOf, isFunction, shownIn, formOf, restOf, itemsOf, isNone, never, drawn, lined, refusedAt, flagged, marked, putMark, barsEnd, angled, putAngles, enclosed, putBrackets}
+use Rattle.shows.proofs.Showing.{Shows, shows-as, Fails, at-once, late, Drew, drew, shows-line, fails, shows-fails, fails-then, fails-look, fails-no, fails-as, shows-behind, shows-made, shows-flag, shows-same}
+use Rattle.shows.proofs.Steps.{Steps, item-sure, shows-finish, Longer, list-stopped, list-empty, list-ended, list-onward}
 use Rattle.shows.proofs.Spelling.{SaysAll, chain-says, value-says}
-use Rattle.shows.proofs.Lines.{All, NoField, IsField, behind-all, type-no-field, field-is-field, function-line, named-line, applied-line, reference-line, reference-plain, respan-line, respan-function, tuple-line, argument-line, struct-line, with-line, field-line}
+use Rattle.shows.proofs.Lines.{function-line, named-line, applied-line, reference-line, reference-plain, respan-line, respan-function, tuple-line, argument-line}
 
 -- a refusal of names
 follow-bad : (n q : ℕ) (l : Scanned) (r : Refusal) → Parsed-refused r ≡ follow n q (lexed l) → l ≡ bad r
@@ -158,45 +154,9 @@ pub found-shown : (text : List ℕ) → length text ≤ textLimit → (q : ℕ) 
 unfolding nextToken
 found-shown text fits q n i e = sym (admitted-in Bad text q (lexed (lex q (drop q text))) fits i) ∙ e
 
--- a type by its first token
-module _ (text : List ℕ) (a : Token) (left pos : ℕ) (l m : List ℕ) (s : Shown) where
-  abbrev typeHere : Ans Tree
-  typeHere = readType left (scanned text a)
-
-  pub type-deep : left ≡ 0 → s ≡ refusedAt 14 a → Shows shown isFunction typeHere pos l m s
-  unfolding readType look
-  type-deep z e = rw (z, e) (shows-fails shown isFunction (readType 0 (scanned text a)) pos l m (refusal 14 (a .start) (a .end)) (at-once (refusal 14 (a .start) (a .end))))
-
-  module _ (z : left ≡ 0 → ⊥) where
-    abbrev n : ℕ
-    n = left - 1
-
-    over : typeHere ≡ typeOver (readType n) (scanned text a)
-    unfolding readType
-    over = let e : left ≡ suc n = omega (arith, z) in ap (λ (k : ℕ). readType k (scanned text a)) e
-
-    pub type-round : a .kind ≡ 11 → Shows shown isFunction (brackets (readType n) (a .start) (a .end) (drop (a .end) text)) pos l m s → Shows shown isFunction typeHere pos l m s
-    unfolding typeOver look when
-    type-round k g = shows-as shown isFunction typeHere _ pos l m s (over ∙ rw (eq-eqb (a .kind) 11 k)) g
-
-    module _ (k₁ : a .kind ≡ 11 → ⊥) where
-      pub type-reference : a .kind ≡ 8 → Shows shown isFunction (reference (readType n) 11 (a .start) (a .end) (drop (a .end) text)) pos l m s → Shows shown isFunction typeHere pos l m s
-      unfolding typeOver look when
-      type-reference k g = shows-as shown isFunction typeHere _ pos l m s (over ∙ rw (ne-eqb (a .kind) 11 k₁, eq-eqb (a .kind) 8 k)) g
-
-      module _ (k₂ : a .kind ≡ 8 → ⊥) where
-        pub type-mutable : a .kind ≡ 10 → Shows shown isFunction (reference (readType n) 12 (a .start) (a .end) (drop (a .end) text)) pos l m s → Shows shown isFunction typeHere pos l m s
-        unfolding typeOver look when
-        type-mutable k g = shows-as shown isFunction typeHere _ pos l m s (over ∙ rw (ne-eqb (a .kind) 11 k₁, ne-eqb (a .kind) 8 k₂, eq-eqb (a .kind) 10 k)) g
-
-        module _ (k₃ : a .kind ≡ 10 → ⊥) where
-          pub type-function : a .kind ≡ 59 → Shows shown isFunction (function (readType n) (a .start) (a .end) (drop (a .end) text)) pos l m s → Shows shown isFunction typeHere pos l m s
-          unfolding typeOver look when
-          type-function k g = shows-as shown isFunction typeHere _ pos l m s (over ∙ rw (ne-eqb (a .kind) 11 k₁, ne-eqb (a .kind) 8 k₂, ne-eqb (a .kind) 10 k₃, eq-eqb (a .kind) 59 k)) g
-
-          pub type-named : (a .kind ≡ 59 → ⊥) → Shows shown isFunction (named (readType n) (a .start) (scanned text a)) pos l m s → Shows shown isFunction typeHere pos l m s
-          unfolding typeOver look when
-          type-named k g = shows-as shown isFunction typeHere _ pos l m s (over ∙ rw (ne-eqb (a .kind) 11 k₁, ne-eqb (a .kind) 8 k₂, ne-eqb (a .kind) 10 k₃, ne-eqb (a .kind) 59 k)) g
+-- the refusal of a token, where the reader refuses it
+pub token-refused : (a : Ans Tree) (n pos : ℕ) (l m : List ℕ) (t : Token) (s : Shown) → s ≡ refusedAt n t → a ≡ no (refusal n (t .start) (t .end)) → Shows shown isFunction a pos l m s
+token-refused a n pos l m t s e z = rw e (shows-fails shown isFunction a pos l m (refusal n (t .start) (t .end)) (fails-no a (refusal n (t .start) (t .end)) (refusal n (t .start) (t .end)) z refl))
 
 -- what a record tells
 fun-true : (s q : ℕ) (ts : Trees) → isFunction (node functionKind s q ts) ≡ true

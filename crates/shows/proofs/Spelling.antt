@@ -2,29 +2,28 @@
 -- Assumes nothing.
 use mathlib.Core.Path.{_≡_, refl, ap, sym, _∙_, subst}
 use mathlib.Core.Bool.{Bool, true, false, cond, _&&_, _||_}
-use mathlib.Core.List.{List, [], _∷_, _++_, append-nil, append-assoc}
+use mathlib.Core.List.{List, [], _++_, append-nil, append-assoc}
 use Prim.Native.Nat.{ℕ, zero, suc, _<_, _≤_}
 use native.Mathlib.Omega.{arith}
-use borrow.Author.Tests.{eqb-true, eq-eqb, ne-eqb, le-ltb, lt-ltb}
+use borrow.Author.Tests.{eqb-true, ne-eqb, le-ltb, lt-ltb}
 use lib.Dec.{eqb, ltb}
 use lib.ListN.{length, getD, drop}
 use Rattle.classes.specs.Bytes.{bytes}
 use Rattle.classes.proofs.Bools.{false-true}
 use Rattle.words.specs.Tables.{longMarks, doubleMarks, singleMarks, marks}
 use Rattle.tokens.specs.Answers.{token}
-use Rattle.tokens.specs.Token.{Scanned, tok, bad, lex}
+use Rattle.tokens.specs.Token.{tok, lex}
 use Rattle.tokens.specs.Calls.{textLimit, lexed, nextToken}
-use Rattle.tokens.specs.declared.Refusal.{Refusal}
 use Rattle.tokens.specs.declared.Token.{Token}
 use Rattle.tokens.specs.declared.Lexed.{Lexed}
 use Rattle.tokens.specs.declared.Lexed.the-variants.{Found, Refused as Bad}
 use Rattle.tokens.proofs.Again.{admitted-in}
-use Rattle.tokens.proofs.Lexing.{Good, Sound, lex-sound}
+use Rattle.tokens.proofs.Lexing.{Good}
 use Rattle.tokens.proofs.Spelled.{markKind, spelling, SpeltToken, lex-spelt}
-use Rattle.records.specs.Tree.{nameKind, addressKind, oneKind, twoKind, threeKind, pairKind, Tree, leaf, node, none, more, Build, spelled, build, builds}
-use Rattle.lines.specs.Line.{plain, argument, arguments, others, commas, bars, angles, first, later, initial, final, shape, kindOf, line, pieces, shown}
+use Rattle.records.specs.Tree.{nameKind, addressKind, twoKind, threeKind, pairKind, Tree, leaf, node, none, more, spelled, build, builds}
+use Rattle.lines.specs.Line.{first, later, shape, line, pieces, shown}
 use Rattle.lines.specs.Words.{isPast, wordsOn, words}
-use Rattle.names.specs.Reading.{Ans, ok, no, look, when, identifierTok, numTok, colonsTok, atTok, typedTok, stringTok, trueTok, falseTok}
+use Rattle.names.specs.Reading.{Ans, ok, no, look, identifierTok, numTok, colonsTok, atTok, typedTok, stringTok, trueTok, falseTok}
 use Rattle.names.specs.Names.{isFirst, firstPart, lastPart, thirdPart, secondPart, chain}
 use Rattle.names.specs.Values.{leafKind, leafValue, addressValue, value}
 use Rattle.names.specs.Parsed.{wordOf, scanned}

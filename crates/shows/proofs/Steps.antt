@@ -2,30 +2,28 @@
 -- Assumes nothing.
 use mathlib.Core.Path.{_≡_, refl, ap, sym, _∙_, subst}
 use mathlib.Core.Bool.{Bool, true, false, cond}
-use mathlib.Core.List.{List, [], _∷_, _++_, append-nil}
+use mathlib.Core.List.{List, [], _++_, append-nil}
 use Prim.Native.Nat.{ℕ, _+_, _<_, _≤_}
 use native.Mathlib.Omega.{arith}
 use lib.Dec.{eqb}
 use lib.ListN.{length, drop}
 use lib.Seq.{sets}
 use Rattle.classes.specs.Bytes.{bytes}
-use Rattle.tokens.specs.Answers.{refusal}
-use Rattle.tokens.specs.Token.{Scanned, bad, lex}
+use Rattle.tokens.specs.Token.{Scanned, lex}
 use Rattle.tokens.specs.Calls.{textLimit, lexed, nextToken}
 use Rattle.tokens.specs.declared.Refusal.{Refusal}
 use Rattle.tokens.specs.declared.Token.{Token}
-use Rattle.tokens.specs.declared.Lexed.{Lexed}
 use Rattle.tokens.specs.declared.Lexed.the-variants.{Found, Refused as Bad}
 use Rattle.tokens.proofs.Again.{admitted-in}
 use Rattle.records.specs.Tree.{Tree, Trees, none, more}
 use Rattle.names.specs.Reading.{Ans, ok, no, refusal₂, then, look, when, commaTok, listBehind}
-use Rattle.names.specs.Parsed.{Stands, scanned, put}
+use Rattle.names.specs.Parsed.{scanned, put}
 use Rattle.names.specs.Lists.{Passed, empty, ended, onward, stepAfter, listStep, goOn, closesList, closeEnd, beforeItem}
 use Rattle.names.specs.declared.Turn.{Turn}
 use Rattle.names.specs.declared.Turn.the-variants.{Goes, Closes, Refused as Wrong}
 use Rattle.names.proofs.Sure.{On, Read as Sound-read, Sure, Reader}
 use Rattle.names.proofs.Steps.{found-token, refused-token}
-use Rattle.names.proofs.Listing.{closed-yes, closed-no, Stepped, SureStep, step-sure, by-step, turned, step-turn}
+use Rattle.names.proofs.Listing.{closed-yes, closed-no, SureStep, step-sure, by-step, turned, step-turn}
 use Rattle.types.proofs.Sure.{read-type-sure}
 use Rattle.binds.proofs.Sure.{field-sure, read-bind-sure}
 use Rattle.lines.specs.Placed.{last, cap, Placed}
@@ -38,7 +36,7 @@ use Rattle.shows.specs.declared.Sort.the-variants.{Plain, Argument, Fiel
 use Rattle.shows.specs.declared.Passing.{Passing}
 use Rattle.shows.specs.declared.Pass.{Pass}
 use Rattle.shows.specs.declared.Pass.the-variants.{Empty, Ended, Onward, Refused as Stopped}
-use Rattle.shows.specs.Shown.{itemOf, isFunction, shownIn, formOf, restOf, itemsOf, isNone, never, lined, shownAs, keptLine, passing, passedAs, keptPass, putPass, passAfter}
+use Rattle.shows.specs.Shown.{itemOf, isFunction, shownIn, formOf, restOf, itemsOf, isNone, never, lined, shownAs, passing, passedAs, keptPass, putPass, passAfter}
 use Rattle.shows.proofs.Showing.{Shows, Fails, at-once, late, Drew, drew, shows-as, shows-behind, shows-made, fails, shows-fails, fails-no}
 
 -- what the code answers and writes for a step

@@ -36,7 +36,7 @@ use Rattle.names.proofs.Entries.{on-token}
 use Rattle.names.proofs.Opening.{Here, here, Next, next-of, opened-item, opened-list, opened-chain}
 use Rattle.names.proofs.Listing.{StepGives, Opened, opened, gives-refused, then-refused, then-opened, wrote, gives-done, gives-finish, LastStep, with-none, with-one, ItemStep, last-step, item-step, refused-by, by-step}
 use Rattle.types.specs.Types.{bracketed, withArguments, named, brackets, reference, function, typeOver, readType}
-use Rattle.types.specs.Written.{tooDeep, closedBrackets, tupled}
+use Rattle.types.specs.Written.{closedBrackets, tupled}
 use Rattle.types.proofs.Sure.{respan-size, behind-size, read-type-sure}
 
 stored-behind : (ts : Trees) (t : Tree) → storedAll (behind ts t) ≡ storedAll ts ++ stored t
@@ -405,13 +405,13 @@ module _ (o n : ℕ) (p : Part) (pos : ℕ) (l : List ℕ) where
 pub tuple-told : (a : Ans Tree) (pos : ℕ) (l m : List ℕ) (p q : Part) → p ≡ q → Gives stored a pos l m (Read q) → Gives stored a pos l m (Read p)
 tuple-told a pos l m p q e g = rw e g
 
--- a type by its first token
+-- a type by its first token: which reader reads it
 module _ (text : List ℕ) (a : Token) where
-  pub type-deep : (left pos : ℕ) (l m : List ℕ) (p : Parsed) → left ≡ 0 → p ≡ tooDeep a → Gives stored (readType left (scanned text a)) pos l m p
+  pub type-is-deep : (left : ℕ) → left ≡ 0 → readType left (scanned text a) ≡ no (refusal 14 (a .start) (a .end))
   unfolding readType look
-  type-deep left pos l m p z e = rw z (gives-no stored (readType 0 (scanned text a)) pos l m (refusal 14 (a .start) (a .end)) p e refl)
+  type-is-deep left z = rw z
 
-  module _ (left pos : ℕ) (l m : List ℕ) (p : Parsed) (z : left ≡ 0 → ⊥) where
+  module _ (left : ℕ) (z : left ≡ 0 → ⊥) where
     abbrev n : ℕ
     n = left - 1
 
@@ -419,25 +419,25 @@ module _ (text : List ℕ) (a : Token) where
     unfolding readType
     over = let e : left ≡ suc n = omega (arith, z) in ap (λ (k : ℕ). readType k (scanned text a)) e
 
-    pub type-brackets : a .kind ≡ 11 → Gives stored (brackets (readType n) (a .start) (a .end) (drop (a .end) text)) pos l m p → Gives stored (readType left (scanned text a)) pos l m p
+    pub type-is-brackets : a .kind ≡ 11 → readType left (scanned text a) ≡ brackets (readType n) (a .start) (a .end) (drop (a .end) text)
     unfolding typeOver look when
-    type-brackets k g = gives-as stored (readType left (scanned text a)) _ pos l m p (over ∙ rw (eq-eqb (a .kind) 11 k)) g
+    type-is-brackets k = over ∙ rw (eq-eqb (a .kind) 11 k)
 
     module _ (k₁ : a .kind ≡ 11 → ⊥) where
-      pub type-reference : a .kind ≡ 8 → Gives stored (reference (readType n) 11 (a .start) (a .end) (drop (a .end) text)) pos l m p → Gives stored (readType left (scanned text a)) pos l m p
+      pub type-is-reference : a .kind ≡ 8 → readType left (scanned text a) ≡ reference (readType n) 11 (a .start) (a .end) (drop (a .end) text)
       unfolding typeOver look when
-      type-reference k g = gives-as stored (readType left (scanned text a)) _ pos l m p (over ∙ rw (ne-eqb (a .kind) 11 k₁, eq-eqb (a .kind) 8 k)) g
+      type-is-reference k = over ∙ rw (ne-eqb (a .kind) 11 k₁, eq-eqb (a .kind) 8 k)
 
       module _ (k₂ : a .kind ≡ 8 → ⊥) where
-        pub type-mutable : a .kind ≡ 10 → Gives stored (reference (readType n) 12 (a .start) (a .end) (drop (a .end) text)) pos l m p → Gives stored (readType left (scanned text a)) pos l m p
+        pub type-is-mutable : a .kind ≡ 10 → readType left (scanned text a) ≡ reference (readType n) 12 (a .start) (a .end) (drop (a .end) text)
         unfolding typeOver look when
-        type-mutable k g = gives-as stored (readType left (scanned text a)) _ pos l m p (over ∙ rw (ne-eqb (a .kind) 11 k₁, ne-eqb (a .kind) 8 k₂, eq-eqb (a .kind) 10 k)) g
+        type-is-mutable k = over ∙ rw (ne-eqb (a .kind) 11 k₁, ne-eqb (a .kind) 8 k₂, eq-eqb (a .kind) 10 k)
 
         module _ (k₃ : a .kind ≡ 10 → ⊥) where
-          pub type-function : a .kind ≡ 59 → Gives stored (function (readType n) (a .start) (a .end) (drop (a .end) text)) pos l m p → Gives stored (readType left (scanned text a)) pos l m p
+          pub type-is-function : a .kind ≡ 59 → readType left (scanned text a) ≡ function (readType n) (a .start) (a .end) (drop (a .end) text)
           unfolding typeOver look when
-          type-function k g = gives-as stored (readType left (scanned text a)) _ pos l m p (over ∙ rw (ne-eqb (a .kind) 11 k₁, ne-eqb (a .kind) 8 k₂, ne-eqb (a .kind) 10 k₃, eq-eqb (a .kind) 59 k)) g
+          type-is-function k = over ∙ rw (ne-eqb (a .kind) 11 k₁, ne-eqb (a .kind) 8 k₂, ne-eqb (a .kind) 10 k₃, eq-eqb (a .kind) 59 k)
 
-          pub type-named : (a .kind ≡ 59 → ⊥) → Gives stored (named (readType n) (a .start) (scanned text a)) pos l m p → Gives stored (readType left (scanned text a)) pos l m p
+          pub type-is-named : (a .kind ≡ 59 → ⊥) → readType left (scanned text a) ≡ named (readType n) (a .start) (scanned text a)
           unfolding typeOver look when
-          type-named k g = gives-as stored (readType left (scanned text a)) _ pos l m p (over ∙ rw (ne-eqb (a .kind) 11 k₁, ne-eqb (a .kind) 8 k₂, ne-eqb (a .kind) 10 k₃, ne-eqb (a .kind) 59 k)) g
+          type-is-named k = over ∙ rw (ne-eqb (a .kind) 11 k₁, ne-eqb (a .kind) 8 k₂, ne-eqb (a .kind) 10 k₃, ne-eqb (a .kind) 59 k)

@@ -4,36 +4,25 @@ use lib.Seq.{length-take-le}
 use borrow.Author.Needs.{needs}
 use Rattle.display.proofs.write_line.Statement.{statement}
 use Rattle.display.proofs.write_line.Tie as tie
-use Rattle.display.proofs.write_line.Reads as reads
-use Rattle.display.proofs.write_line.Lts as lts
-use Rattle.buffer.proofs.copy.Reads as copy-reads
-use Rattle.display.proofs.show_kind.Reads as show-kind-reads
 
--- src/lib.rt:65:27
 slice-aggregate-copy : tie.Need-slice-aggregate-copy
 slice-aggregate-copy c = sym (length-take-le (c .before .before .before .before .before .before .args .n) (c .before .before .before .before .before .before .args .made .now) (c .before .before .if1 .taken))
 
--- src/lib.rt:65:9
 copy-requires : tie.Need-copy-requires
 copy-requires c κs = search needs
 
--- src/lib.rt:66:9
 same-length : tie.Need-same-length
 same-length c = search needs
 
--- src/lib.rt:66:9
 returns : tie.Need-returns
 returns c = copy-made _ _ _ _ _ (c .before .before .before .before .before .if1 .taken) (c .before .before .copy .ensures)
 
--- src/lib.rt:68:5
 show-kind-requires : tie.Need-show-kind-requires
 show-kind-requires c κs = search needs
 
--- src/lib.rt:61:1
 same-length-2 : tie.Need-same-length-2
 same-length-2 c = search needs
 
--- src/lib.rt:61:1
 returns-2 : tie.Need-returns-2
 returns-2 c = show-again _ _ _ _ _ _ (c .before .before .before .before .if1 .left) (c .before .before .show-kind .ensures)
 

@@ -1,17 +1,12 @@
 use Rattle.lines.specs.Words.{isPast}
 use borrow.Author.Tests.{eq-eqb, ne-eqb}
-use borrow.Author.Needs.{needs}
 use Rattle.lines.proofs.is_past.Statement.{statement}
 use Rattle.lines.proofs.is_past.Tie as tie
-use Rattle.lines.proofs.is_past.Reads as reads
-use Rattle.lines.proofs.is_past.Lts as lts
 
--- src/lib.rt:115:9
 returns : tie.Need-returns
 unfolding isPast
 returns c = rw (eq-eqb _ _ (c .if1 .taken))
 
--- src/lib.rt:111:1
 returns-2 : tie.Need-returns-2
 unfolding isPast
 returns-2 c = rw (ne-eqb _ _ (c .before .if1 .left))

@@ -3,23 +3,16 @@ use Rattle.lines.proofs.Placing.{placed-none}
 use borrow.Author.Needs.{needs}
 use Rattle.lines.proofs.put_comma.Statement.{statement}
 use Rattle.lines.proofs.put_comma.Tie as tie
-use Rattle.lines.proofs.put_comma.Reads as reads
-use Rattle.lines.proofs.put_comma.Lts as lts
-use Rattle.lines.proofs.put_marks.Reads as put-marks-reads
 
--- src/lib.rt:48:9
 returns : tie.Need-returns
 returns c = rw (c .if1 .taken) (placed-none _ _ (omega arith))
 
--- src/lib.rt:50:5
 put-marks-requires : tie.Need-put-marks-requires
 put-marks-requires c κs = search needs
 
--- src/lib.rt:44:1
 same-length : tie.Need-same-length
 same-length c = search needs
 
--- src/lib.rt:44:1
 returns-2 : tie.Need-returns-2
 returns-2 c = rw (c .before .before .before .before .if1 .left) (c .before .before .put-marks .ensures)
 

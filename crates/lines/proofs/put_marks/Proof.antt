@@ -3,23 +3,16 @@ use Rattle.lines.proofs.Placing.{placed-both}
 use borrow.Author.Needs.{needs}
 use Rattle.lines.proofs.put_marks.Statement.{statement}
 use Rattle.lines.proofs.put_marks.Tie as tie
-use Rattle.lines.proofs.put_marks.Reads as reads
-use Rattle.lines.proofs.put_marks.Lts as lts
-use Rattle.lines.proofs.put_mark.Reads as put-mark-reads
 
--- src/lib.rt:39:9
 put-mark-requires : tie.Need-put-mark-requires
 put-mark-requires c κs = search needs
 
--- src/lib.rt:40:5
 put-mark-requires-2 : tie.Need-put-mark-requires-2
 put-mark-requires-2 c κs = search needs
 
--- src/lib.rt:36:1
 same-length : tie.Need-same-length
 same-length c = search needs
 
--- src/lib.rt:36:1
 returns : tie.Need-returns
 returns c = placed-both _ _ _ _ _ _ _ _ (omega arith) (c .before .before .before .before .before .before .put-mark .ensures) (c .before .before .put-mark2 .ensures)
 

@@ -1,18 +1,13 @@
 use denote.Ref.{now}
 use Prim.Native.Nat.{ℕ}
 use mathlib.Core.Path.{_≡_, _∙_, sym, ap}
-use mathlib.Core.Path.{_∙_, sym, refl}
+use mathlib.Core.Path.{_∙_, sym}
 use native.Mathlib.Omega.{arith}
 use Rattle.lines.specs.Words.{words}
 use Rattle.lines.proofs.Copying.{Writing, writing-first, writing-refused, writing-past, writing-on, writing-ends}
 use borrow.Author.Needs.{needs}
 use Rattle.lines.proofs.put_tokens.Statement.{statement}
 use Rattle.lines.proofs.put_tokens.Tie as tie
-use Rattle.lines.proofs.put_tokens.Reads as reads
-use Rattle.lines.proofs.put_tokens.Lts as lts
-use Rattle.lines.proofs.is_past.Reads as is-past-reads
-use Rattle.lines.proofs.put_word.Reads as put-word-reads
-use Rattle.tokens.proofs.next_token.Reads as next-token-reads
 
 abbrev Inv-loop : tie.InvT-loop
 Inv-loop text at to out₀ pos i₀ p₀ left₀ out i p left = Writing text to at pos out₀ left i p out
@@ -20,63 +15,48 @@ Inv-loop text at to out₀ pos i₀ p₀ left₀ out i p left = Writing text to 
 abbrev μ-loop : tie.MeasureT-loop
 μ-loop text at to out₀ pos i₀ p₀ left₀ out i p left = left
 
--- src/lib.rt:128:5
 loop-holds : tie.Need-loop-holds Inv-loop μ-loop
 loop-holds c = writing-first _ _ _ _ _ (omega arith)
 
--- src/lib.rt:129:13
 next-token-requires : tie.Need-next-token-requires Inv-loop μ-loop
 next-token-requires c κs = search needs
 
--- src/lib.rt:131:28
 enum-known-l : tie.Need-enum-known-l Inv-loop μ-loop
 enum-known-l c = search needs
 
--- src/lib.rt:132:17
 same-length : tie.Need-same-length Inv-loop μ-loop
 same-length c = c .before .before .before .before .before .loop .inv .long
 
--- src/lib.rt:132:17
 returns : tie.Need-returns Inv-loop μ-loop
 returns c = writing-refused _ _ _ _ _ _ _ _ _ (c .before .before .before .before .before .loop .inv) _ (sym (c .before .before .before .next-token .ensures) ∙ c .before .l .given .1)
 
--- src/lib.rt:134:26
 enum-known-l-2 : tie.Need-enum-known-l-2 Inv-loop μ-loop
 enum-known-l-2 c = search needs
 
--- src/lib.rt:135:20
 is-past-requires : tie.Need-is-past-requires Inv-loop μ-loop
 is-past-requires c κs = search needs
 
--- src/lib.rt:136:21
 same-length-2 : tie.Need-same-length-2 Inv-loop μ-loop
 same-length-2 c = c .before .before .before .before .before .before .before .loop .inv .long
 
--- src/lib.rt:136:21
 returns-2 : tie.Need-returns-2 Inv-loop μ-loop
 returns-2 c = writing-past _ _ _ _ _ _ _ _ _ (c .before .before .before .before .before .before .before .loop .inv) _ (sym (c .before .before .before .before .before .next-token .ensures) ∙ c .before .before .before .l2 .given .1) _ (c .before .is-past .ensures) (c .if1 .taken)
 
--- src/lib.rt:138:17
 put-word-requires : tie.Need-put-word-requires Inv-loop μ-loop
 put-word-requires c κs = search needs
 
--- src/lib.rt:140:17
 sub-left : tie.Need-sub-left Inv-loop μ-loop
 sub-left c = omega arith
 
--- src/lib.rt:128:5
 loop-less : tie.Need-loop-less Inv-loop μ-loop
 loop-less c = omega arith
 
--- src/lib.rt:128:5
 loop-again : tie.Need-loop-again Inv-loop μ-loop
 loop-again c = writing-on _ _ _ _ _ _ _ _ _ (c .before .before .before .before .before .before .before .before .before .before .before .loop .inv) _ (sym (c .before .before .before .before .before .before .before .before .before .next-token .ensures) ∙ c .before .before .before .before .before .before .before .l2 .given .1) _ (c .before .before .before .before .before .is-past .ensures) (c .before .before .before .before .if1 .left) (omega arith) (omega arith) _ _ (c .before .before .put-word .ensures)
 
--- src/lib.rt:122:1
 same-length-3 : tie.Need-same-length-3 Inv-loop μ-loop
 same-length-3 c = c .before .loop .inv .long
 
--- src/lib.rt:122:1
 returns-3 : tie.Need-returns-3 Inv-loop μ-loop
 unfolding words
 returns-3 c = let z : c .before .loop .left ≡ 0 = omega arith in writing-ends _ _ _ _ _ _ _ _ _ (c .before .loop .inv) (ap (λ (n : ℕ). words n (now (c .before .before .before .before .args .text)) (c .before .before .before .before .args .to) (c .before .loop .i)) z)

@@ -3,35 +3,25 @@ use Rattle.shows.proofs.Returns.{after-refused, after-last, after-comma
 use borrow.Author.Needs.{needs}
 use Rattle.shows.proofs.after_item.Statement.{statement}
 use Rattle.shows.proofs.after_item.Tie as tie
-use Rattle.shows.proofs.after_item.Reads as reads
-use Rattle.shows.proofs.after_item.Lts as lts
-use Rattle.names.proofs.item_step.Reads as item-step-reads
 
--- src/lib.rt:240:9
 item-step-requires : tie.Need-item-step-requires
 item-step-requires c κs = search needs
 
--- src/lib.rt:242:23
 enum-known-s : tie.Need-enum-known-s
 enum-known-s c = search needs
 
--- src/lib.rt:243:20
 enum-known-s-2 : tie.Need-enum-known-s-2
 enum-known-s-2 c = search needs
 
--- src/lib.rt:248:20
 enum-known-s-3 : tie.Need-enum-known-s-3
 enum-known-s-3 c = search needs
 
--- src/lib.rt:231:1
 returns : tie.Need-returns
 returns c = after-refused _ _ _ _ (sym (c .before .before .before .item-step .ensures) ∙ c .before .s .given .1)
 
--- src/lib.rt:231:1
 returns-2 : tie.Need-returns-2
 returns-2 c = after-last _ _ _ _ _ (sym (c .before .before .before .item-step .ensures) ∙ c .before .s2 .given .1)
 
--- src/lib.rt:231:1
 returns-3 : tie.Need-returns-3
 returns-3 c = after-comma _ _ _ _ _ (sym (c .before .before .before .item-step .ensures) ∙ c .before .s3 .given .1)
 

@@ -3,32 +3,23 @@ use mathlib.Core.Path.{refl}
 use borrow.Author.Needs.{needs}
 use Rattle.shows.proofs.bar_behind.Statement.{statement}
 use Rattle.shows.proofs.bar_behind.Tie as tie
-use Rattle.shows.proofs.bar_behind.Reads as reads
-use Rattle.shows.proofs.bar_behind.Lts as lts
-use Rattle.lines.proofs.close_bars.Reads as close-bars-reads
 
--- src/lib.rt:166:24
 enum-known-s : tie.Need-enum-known-s
 enum-known-s c = search needs
 
--- src/lib.rt:167:21
 enum-known-s-2 : tie.Need-enum-known-s-2
 enum-known-s-2 c = search needs
 
--- src/lib.rt:169:17
 close-bars-requires : tie.Need-close-bars-requires
 close-bars-requires c κs = search needs
 
--- src/lib.rt:161:1
 returns : tie.Need-returns
 unfolding barred putBar
 returns c = rw (c .before .s .given .1) (refl, refl)
 
--- src/lib.rt:161:1
 same-length : tie.Need-same-length
 same-length c = search needs
 
--- src/lib.rt:161:1
 returns-2 : tie.Need-returns-2
 unfolding barred putBar
 returns-2 c = let e = c .before .before .close-bars .ensures in rw (c .before .before .before .before .before .before .s2 .given .1, e .ends) (refl, e .holds)

@@ -5,36 +5,25 @@ use Rattle.shows.proofs.Returns.{next-stands}
 use borrow.Author.Needs.{needs}
 use Rattle.shows.proofs.bind_list_line.Statement.{statement}
 use Rattle.shows.proofs.bind_list_line.Tie as tie
-use Rattle.shows.proofs.bind_list_line.Reads as reads
-use Rattle.shows.proofs.bind_list_line.Lts as lts
-use Rattle.shows.proofs.show_bind_list.Reads as show-bind-list-reads
-use Rattle.tokens.proofs.next_token.Reads as next-token-reads
 
--- src/lib.rt:726:9
 next-token-requires : tie.Need-next-token-requires
 next-token-requires c κs = search needs
 
--- src/lib.rt:728:24
 enum-known-l : tie.Need-enum-known-l
 enum-known-l c = search needs
 
--- src/lib.rt:729:22
 enum-known-l-2 : tie.Need-enum-known-l-2
 enum-known-l-2 c = search needs
 
--- src/lib.rt:729:28
 show-bind-list-requires : tie.Need-show-bind-list-requires
 show-bind-list-requires c κs = next-stands _ _ _ (sym (c .before .before .before .before .next-token .ensures) ∙ c .before .before .l2 .given .1)
 
--- src/lib.rt:722:1
 returns : tie.Need-returns
 returns c = first-failed readBindList list-bads _ _ _ _ _ (sym (c .before .before .before .next-token .ensures) ∙ c .before .l .given .1)
 
--- src/lib.rt:722:1
 same-length : tie.Need-same-length
 same-length c = search needs
 
--- src/lib.rt:722:1
 returns-2 : tie.Need-returns-2
 returns-2 c = first-shown readBindList _ _ _ _ (c .before .before .before .before .before .l2 .given .0 .0) _ (sym (c .before .before .before .before .before .before .before .next-token .ensures) ∙ c .before .before .before .before .before .l2 .given .1) (c .before .before .show-bind-list .ensures)
 

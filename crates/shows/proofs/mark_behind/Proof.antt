@@ -3,32 +3,23 @@ use mathlib.Core.Path.{refl}
 use borrow.Author.Needs.{needs}
 use Rattle.shows.proofs.mark_behind.Statement.{statement}
 use Rattle.shows.proofs.mark_behind.Tie as tie
-use Rattle.shows.proofs.mark_behind.Reads as reads
-use Rattle.shows.proofs.mark_behind.Lts as lts
-use Rattle.lines.proofs.put_mark.Reads as put-mark-reads
 
--- src/lib.rt:147:24
 enum-known-s : tie.Need-enum-known-s
 enum-known-s c = search needs
 
--- src/lib.rt:148:21
 enum-known-s-2 : tie.Need-enum-known-s-2
 enum-known-s-2 c = search needs
 
--- src/lib.rt:150:17
 put-mark-requires : tie.Need-put-mark-requires
 put-mark-requires c κs = search needs
 
--- src/lib.rt:142:1
 returns : tie.Need-returns
 unfolding marked putMark
 returns c = rw (c .before .s .given .1) (refl, refl)
 
--- src/lib.rt:142:1
 same-length : tie.Need-same-length
 same-length c = search needs
 
--- src/lib.rt:142:1
 returns-2 : tie.Need-returns-2
 unfolding marked putMark
 returns-2 c = let e = c .before .before .put-mark .ensures in rw (c .before .before .before .before .before .before .s2 .given .1, e .ends) (refl, e .holds)

@@ -6,36 +6,25 @@ use Rattle.shows.proofs.Returns.{next-stands}
 use borrow.Author.Needs.{needs}
 use Rattle.shows.proofs.name_line.Statement.{statement}
 use Rattle.shows.proofs.name_line.Tie as tie
-use Rattle.shows.proofs.name_line.Reads as reads
-use Rattle.shows.proofs.name_line.Lts as lts
-use Rattle.shows.proofs.show_chain.Reads as show-chain-reads
-use Rattle.tokens.proofs.next_token.Reads as next-token-reads
 
--- src/lib.rt:690:9
 next-token-requires : tie.Need-next-token-requires
 next-token-requires c κs = search needs
 
--- src/lib.rt:692:24
 enum-known-l : tie.Need-enum-known-l
 enum-known-l c = search needs
 
--- src/lib.rt:693:22
 enum-known-l-2 : tie.Need-enum-known-l-2
 enum-known-l-2 c = search needs
 
--- src/lib.rt:693:28
 show-chain-requires : tie.Need-show-chain-requires
 show-chain-requires c κs = next-stands _ _ _ (sym (c .before .before .before .before .next-token .ensures) ∙ c .before .before .l2 .given .1)
 
--- src/lib.rt:686:1
 returns : tie.Need-returns
 returns c = first-failed chain chain-bads _ _ _ _ _ (sym (c .before .before .before .next-token .ensures) ∙ c .before .l .given .1)
 
--- src/lib.rt:686:1
 same-length : tie.Need-same-length
 same-length c = search needs
 
--- src/lib.rt:686:1
 returns-2 : tie.Need-returns-2
 returns-2 c = first-shown chain _ _ _ _ (c .before .before .before .before .before .l2 .given .0 .0) _ (sym (c .before .before .before .before .before .before .before .next-token .ensures) ∙ c .before .before .before .before .before .l2 .given .1) (c .before .before .show-chain .ensures)
 

@@ -1,45 +1,33 @@
 use Rattle.shows.proofs.Returns.{angles-some}
 use Rattle.shows.specs.Shown.{angled, putAngles}
-use mathlib.Core.Path.{refl, _∙_, ap}
+use mathlib.Core.Path.{refl}
 use borrow.Author.Needs.{needs}
 use Rattle.shows.proofs.put_angles.Statement.{statement}
 use Rattle.shows.proofs.put_angles.Tie as tie
-use Rattle.shows.proofs.put_angles.Reads as reads
-use Rattle.shows.proofs.put_angles.Lts as lts
-use Rattle.buffer.proofs.put.Reads as put-reads
-use Rattle.lines.proofs.put_mark.Reads as put-mark-reads
 
--- src/lib.rt:186:24
 enum-known-s : tie.Need-enum-known-s
 enum-known-s c = search needs
 
--- src/lib.rt:187:21
 enum-known-s-2 : tie.Need-enum-known-s-2
 enum-known-s-2 c = search needs
 
--- src/lib.rt:190:17
 returns : tie.Need-returns
 unfolding angled putAngles
 returns c = rw (c .before .before .before .s2 .given .1, c .if1 .taken) (refl, refl)
 
--- src/lib.rt:196:13
 put-requires : tie.Need-put-requires
 put-requires c κs = search needs
 
--- src/lib.rt:197:17
 put-mark-requires : tie.Need-put-mark-requires
 put-mark-requires c κs = search needs
 
--- src/lib.rt:181:1
 returns-2 : tie.Need-returns-2
 unfolding angled putAngles
 returns-2 c = rw (c .before .s .given .1) (refl, refl)
 
--- src/lib.rt:181:1
 same-length : tie.Need-same-length
 same-length c = search needs
 
--- src/lib.rt:181:1
 returns-3 : tie.Need-returns-3
 returns-3 c = angles-some _ _ _ _ _ _ _ (c .before .before .before .before .before .before .before .before .before .before .before .s2 .given .1) (c .before .before .before .before .before .before .before .before .if1 .left) (c .before .before .before .before .before .before .put .ensures) (c .before .before .put-mark .ensures)
 

@@ -1,42 +1,30 @@
 use Rattle.shows.proofs.Returns.{chain-failed, chain-shown}
-use mathlib.Core.Path.{sym, _∙_, subst}
+use mathlib.Core.Path.{sym, _∙_}
 use borrow.Author.Needs.{needs}
 use Rattle.shows.proofs.show_chain.Statement.{statement}
 use Rattle.shows.proofs.show_chain.Tie as tie
-use Rattle.shows.proofs.show_chain.Reads as reads
-use Rattle.shows.proofs.show_chain.Lts as lts
-use Rattle.lines.proofs.put_tokens.Reads as put-tokens-reads
-use Rattle.names.proofs.parse_chain_at.Reads as parse-chain-at-reads
 
--- src/lib.rt:276:44
 slice-aggregate-parse-chain-at : tie.Need-slice-aggregate-parse-chain-at
 slice-aggregate-parse-chain-at c = search needs
 
--- src/lib.rt:276:9
 parse-chain-at-requires : tie.Need-parse-chain-at-requires
 parse-chain-at-requires c κs = search needs
 
--- src/lib.rt:278:25
 enum-known-c : tie.Need-enum-known-c
 enum-known-c c = search needs
 
--- src/lib.rt:279:22
 enum-known-c-2 : tie.Need-enum-known-c-2
 enum-known-c-2 c = search needs
 
--- src/lib.rt:281:17
 put-tokens-requires : tie.Need-put-tokens-requires
 put-tokens-requires c κs = search needs
 
--- src/lib.rt:270:1
 returns : tie.Need-returns
 returns c = chain-failed _ _ (c .before .before .before .before .before .before .before .before .pre) _ _ _ _ (sym (c .before .c .given .1) ∙ c .before .before .before .before .parse-chain-at .ensures .0)
 
--- src/lib.rt:270:1
 same-length : tie.Need-same-length
 same-length c = search needs
 
--- src/lib.rt:270:1
 returns-2 : tie.Need-returns-2
 returns-2 c = chain-shown _ _ (c .before .before .before .before .before .before .before .before .before .before .before .before .before .pre) _ _ _ _ _ (sym (c .before .before .before .before .before .before .c2 .given .1) ∙ c .before .before .before .before .before .before .before .before .before .parse-chain-at .ensures .0) (c .before .before .put-tokens .ensures)
 

@@ -3,40 +3,28 @@ use mathlib.Core.Path.{sym, _∙_}
 use borrow.Author.Needs.{needs}
 use Rattle.shows.proofs.show_value.Statement.{statement}
 use Rattle.shows.proofs.show_value.Tie as tie
-use Rattle.shows.proofs.show_value.Reads as reads
-use Rattle.shows.proofs.show_value.Lts as lts
-use Rattle.lines.proofs.put_tokens.Reads as put-tokens-reads
-use Rattle.names.proofs.maybe_parse_value.Reads as maybe-parse-value-reads
 
--- src/lib.rt:298:53
 slice-aggregate-maybe-parse-value : tie.Need-slice-aggregate-maybe-parse-value
 slice-aggregate-maybe-parse-value c = search needs
 
--- src/lib.rt:298:9
 maybe-parse-value-requires : tie.Need-maybe-parse-value-requires
 maybe-parse-value-requires c κs = search needs
 
--- src/lib.rt:300:25
 enum-known-c : tie.Need-enum-known-c
 enum-known-c c = search needs
 
--- src/lib.rt:301:22
 enum-known-c-2 : tie.Need-enum-known-c-2
 enum-known-c-2 c = search needs
 
--- src/lib.rt:303:17
 put-tokens-requires : tie.Need-put-tokens-requires
 put-tokens-requires c κs = search needs
 
--- src/lib.rt:292:1
 returns : tie.Need-returns
 returns c = value-failed _ _ (c .before .before .before .before .before .before .before .before .pre) _ _ _ _ (sym (c .before .c .given .1) ∙ c .before .before .before .before .maybe-parse-value .ensures .0)
 
--- src/lib.rt:292:1
 same-length : tie.Need-same-length
 same-length c = search needs
 
--- src/lib.rt:292:1
 returns-2 : tie.Need-returns-2
 returns-2 c = value-shown _ _ (c .before .before .before .before .before .before .before .before .before .before .before .before .before .pre) _ _ _ _ _ (sym (c .before .before .before .before .before .before .c2 .given .1) ∙ c .before .before .before .before .before .before .before .before .before .maybe-parse-value .ensures .0) (c .before .before .put-tokens .ensures)
 

@@ -6,41 +6,28 @@ use Rattle.shows.proofs.Returns.{next-stands}
 use borrow.Author.Needs.{needs}
 use Rattle.shows.proofs.type_line.Statement.{statement}
 use Rattle.shows.proofs.type_line.Tie as tie
-use Rattle.shows.proofs.type_line.Reads as reads
-use Rattle.shows.proofs.type_line.Lts as lts
-use Rattle.shows.proofs.show_type.Reads as show-type-reads
-use Rattle.shows.proofs.with_flag.Reads as with-flag-reads
-use Rattle.tokens.proofs.next_token.Reads as next-token-reads
 
--- src/lib.rt:714:9
 next-token-requires : tie.Need-next-token-requires
 next-token-requires c κs = search needs
 
--- src/lib.rt:716:24
 enum-known-l : tie.Need-enum-known-l
 enum-known-l c = search needs
 
--- src/lib.rt:717:22
 enum-known-l-2 : tie.Need-enum-known-l-2
 enum-known-l-2 c = search needs
 
--- src/lib.rt:717:38
 show-type-requires : tie.Need-show-type-requires
 show-type-requires c κs = next-stands _ _ _ (sym (c .before .before .before .before .next-token .ensures) ∙ c .before .before .l2 .given .1)
 
--- src/lib.rt:717:28
 with-flag-requires : tie.Need-with-flag-requires
 with-flag-requires c κs = search needs
 
--- src/lib.rt:710:1
 returns : tie.Need-returns
 returns c = first-failed (readType levels) (type-bads levels) _ _ _ _ _ (sym (c .before .before .before .next-token .ensures) ∙ c .before .l .given .1)
 
--- src/lib.rt:710:1
 same-length : tie.Need-same-length
 same-length c = search needs
 
--- src/lib.rt:710:1
 returns-2 : tie.Need-returns-2
 returns-2 c = first-type _ _ _ _ (c .before .before .before .before .before .before .l2 .given .0 .0) _ _ (sym (c .before .before .before .before .before .before .before .before .next-token .ensures) ∙ c .before .before .before .before .before .before .l2 .given .1) (c .before .before .before .show-type .ensures) (c .with-flag .ensures)
 

@@ -2,23 +2,17 @@ use Rattle.shows.specs.Shown.{flagged}
 use borrow.Author.Needs.{needs}
 use Rattle.shows.proofs.with_flag.Statement.{statement}
 use Rattle.shows.proofs.with_flag.Tie as tie
-use Rattle.shows.proofs.with_flag.Reads as reads
-use Rattle.shows.proofs.with_flag.Lts as lts
 
--- src/lib.rt:129:24
 enum-known-s : tie.Need-enum-known-s
 enum-known-s c = search needs
 
--- src/lib.rt:130:21
 enum-known-s-2 : tie.Need-enum-known-s-2
 enum-known-s-2 c = search needs
 
--- src/lib.rt:125:1
 returns : tie.Need-returns
 unfolding flagged
 returns c = rw (c .before .s .given .1)
 
--- src/lib.rt:125:1
 returns-2 : tie.Need-returns-2
 unfolding flagged
 returns-2 c = rw (c .before .before .s2 .given .1)

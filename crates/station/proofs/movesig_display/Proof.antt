@@ -3,40 +3,28 @@ use Rattle.display.proofs.Answers.{line-numbers, refused-numbers}
 use borrow.Author.Needs.{needs}
 use Rattle.station.proofs.movesig_display.Statement.{statement}
 use Rattle.station.proofs.movesig_display.Tie as tie
-use Rattle.station.proofs.movesig_display.Reads as reads
-use Rattle.station.proofs.movesig_display.Lts as lts
-use Rattle.display.proofs.display.Reads as display-reads
-use Rattle.station.proofs.refusal_values.Reads as refusal-values-reads
 
--- src/lib.rt:117:9
 display-requires : tie.Need-display-requires
 display-requires c κs = search needs
 
--- src/lib.rt:119:25
 enum-known-d : tie.Need-enum-known-d
 enum-known-d c = search needs
 
--- src/lib.rt:123:28
 enum-known-d-2 : tie.Need-enum-known-d-2
 enum-known-d-2 c = search needs
 
--- src/lib.rt:124:23
 refusal-values-requires : tie.Need-refusal-values-requires
 refusal-values-requires c κs = search needs
 
--- src/lib.rt:105:1
 same-length : tie.Need-same-length
 same-length c = search needs
 
--- src/lib.rt:105:1
 returns : tie.Need-returns
 returns c = let e = line-numbers _ _ (sym (c .before .before .d .given .1) ∙ c .before .before .before .before .before .before .display .ensures .0) in (e .0, (e .1, c .before .before .before .before .before .before .display .ensures .1))
 
--- src/lib.rt:105:1
 same-length-2 : tie.Need-same-length-2
 same-length-2 c = search needs
 
--- src/lib.rt:105:1
 returns-2 : tie.Need-returns-2
 returns-2 c = let e = refused-numbers _ _ (sym (c .before .before .d2 .given .1) ∙ c .before .before .before .before .before .before .display .ensures .0) in (e .0, (c .refusal-values .ensures ∙ e .1, c .before .before .before .before .before .before .display .ensures .1))
 

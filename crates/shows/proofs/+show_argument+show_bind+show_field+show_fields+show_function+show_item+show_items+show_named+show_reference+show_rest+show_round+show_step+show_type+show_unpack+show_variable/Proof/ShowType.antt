@@ -1,6 +1,10 @@
 -- What the borrow checker leaves of `show_type`.
 -- Assumes nothing.
-use Rattle.shows.proofs.Returns.{type-deep, type-round, type-reference, type-mutable, type-function, type-named}
+use Rattle.lines.specs.Line.{shown}
+use Rattle.shows.specs.Shown.{isFunction}
+use Rattle.shows.proofs.Showing.{shows-as}
+use Rattle.shows.proofs.Returns.{token-refused}
+use Rattle.types.proofs.Returns.{type-is-deep, type-is-brackets, type-is-reference, type-is-mutable, type-is-function, type-is-named}
 use borrow.Author.Needs.{needs}
 use Prim.Native.Nat.{ℕ}
 use Rattle.shows.proofs.show_type.Reads as show-type
@@ -19,7 +23,7 @@ pub refused-at-requires : (t : ℕ) → lts.Need-refused-at-requires (claims t) 
 refused-at-requires t c κs = search needs
 
 pub returns : (t : ℕ) → lts.Need-returns (claims t) (show-type-at t) show-type.Post
-returns t c = type-deep _ (c .before .before .before .before .args .a) _ _ _ _ _ (c .before .if1 .taken) (c .refused-at .ensures)
+returns t c = token-refused _ 14 _ _ _ (c .before .before .before .before .args .a) _ (c .refused-at .ensures) (type-is-deep _ (c .before .before .before .before .args .a) _ (c .before .if1 .taken))
 
 pub sub-show-round : (t : ℕ) → lts.Need-sub-show-round (claims t) (show-type-at t) show-type.Post
 sub-show-round t c = search needs
@@ -31,7 +35,7 @@ pub same-length : (t : ℕ) → lts.Need-same-length (claims t) (show-type-at t)
 same-length t c = search needs
 
 pub returns-2 : (t : ℕ) → lts.Need-returns-2 (claims t) (show-type-at t) show-type.Post
-returns-2 t c = type-round _ (c .before .before .before .before .before .before .before .before .before .args .a) _ _ _ _ _ (c .before .before .before .before .before .before .if1 .left) (c .before .before .before .before .if2 .taken) (c .before .before .show-round .ensures)
+returns-2 t c = shows-as shown isFunction _ _ _ _ _ _ (type-is-brackets _ (c .before .before .before .before .before .before .before .before .before .args .a) _ (c .before .before .before .before .before .before .if1 .left) (c .before .before .before .before .if2 .taken)) (c .before .before .show-round .ensures)
 
 pub sub-show-reference : (t : ℕ) → lts.Need-sub-show-reference (claims t) (show-type-at t) show-type.Post
 sub-show-reference t c = search needs
@@ -43,7 +47,7 @@ pub same-length-2 : (t : ℕ) → lts.Need-same-length-2 (claims t) (show-type-a
 same-length-2 t c = search needs
 
 pub returns-3 : (t : ℕ) → lts.Need-returns-3 (claims t) (show-type-at t) show-type.Post
-returns-3 t c = type-reference _ (c .before .before .before .before .before .before .before .before .before .before .before .args .a) _ _ _ _ _ (c .before .before .before .before .before .before .before .before .if1 .left) (c .before .before .before .before .before .before .if2 .left) (c .before .before .before .before .if3 .taken) (c .before .before .show-reference .ensures)
+returns-3 t c = shows-as shown isFunction _ _ _ _ _ _ (type-is-reference _ (c .before .before .before .before .before .before .before .before .before .before .before .args .a) _ (c .before .before .before .before .before .before .before .before .if1 .left) (c .before .before .before .before .before .before .if2 .left) (c .before .before .before .before .if3 .taken)) (c .before .before .show-reference .ensures)
 
 pub sub-show-reference-2 : (t : ℕ) → lts.Need-sub-show-reference-2 (claims t) (show-type-at t) show-type.Post
 sub-show-reference-2 t c = search needs
@@ -55,7 +59,7 @@ pub same-length-3 : (t : ℕ) → lts.Need-same-length-3 (claims t) (show-type-a
 same-length-3 t c = search needs
 
 pub returns-4 : (t : ℕ) → lts.Need-returns-4 (claims t) (show-type-at t) show-type.Post
-returns-4 t c = type-mutable _ (c .before .before .before .before .before .before .before .before .before .before .before .before .before .args .a) _ _ _ _ _ (c .before .before .before .before .before .before .before .before .before .before .if1 .left) (c .before .before .before .before .before .before .before .before .if2 .left) (c .before .before .before .before .before .before .if3 .left) (c .before .before .before .before .if4 .taken) (c .before .before .show-reference2 .ensures)
+returns-4 t c = shows-as shown isFunction _ _ _ _ _ _ (type-is-mutable _ (c .before .before .before .before .before .before .before .before .before .before .before .before .before .args .a) _ (c .before .before .before .before .before .before .before .before .before .before .if1 .left) (c .before .before .before .before .before .before .before .before .if2 .left) (c .before .before .before .before .before .before .if3 .left) (c .before .before .before .before .if4 .taken)) (c .before .before .show-reference2 .ensures)
 
 pub sub-show-function : (t : ℕ) → lts.Need-sub-show-function (claims t) (show-type-at t) show-type.Post
 sub-show-function t c = search needs
@@ -67,7 +71,7 @@ pub same-length-4 : (t : ℕ) → lts.Need-same-length-4 (claims t) (show-type-a
 same-length-4 t c = search needs
 
 pub returns-5 : (t : ℕ) → lts.Need-returns-5 (claims t) (show-type-at t) show-type.Post
-returns-5 t c = type-function _ (c .before .before .before .before .before .before .before .before .before .before .before .before .before .before .before .args .a) _ _ _ _ _ (c .before .before .before .before .before .before .before .before .before .before .before .before .if1 .left) (c .before .before .before .before .before .before .before .before .before .before .if2 .left) (c .before .before .before .before .before .before .before .before .if3 .left) (c .before .before .before .before .before .before .if4 .left) (c .before .before .before .before .if5 .taken) (c .before .before .show-function .ensures)
+returns-5 t c = shows-as shown isFunction _ _ _ _ _ _ (type-is-function _ (c .before .before .before .before .before .before .before .before .before .before .before .before .before .before .before .args .a) _ (c .before .before .before .before .before .before .before .before .before .before .before .before .if1 .left) (c .before .before .before .before .before .before .before .before .before .before .if2 .left) (c .before .before .before .before .before .before .before .before .if3 .left) (c .before .before .before .before .before .before .if4 .left) (c .before .before .before .before .if5 .taken)) (c .before .before .show-function .ensures)
 
 pub sub-show-named : (t : ℕ) → lts.Need-sub-show-named (claims t) (show-type-at t) show-type.Post
 sub-show-named t c = search needs
@@ -79,4 +83,4 @@ pub same-length-5 : (t : ℕ) → lts.Need-same-length-5 (claims t) (show-type-a
 same-length-5 t c = search needs
 
 pub returns-6 : (t : ℕ) → lts.Need-returns-6 (claims t) (show-type-at t) show-type.Post
-returns-6 t c = type-named _ (c .before .before .before .before .before .before .before .before .before .before .before .before .before .before .before .args .a) _ _ _ _ _ (c .before .before .before .before .before .before .before .before .before .before .before .before .if1 .left) (c .before .before .before .before .before .before .before .before .before .before .if2 .left) (c .before .before .before .before .before .before .before .before .if3 .left) (c .before .before .before .before .before .before .if4 .left) (c .before .before .before .before .if5 .left) (c .before .before .show-named .ensures)
+returns-6 t c = shows-as shown isFunction _ _ _ _ _ _ (type-is-named _ (c .before .before .before .before .before .before .before .before .before .before .before .before .before .before .before .args .a) _ (c .before .before .before .before .before .before .before .before .before .before .before .before .if1 .left) (c .before .before .before .before .before .before .before .before .before .before .if2 .left) (c .before .before .before .before .before .before .before .before .if3 .left) (c .before .before .before .before .before .before .if4 .left) (c .before .before .before .before .if5 .left)) (c .before .before .show-named .ensures)

@@ -1,6 +1,8 @@
 -- What the borrow checker leaves of `type_at`.
 -- Assumes nothing.
-use Rattle.types.proofs.Returns.{type-deep, type-brackets, type-reference, type-mutable, type-function, type-named}
+use Rattle.records.specs.Stored.{stored}
+use Rattle.names.proofs.Steps.{gives-no, gives-as}
+use Rattle.types.proofs.Returns.{type-is-deep, type-is-brackets, type-is-reference, type-is-mutable, type-is-function, type-is-named}
 use native.Mathlib.Omega.{arith}
 use borrow.Author.Needs.{needs}
 use Prim.Native.Nat.{ℕ}
@@ -20,7 +22,7 @@ pub too-deep-requires : (t : ℕ) → lts.Need-too-deep-requires (claims t) (typ
 too-deep-requires t c κs = search needs
 
 pub returns : (t : ℕ) → lts.Need-returns (claims t) (type-at-at t) type-at.Post
-returns t c = type-deep _ (c .before .before .before .before .args .a) _ _ _ _ _ (c .before .if1 .taken) (c .too-deep .ensures)
+returns t c = gives-no stored _ _ _ _ _ _ (c .too-deep .ensures) (type-is-deep _ (c .before .before .before .before .args .a) _ (c .before .if1 .taken))
 
 pub sub-brackets-at : (t : ℕ) → lts.Need-sub-brackets-at (claims t) (type-at-at t) type-at.Post
 sub-brackets-at t c = search needs
@@ -32,7 +34,7 @@ pub same-length : (t : ℕ) → lts.Need-same-length (claims t) (type-at-at t) t
 same-length t c = search needs
 
 pub returns-2 : (t : ℕ) → lts.Need-returns-2 (claims t) (type-at-at t) type-at.Post
-returns-2 t c = type-brackets _ (c .before .before .before .before .before .before .before .before .before .args .a) _ _ _ _ _ (c .before .before .before .before .before .before .if1 .left) (c .before .before .before .before .if2 .taken) (c .before .before .brackets-at .ensures)
+returns-2 t c = gives-as stored _ _ _ _ _ _ (type-is-brackets _ (c .before .before .before .before .before .before .before .before .before .args .a) _ (c .before .before .before .before .before .before .if1 .left) (c .before .before .before .before .if2 .taken)) (c .before .before .brackets-at .ensures)
 
 pub sub-reference-at : (t : ℕ) → lts.Need-sub-reference-at (claims t) (type-at-at t) type-at.Post
 sub-reference-at t c = search needs
@@ -44,7 +46,7 @@ pub same-length-2 : (t : ℕ) → lts.Need-same-length-2 (claims t) (type-at-at 
 same-length-2 t c = search needs
 
 pub returns-3 : (t : ℕ) → lts.Need-returns-3 (claims t) (type-at-at t) type-at.Post
-returns-3 t c = type-reference _ (c .before .before .before .before .before .before .before .before .before .before .before .args .a) _ _ _ _ _ (c .before .before .before .before .before .before .before .before .if1 .left) (c .before .before .before .before .before .before .if2 .left) (c .before .before .before .before .if3 .taken) (c .before .before .reference-at .ensures)
+returns-3 t c = gives-as stored _ _ _ _ _ _ (type-is-reference _ (c .before .before .before .before .before .before .before .before .before .before .before .args .a) _ (c .before .before .before .before .before .before .before .before .if1 .left) (c .before .before .before .before .before .before .if2 .left) (c .before .before .before .before .if3 .taken)) (c .before .before .reference-at .ensures)
 
 pub sub-reference-at-2 : (t : ℕ) → lts.Need-sub-reference-at-2 (claims t) (type-at-at t) type-at.Post
 sub-reference-at-2 t c = search needs
@@ -56,7 +58,7 @@ pub same-length-3 : (t : ℕ) → lts.Need-same-length-3 (claims t) (type-at-at 
 same-length-3 t c = search needs
 
 pub returns-4 : (t : ℕ) → lts.Need-returns-4 (claims t) (type-at-at t) type-at.Post
-returns-4 t c = type-mutable _ (c .before .before .before .before .before .before .before .before .before .before .before .before .before .args .a) _ _ _ _ _ (c .before .before .before .before .before .before .before .before .before .before .if1 .left) (c .before .before .before .before .before .before .before .before .if2 .left) (c .before .before .before .before .before .before .if3 .left) (c .before .before .before .before .if4 .taken) (c .before .before .reference-at2 .ensures)
+returns-4 t c = gives-as stored _ _ _ _ _ _ (type-is-mutable _ (c .before .before .before .before .before .before .before .before .before .before .before .before .before .args .a) _ (c .before .before .before .before .before .before .before .before .before .before .if1 .left) (c .before .before .before .before .before .before .before .before .if2 .left) (c .before .before .before .before .before .before .if3 .left) (c .before .before .before .before .if4 .taken)) (c .before .before .reference-at2 .ensures)
 
 pub sub-function-at : (t : ℕ) → lts.Need-sub-function-at (claims t) (type-at-at t) type-at.Post
 sub-function-at t c = search needs
@@ -68,7 +70,7 @@ pub same-length-4 : (t : ℕ) → lts.Need-same-length-4 (claims t) (type-at-at 
 same-length-4 t c = search needs
 
 pub returns-5 : (t : ℕ) → lts.Need-returns-5 (claims t) (type-at-at t) type-at.Post
-returns-5 t c = type-function _ (c .before .before .before .before .before .before .before .before .before .before .before .before .before .before .before .args .a) _ _ _ _ _ (c .before .before .before .before .before .before .before .before .before .before .before .before .if1 .left) (c .before .before .before .before .before .before .before .before .before .before .if2 .left) (c .before .before .before .before .before .before .before .before .if3 .left) (c .before .before .before .before .before .before .if4 .left) (c .before .before .before .before .if5 .taken) (c .before .before .function-at .ensures)
+returns-5 t c = gives-as stored _ _ _ _ _ _ (type-is-function _ (c .before .before .before .before .before .before .before .before .before .before .before .before .before .before .before .args .a) _ (c .before .before .before .before .before .before .before .before .before .before .before .before .if1 .left) (c .before .before .before .before .before .before .before .before .before .before .if2 .left) (c .before .before .before .before .before .before .before .before .if3 .left) (c .before .before .before .before .before .before .if4 .left) (c .before .before .before .before .if5 .taken)) (c .before .before .function-at .ensures)
 
 pub sub-named-at : (t : ℕ) → lts.Need-sub-named-at (claims t) (type-at-at t) type-at.Post
 sub-named-at t c = search needs
@@ -80,4 +82,4 @@ pub same-length-5 : (t : ℕ) → lts.Need-same-length-5 (claims t) (type-at-at 
 same-length-5 t c = search needs
 
 pub returns-6 : (t : ℕ) → lts.Need-returns-6 (claims t) (type-at-at t) type-at.Post
-returns-6 t c = type-named _ (c .before .before .before .before .before .before .before .before .before .before .before .before .before .before .before .args .a) _ _ _ _ _ (c .before .before .before .before .before .before .before .before .before .before .before .before .if1 .left) (c .before .before .before .before .before .before .before .before .before .before .if2 .left) (c .before .before .before .before .before .before .before .before .if3 .left) (c .before .before .before .before .before .before .if4 .left) (c .before .before .before .before .if5 .left) (c .before .before .named-at .ensures)
+returns-6 t c = gives-as stored _ _ _ _ _ _ (type-is-named _ (c .before .before .before .before .before .before .before .before .before .before .before .before .before .before .before .args .a) _ (c .before .before .before .before .before .before .before .before .before .before .before .before .if1 .left) (c .before .before .before .before .before .before .before .before .before .before .if2 .left) (c .before .before .before .before .before .before .before .before .if3 .left) (c .before .before .before .before .before .before .if4 .left) (c .before .before .before .before .if5 .left)) (c .before .before .named-at .ensures)
