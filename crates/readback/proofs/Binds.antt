@@ -2,24 +2,25 @@
 -- Assumes nothing.
 use mathlib.Core.Path.{_≡_, refl, ap, ap₂, _∙_}
 use mathlib.Core.Bool.{Bool, true, false}
-use mathlib.Core.List.{List, [], _∷_, _++_, append-assoc}
+use mathlib.Core.List.{List, _∷_, _++_, append-assoc}
 use Prim.Native.Nat.{ℕ, zero, suc, _+_, _≤_}
 use native.Mathlib.Omega.{arith}
 use lib.Dec.{eqb}
 use lib.ListN.{length}
 use Rattle.classes.specs.Class.{inRange, isDigit, isLetter, isName}
 use Rattle.tokens.specs.Token.{Scanned, lex}
-use Rattle.records.specs.Tree.{nameKind, variableKind, structKind, structWithKind, fieldKind, bindListKind, lambdaListKind, Tree, Trees, none, more, joined, Build, spelled, made, Builds, bnone, bmore, build, builds}
+use Rattle.records.specs.Tree.{nameKind, variableKind, structKind, structWithKind, fieldKind, bindListKind, lambdaListKind, Tree, Trees, Build, spelled, made, Builds, bnone, bmore, build, builds}
 use Rattle.names.specs.Reading.{when, closing, listBehind, identifierTok, closeTok, greaterTok, pipeTok, endBraceTok}
 use Rattle.names.specs.Names.{isFirst}
 use Rattle.types.specs.Types.{levels, readType}
 use Rattle.binds.specs.Binds.{isStruct, fields, structOver, unpacked, bindOver, fieldOver, readField, readBind, readBindList, readLambdaList}
-use Rattle.lines.specs.Line.{Piece, plain, commas, bars, brackets as inBrackets, braces, first as firstLine, later, select, isField, isType, shape, kindOf, line, pieces}
+use Rattle.lines.specs.Line.{Piece, plain, commas, bars, brackets as inBrackets, braces, first as firstLine, later, isField, shape, kindOf, line, pieces}
 use Rattle.readback.proofs.Words.{Stops, extends, Spelled, Good, lex-good}
 use Rattle.readback.proofs.Answers.{Sure, Gives, gives, sure-map, sure-then, sure-look, sure-when, gives-then, gives-look, gives-look-by, gives-true, gives-false, gives-when}
 use Rattle.readback.proofs.Marks.{lexer, widens, lex-blank, lex-open, lex-less, lex-bar, lex-brace, lex-colon, First, no-bar, After, Ends, ends-brace, ends-open, ends-less}
-use Rattle.readback.proofs.Lists.{join, piece, commas-plain, Closed, Reads, All, Apart, list-reads, list-reads-blank, list-first, behind-sure}
+use Rattle.readback.proofs.Lists.{join, commas-plain, Closed, Reads, Apart, list-reads, list-reads-blank, list-first, behind-sure}
 use Rattle.readback.proofs.Names.{colons, Ahead, Chain, identifier, chain-sure}
+use Rattle.lines.proofs.Parting.{All, bjoined, builds-joined, Is, types-of, fields-of}
 use Rattle.readback.proofs.Types.{beginsType, apart-greater, closed-greater, closed-close, closed-bar, round, Plain, opens-angle, From, up, Typed, all-from, all-map, plains, type-sure}
 
 -- the token that begins a field
@@ -62,39 +63,6 @@ field-line w b z = append-assoc w (58 ∷ 32 ∷ line b) z
 struct-line : (c : Build) (fs : Builds) (z : List ℕ) → line (made structKind (bmore c fs)) ++ z ≡ line c ++ (32 ∷ braced fs z)
 unfolding line shape firstLine later
 struct-line c fs z = append-assoc (line c) (braces (plain (pieces fs))) z ∙ ap (_++_ (line c)) (braces-line fs z)
-
--- types and fields, told apart
-abbrev bjoined : Builds → Builds → Builds
-bjoined bnone cs = cs
-bjoined (bmore b bs) cs = bmore b (bjoined bs cs)
-
-builds-joined : (ts us : Trees) → builds (joined ts us) ≡ bjoined (builds ts) (builds us)
-unfolding joined builds
-builds-joined none us = refl
-builds-joined (more t ts) us = ap (bmore (build t)) (builds-joined ts us)
-
-abbrev Is : Bool → Build → Type 0
-Is v b = isField (kindOf b) ≡ v
-
-fields-none : (fs : Builds) → All (Is true) fs → select isType (pieces fs) ≡ []
-unfolding select isType pieces
-fields-none bnone a = refl
-fields-none (bmore f fs) a = rw (a .0) (fields-none fs (a .1))
-
-fields-all : (fs : Builds) → All (Is true) fs → select isField (pieces fs) ≡ pieces fs
-unfolding select pieces
-fields-all bnone a = refl
-fields-all (bmore f fs) a = rw (a .0) (ap (_∷_ (piece f)) (fields-all fs (a .1)))
-
-types-of : (ts fs : Builds) → All (Is false) ts → All (Is true) fs → select isType (pieces (bjoined ts fs)) ≡ pieces ts
-unfolding select isType pieces
-types-of bnone fs a b = fields-none fs b
-types-of (bmore t ts) fs a b = rw (a .0) (ap (_∷_ (piece t)) (types-of ts fs (a .1) b))
-
-fields-of : (ts fs : Builds) → All (Is false) ts → All (Is true) fs → select isField (pieces (bjoined ts fs)) ≡ pieces fs
-unfolding select pieces
-fields-of bnone fs a b = fields-all fs b
-fields-of (bmore t ts) fs a b = rw (a .0) (fields-of ts fs (a .1) b)
 
 -- behind the name of a struct with types
 abbrev withTypes : Builds → Builds → List ℕ → List ℕ

@@ -13,7 +13,8 @@ use Rattle.tokens.specs.Token.{Scanned, tok, bad, lex}
 use Rattle.records.specs.Tree.{Tree, Trees, none, more, Build, Builds, bnone, bmore, build, builds}
 use Rattle.names.specs.Reading.{Ans, when, closes, stays, closing, commaTok, greaterTok, shiftTok, afterItem, list, listBehind}
 use Rattle.binds.specs.Binds.{isStruct}
-use Rattle.lines.specs.Line.{Piece, plain, argument, arguments, others, commas, kindOf, line, pieces}
+use Rattle.lines.specs.Line.{plain, argument, arguments, others, commas, line, pieces}
+use Rattle.lines.proofs.Parting.{All, piece}
 use Rattle.readback.proofs.Words.{differs, Good, lex-good}
 use Rattle.readback.proofs.Answers.{Sure, Gives, gives, sure-then, sure-look, sure-when, sure-closed, gives-then, gives-look, gives-look-by, gives-true, gives-false, gives-closes, gives-stays}
 use Rattle.readback.proofs.Marks.{First, Ends, ends-comma, lex-blank, lex-comma}
@@ -28,9 +29,6 @@ join sel bnone y = y
 join sel (bmore b bs) y = sel b ++ rest sel bs y
 
 -- a build as an argument of a function type
-abbrev pub piece : Build → Piece
-piece b = record { kind = kindOf b; text = line b }
-
 abbrev pub argLine : Build → List ℕ
 argLine b = argument (piece b)
 
@@ -68,10 +66,6 @@ pub record Closed (close : ℕ) (y z : List ℕ) : Type 0 where
 pub record Reads (item : Scanned → Ans Tree) (F : ℕ → Bool) (w : List ℕ) (b : Build) : Type 0 where
   pub first : (p : ℕ) (z : List ℕ) → Ends isStruct z → First F (lex p (w ++ z))
   pub back : (p : ℕ) (z : List ℕ) → Ends isStruct z → Gives build b z (item (lex p (w ++ z)))
-
-abbrev pub All : (Build → Type 0) → Builds → Type 0
-All P bnone = Unit {0}
-All P (bmore b bs) = P b × All P bs
 
 abbrev count : Builds → ℕ
 count bnone = 0

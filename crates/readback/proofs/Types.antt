@@ -15,11 +15,12 @@ use Rattle.names.specs.Reading.{Ans, ok, then, when, closes, stays, closing, li
 use Rattle.names.specs.Names.{isFirst}
 use Rattle.types.specs.Types.{bracketed, withArguments, named, brackets, reference, function, typeOver, readType}
 use Rattle.binds.specs.Binds.{isStruct}
-use Rattle.lines.specs.Line.{Piece, plain, argument, arguments, commas, bars, angles, brackets as inBrackets, first as firstLine, later, initial, final, isField, shape, kindOf, line, pieces}
+use Rattle.lines.specs.Line.{Piece, plain, argument, arguments, commas, bars, angles, brackets as inBrackets, first as firstLine, later, isField, shape, kindOf, line, pieces}
+use Rattle.lines.proofs.Parting.{All, bbehind, builds-behind, initial-behind, final-behind}
 use Rattle.readback.proofs.Words.{Stops, differs, Good, lex-good}
 use Rattle.readback.proofs.Answers.{Sure, Gives, gives, sure-map, sure-then, sure-look, sure-when, gives-then, gives-look, gives-look-by, gives-true, gives-false}
 use Rattle.readback.proofs.Marks.{lexer, widens, lex-blank, lex-open, lex-amp, lex-ampmut, lex-less, lex-bar, lex-greater, First, no-bar, no-wider, After, Ends, ends-close, ends-less, ends-bar, ends-greater}
-use Rattle.readback.proofs.Lists.{join, piece, argLine, commas-plain, commas-arguments, ClosesTo, Closed, Reads, All, Apart, list-reads, list-reads-blank, list-first, Stays, behind-sure}
+use Rattle.readback.proofs.Lists.{join, argLine, commas-plain, commas-arguments, ClosesTo, Closed, Reads, Apart, list-reads, list-reads-blank, list-first, Stays, behind-sure}
 use Rattle.readback.proofs.Names.{colons, Chain, chain-sure}
 
 -- the tokens that begin a type which is no function type as it stands; and those that begin any type
@@ -99,28 +100,6 @@ ref-line b z = refl
 mut-line : (b : Build) (z : List ℕ) → line (made refMutKind (bmore b bnone)) ++ z ≡ bytes "&mut " ++ (line b ++ z)
 unfolding line shape firstLine
 mut-line b z = refl
-
--- one build behind others
-abbrev bbehind : Builds → Build → Builds
-bbehind bnone u = bmore u bnone
-bbehind (bmore b bs) u = bmore b (bbehind bs u)
-
-builds-behind : (ts : Trees) (u : Tree) → builds (behind ts u) ≡ bbehind (builds ts) (build u)
-unfolding behind builds
-builds-behind none u = refl
-builds-behind (more t ts) u = ap (bmore (build t)) (builds-behind ts u)
-
-initial-behind : (bs : Builds) (r : Build) → initial (pieces (bbehind bs r)) ≡ pieces bs
-unfolding initial pieces
-initial-behind bnone r = refl
-initial-behind (bmore b bnone) r = refl
-initial-behind (bmore b (bmore c bs)) r = ap (_∷_ (piece b)) (initial-behind (bmore c bs) r)
-
-final-behind : (bs : Builds) (r : Build) → final (pieces (bbehind bs r)) ≡ line r
-unfolding final pieces
-final-behind bnone r = refl
-final-behind (bmore b bnone) r = refl
-final-behind (bmore b (bmore c bs)) r = final-behind (bmore c bs) r
 
 -- `|a, b|`, and `| |`
 abbrev barred : Builds → List ℕ → List ℕ

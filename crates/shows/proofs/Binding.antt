@@ -36,7 +36,7 @@ use Rattle.shows.specs.declared.Shown.the-variants.{Line, Refused}
 use Rattle.shows.specs.declared.Sort.the-variants.{Plain, Field, Binding}
 use Rattle.shows.specs.Shown.{itemOf, isFunction, itemsOf, isNone, never, bracesOf, drawn, refusedAt, flagged, marked, putMark, barsEnd, barred, putBar}
 use Rattle.shows.proofs.Showing.{Shows, shows-as, at-once, late, Drew, drew, shows-line, fails, shows-fails, fails-then, fails-look, fails-no, fails-as, shows-behind, shows-made, shows-flag, shows-mark, shows-bar, shows-same}
-use Rattle.shows.proofs.Lines.{All, NoField, IsField, behind-all, type-no-field, field-is-field, struct-line, with-line, field-line, list-line, one-line, lambda-line}
+use Rattle.shows.proofs.Lines.{AllTrees, NoField, IsField, behind-all, type-no-field, field-is-field, struct-line, with-line, field-line, list-line, one-line, lambda-line}
 use Rattle.shows.proofs.Returns.{chain-on, scans-on, items-on, found-shown}
 
 -- what a record tells
@@ -210,9 +210,9 @@ module _ (text : List ℕ) (left : ℕ) (a : Token) (h : Stands text a) (pos : �
             (placed-both l m n (shown (name .what)) (bytes "<") pos (d .pos) p f (name .placed) w)
             (placed-both n o t (itemsOf Plain (args .what)) (bytes ">") p (i .pos) q ln (args .placed) c)
 
-        no-fields : All NoField (args .what)
+        no-fields : AllTrees NoField (args .what)
         unfolding itemOf
-        no-fields = subst (Every (All NoField)) (args .is) (behind-all NoField (readType left) (type-no-field left) 32 (d .next .start) (d .next .end) (drop (d .next .end) text))
+        no-fields = subst (Every (AllTrees NoField)) (args .is) (behind-all NoField (readType left) (type-no-field left) 32 (d .next .start) (d .next .end) (drop (d .next .end) text))
 
         abbrev rest : Ans Trees
         rest = fieldsOf (i .next)
@@ -224,10 +224,10 @@ module _ (text : List ℕ) (left : ℕ) (a : Token) (h : Stands text a) (pos : �
         unfolding then
         unpack-is = with-types ∙ ap (λ (j : Ans Trees). then j thenFields) (args .is) ∙ ap (λ (j : Scanned). then (fields (readType left) (readField left (readBind left)) j) whole) args-scans
 
-        all-fields : Every (All IsField) rest
+        all-fields : Every (AllTrees IsField) rest
         unfolding fields look
         all-fields =
-            when-every (All IsField) (eqb (i .next .kind) braceTok) _ _
+            when-every (AllTrees IsField) (eqb (i .next .kind) braceTok) _ _
             (behind-all IsField (readField left (readBind left)) (field-is-field left (readBind left)) 61 (i .next .start) (i .next .end) (drop (i .next .end) text)) tt
 
         pub unpack-shown : (j : List ℕ) (s : Shown) → Shows bracesOf never rest q t j s → Shows shown isFunction unpackHere pos l j s
@@ -238,7 +238,7 @@ module _ (text : List ℕ) (left : ℕ) (a : Token) (h : Stands text a) (pos : �
         unpack-shown j (Line x) z =
             let b = drew bracesOf never rest q t j x z in
             let u : Tree = node structWithKind (a .start) (b .at) (more (name .what) (joined (args .what) (b .what))) in
-            let e : All IsField (b .what) = subst (Every (All IsField)) (b .is) all-fields in
+            let e : AllTrees IsField (b .what) = subst (Every (AllTrees IsField)) (b .is) all-fields in
             shows-line shown isFunction unpackHere u (b .at) (b .rest) pos l j x (unpack-is ∙ ap (λ (v : Ans Trees). then v whole) (b .is)) (b .tells ∙ sym (with-tells (a .start) (b .at) (more (name .what) (joined (args .what) (b .what))))) (b .next)
             (placed-as l j (pre ++ bracesOf (b .what)) (shown u) pos (x .pos) (sym (with-line (a .start) (b .at) (name .what) (args .what) (b .what) no-fields e))
             (placed-both l t j pre (bracesOf (b .what)) pos q (x .pos) f front (b .placed)))

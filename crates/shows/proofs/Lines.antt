@@ -1,20 +1,21 @@
 -- The lines of records by those of their parts, as the code writes them.
 -- Assumes nothing.
-use mathlib.Core.Path.{_≡_, refl, ap, sym, _∙_}
+use mathlib.Core.Path.{_≡_, refl, ap, ap₂, sym, _∙_}
 use mathlib.Core.Bool.{Bool, true, false, cond}
-use mathlib.Core.List.{List, [], _∷_, _++_, append-nil, append-assoc}
+use mathlib.Core.List.{List, _∷_, _++_, append-nil, append-assoc}
 use Prim.Native.Nat.{ℕ, zero, suc}
 use lib.Dec.{eqb}
 use lib.ListN.{length}
 use Rattle.classes.specs.Bytes.{bytes}
 use Rattle.tokens.specs.Token.{Scanned, lex}
-use Rattle.records.specs.Tree.{typeKind, refKind, refMutKind, functionKind, tupleKind, structKind, structWithKind, fieldKind, bindListKind, lambdaListKind, Tree, leaf, node, Trees, none, more, behind, joined, respan, build, builds}
+use Rattle.records.specs.Tree.{typeKind, refKind, refMutKind, functionKind, tupleKind, structKind, structWithKind, fieldKind, bindListKind, lambdaListKind, Tree, leaf, node, Trees, none, more, behind, joined, respan, Build, Builds, build, builds}
 use Rattle.names.specs.Reading.{Ans, ok, no, commaTok, lessTok, ampTok, ampMutTok, openTok, closeTok, greaterTok, pipeTok, colonTok, identifierTok, closing, afterItem, list, listBehind}
 use Rattle.names.specs.Names.{chain}
 use Rattle.names.proofs.Kinded.{Every, look-every, when-every, then-every, closed-every}
 use Rattle.types.specs.Types.{bracketed, withArguments, named, brackets, reference, function, typeOver, readType}
 use Rattle.binds.specs.Binds.{fieldOver, readField}
 use Rattle.lines.specs.Line.{Piece, plain, argument, arguments, others, commas, bars, angles, brackets as bracketsLine, braces, first, later, initial, final, select, isField, isType, shape, kindOf, line, pieces, shown}
+use Rattle.lines.proofs.Parting.{All, bbehind, builds-behind, initial-behind, final-behind, builds-joined, Is, types-of, fields-of}
 use Rattle.shows.specs.declared.Sort.{Sort}
 use Rattle.shows.specs.declared.Sort.the-variants.{Plain, Argument, Field, Binding}
 use Rattle.shows.specs.Shown.{isFunction, pieceOf, shownIn, formOf, restOf, itemsOf, isNone, bracesOf, barsEnd}
@@ -65,23 +66,12 @@ bars-bindings none = ap (λ (x : List ℕ). 124 ∷ (x ++ bytes " |")) (commas-b
 bars-bindings (more t ts) = ap (λ (x : List ℕ). 124 ∷ (x ++ bytes "|")) (commas-bindings (more t ts))
 
 -- a function type: its arguments and its result
-initial-behind : (ts : Trees) (t : Tree) → initial (pieces (builds (behind ts t))) ≡ pieces (builds ts)
-unfolding initial pieces builds behind shown
-initial-behind none t = refl
-initial-behind (more u none) t = refl
-initial-behind (more u (more v ts)) t = ap (_∷_ (pieceOf u)) (initial-behind (more v ts) t)
-
-final-behind : (ts : Trees) (t : Tree) → final (pieces (builds (behind ts t))) ≡ shown t
-unfolding final pieces builds behind shown
-final-behind none t = refl
-final-behind (more u none) t = refl
-final-behind (more u (more v ts)) t = final-behind (more v ts) t
-
 pub function-line : (s q : ℕ) (ts : Trees) (t : Tree) → shown (node functionKind s q (behind ts t)) ≡ (bytes "|" ++ (itemsOf Argument ts ++ barsEnd (isNone ts))) ++ (bytes " " ++ shown t)
 unfolding shown build line shape
 function-line s q ts t =
-    ap (λ (x : List Piece). bars (arguments x) ++ (bytes " " ++ final (pieces (builds (behind ts t))))) (initial-behind ts t)
-    ∙ ap (λ (x : List ℕ). bars (arguments (pieces (builds ts))) ++ (bytes " " ++ x)) (final-behind ts t)
+    ap (λ (bs : Builds). bars (arguments (initial (pieces bs))) ++ (bytes " " ++ final (pieces bs))) (builds-behind ts t)
+    ∙ ap (λ (x : List Piece). bars (arguments x) ++ (bytes " " ++ final (pieces (bbehind (builds ts) (build t))))) (initial-behind (builds ts) (build t))
+    ∙ ap (λ (x : List ℕ). bars (arguments (pieces (builds ts))) ++ (bytes " " ++ x)) (final-behind (builds ts) (build t))
     ∙ ap (λ (x : List ℕ). x ++ (bytes " " ++ line (build t))) (bars-arguments ts)
 
 -- types by their names
@@ -144,61 +134,55 @@ unfolding shown build builds line pieces shape first later
 field-line s q s₂ e₂ w t = sym (append-assoc w (bytes ": ") (line (build t)))
 
 -- types and fields, told apart by their kinds
-abbrev pub All : (Tree → Type 0) → Trees → Type 0
-All P none = Unit {0}
-All P (more t ts) = P t × All P ts
-
 abbrev pub NoField : Tree → Type 0
-NoField t = isField (kindOf (build t)) ≡ false
+NoField t = Is false (build t)
 
 abbrev pub IsField : Tree → Type 0
-IsField t = isField (kindOf (build t)) ≡ true
+IsField t = Is true (build t)
 
-only-fields : (fs : Trees) → All IsField fs → (select isField (pieces (builds fs)) ≡ pieces (builds fs)) × (select isType (pieces (builds fs)) ≡ [])
-unfolding select isType pieces builds shown
-only-fields none a = (refl, refl)
-only-fields (more f fs) a = let i = only-fields fs (a .1) in rw (a .0) (ap (_∷_ (pieceOf f)) (i .0), i .1)
+abbrev pub AllTrees : (Tree → Type 0) → Trees → Type 0
+AllTrees P none = Unit {0}
+AllTrees P (more t ts) = P t × AllTrees P ts
 
-types-and-fields : (ts fs : Trees) → All NoField ts → All IsField fs
-    → (select isField (pieces (builds (joined ts fs))) ≡ pieces (builds fs)) × (select isType (pieces (builds (joined ts fs))) ≡ pieces (builds ts))
-unfolding joined select isType pieces builds shown
-types-and-fields none fs a b = only-fields fs b
-types-and-fields (more t ts) fs a b = let i = types-and-fields ts fs (a .1) b in rw (a .0) (i .0, ap (_∷_ (pieceOf t)) (i .1))
+all-builds : (P : Build → Type 0) (ts : Trees) → AllTrees (λ t. P (build t)) ts → All P (builds ts)
+unfolding builds
+all-builds P none a = tt
+all-builds P (more t ts) a = (a .0, all-builds P ts (a .1))
 
-pub with-line : (s q : ℕ) (c : Tree) (ts fs : Trees) → All NoField ts → All IsField fs
+pub with-line : (s q : ℕ) (c : Tree) (ts fs : Trees) → AllTrees NoField ts → AllTrees IsField fs
     → shown (node structWithKind s q (more c (joined ts fs))) ≡ ((shown c ++ bytes "<") ++ (itemsOf Plain ts ++ bytes ">")) ++ bracesOf fs
 unfolding shown build builds line pieces shape first later braces bracesOf
 with-line s q c ts fs a b =
-    let i = types-and-fields ts fs a b in
-    ap (λ (x : List Piece). line (build c) ++ (60 ∷ (commas (plain x) ++ (62 ∷ 32 ∷ 123 ∷ (commas (plain (select isField (pieces (builds (joined ts fs))))) ++ bytes "}"))))) (i .1)
-    ∙ ap (λ (x : List Piece). line (build c) ++ (60 ∷ (commas (plain (pieces (builds ts))) ++ (62 ∷ 32 ∷ 123 ∷ (commas (plain x) ++ bytes "}"))))) (i .0)
-    ∙ ap (λ (x : List ℕ). line (build c) ++ (60 ∷ (x ++ (62 ∷ 32 ∷ 123 ∷ (commas (plain (pieces (builds fs))) ++ bytes "}"))))) (commas-types ts)
-    ∙ ap (λ (x : List ℕ). line (build c) ++ (60 ∷ (itemsOf Plain ts ++ (62 ∷ 32 ∷ 123 ∷ (x ++ bytes "}"))))) (commas-fields fs)
+    let x : All (Is false) (builds ts) = all-builds (Is false) ts a in
+    let y : All (Is true) (builds fs) = all-builds (Is true) fs b in
+    ap (λ (bs : Builds). line (build c) ++ (60 ∷ (commas (plain (select isType (pieces bs))) ++ (62 ∷ 32 ∷ 123 ∷ (commas (plain (select isField (pieces bs))) ++ bytes "}"))))) (builds-joined ts fs)
+    ∙ ap₂ (λ (u v : List Piece). line (build c) ++ (60 ∷ (commas (plain u) ++ (62 ∷ 32 ∷ 123 ∷ (commas (plain v) ++ bytes "}"))))) (types-of (builds ts) (builds fs) x y) (fields-of (builds ts) (builds fs) x y)
+    ∙ ap₂ (λ (u v : List ℕ). line (build c) ++ (60 ∷ (u ++ (62 ∷ 32 ∷ 123 ∷ (v ++ bytes "}"))))) (commas-types ts) (commas-fields fs)
     ∙ sym (append-assoc (line (build c) ++ bytes "<") (itemsOf Plain ts ++ bytes ">") (32 ∷ 123 ∷ (itemsOf Field fs ++ bytes "}"))
     ∙ append-assoc (line (build c)) (bytes "<") ((itemsOf Plain ts ++ bytes ">") ++ (32 ∷ 123 ∷ (itemsOf Field fs ++ bytes "}")))
     ∙ ap (λ (x : List ℕ). line (build c) ++ (60 ∷ x)) (append-assoc (itemsOf Plain ts) (bytes ">") (32 ∷ 123 ∷ (itemsOf Field fs ++ bytes "}"))))
 
 -- no type is a field, and each item of a field list is one
 module _ (P : Tree → Type 0) (item : Scanned → Ans Tree) (each : (l : Scanned) → Every P (item l)) (close o : ℕ) where
-  list-all : (f : ℕ) (l : Scanned) → Every (All P) (list item close o f l)
+  list-all : (f : ℕ) (l : Scanned) → Every (AllTrees P) (list item close o f l)
   unfolding list afterItem
   list-all zero l = tt
   list-all (suc f) l =
-      look-every (All P) l _ λ k s e w r.
-      closed-every (All P) (closing close k s e r) _ _ (λ q u. tt)
-      (when-every (All P) (eqb k commaTok) _ _ tt
-      (then-every P (All P) (item l) _ (each l) λ t q u h.
-      look-every (All P) (lex q u) _ λ k₂ s₂ e₂ w₂ r₂.
-      closed-every (All P) (closing close k₂ s₂ e₂ r₂) _ _ (λ q₂ u₂. (h, tt))
-      (when-every (All P) (eqb k₂ commaTok) _ _
-      (then-every (All P) (All P) (list item close o f (lex e₂ r₂)) _ (list-all f (lex e₂ r₂)) λ ts q₂ u₂ g. (h, g))
+      look-every (AllTrees P) l _ λ k s e w r.
+      closed-every (AllTrees P) (closing close k s e r) _ _ (λ q u. tt)
+      (when-every (AllTrees P) (eqb k commaTok) _ _ tt
+      (then-every P (AllTrees P) (item l) _ (each l) λ t q u h.
+      look-every (AllTrees P) (lex q u) _ λ k₂ s₂ e₂ w₂ r₂.
+      closed-every (AllTrees P) (closing close k₂ s₂ e₂ r₂) _ _ (λ q₂ u₂. (h, tt))
+      (when-every (AllTrees P) (eqb k₂ commaTok) _ _
+      (then-every (AllTrees P) (AllTrees P) (list item close o f (lex e₂ r₂)) _ (list-all f (lex e₂ r₂)) λ ts q₂ u₂ g. (h, g))
       tt)))
 
-  pub behind-all : (e : ℕ) (r : List ℕ) → Every (All P) (listBehind item close o e r)
+  pub behind-all : (e : ℕ) (r : List ℕ) → Every (AllTrees P) (listBehind item close o e r)
   unfolding listBehind
   behind-all e r = list-all (suc (length r)) (lex e r)
 
-bracketed-no-field : (s e : ℕ) (ts : Trees) → All NoField ts → NoField (bracketed s e ts)
+bracketed-no-field : (s e : ℕ) (ts : Trees) → AllTrees NoField ts → NoField (bracketed s e ts)
 unfolding bracketed respan build kindOf isField
 bracketed-no-field s e none a = refl
 bracketed-no-field s e (more (leaf k s₀ e₀ w) none) a = a .0
@@ -211,16 +195,16 @@ type-no-field zero l = look-every NoField l _ λ k s e w r. tt
 type-no-field (suc n) l =
     look-every NoField l _ λ k s e w r.
     when-every NoField (eqb k openTok) _ _
-    (then-every (All NoField) NoField (listBehind (readType n) closeTok s e r) _ (behind-all NoField (readType n) (type-no-field n) closeTok s e r) λ ts q u h. bracketed-no-field s q ts h)
+    (then-every (AllTrees NoField) NoField (listBehind (readType n) closeTok s e r) _ (behind-all NoField (readType n) (type-no-field n) closeTok s e r) λ ts q u h. bracketed-no-field s q ts h)
     (when-every NoField (eqb k ampTok) _ _ (then-every NoField NoField (readType n (lex e r)) _ (type-no-field n (lex e r)) λ t q u h. refl)
     (when-every NoField (eqb k ampMutTok) _ _ (then-every NoField NoField (readType n (lex e r)) _ (type-no-field n (lex e r)) λ t q u h. refl)
     (when-every NoField (eqb k pipeTok) _ _
-    (then-every (All NoField) NoField (listBehind (readType n) pipeTok s e r) _ (behind-all NoField (readType n) (type-no-field n) pipeTok s e r) λ ts q u h.
+    (then-every (AllTrees NoField) NoField (listBehind (readType n) pipeTok s e r) _ (behind-all NoField (readType n) (type-no-field n) pipeTok s e r) λ ts q u h.
     then-every NoField NoField (readType n (lex q u)) _ (type-no-field n (lex q u)) λ t q₂ u₂ g. refl)
     (then-every (λ (t : Tree). Unit {0}) NoField (chain l) _ (any (chain l)) λ c q u h.
     look-every NoField (lex q u) _ λ k₂ s₂ e₂ w₂ r₂.
     when-every NoField (eqb k₂ lessTok) _ _
-    (then-every (All NoField) NoField (listBehind (readType n) greaterTok s₂ e₂ r₂) _ (behind-all NoField (readType n) (type-no-field n) greaterTok s₂ e₂ r₂) λ ts q₃ u₃ g. refl)
+    (then-every (AllTrees NoField) NoField (listBehind (readType n) greaterTok s₂ e₂ r₂) _ (behind-all NoField (readType n) (type-no-field n) greaterTok s₂ e₂ r₂) λ ts q₃ u₃ g. refl)
     refl))))
   where
     any : (a : Ans Tree) → Every (λ (t : Tree). Unit {0}) a
