@@ -1,4 +1,4 @@
-//! The build of document 01: a record's kind with, for a leaf, its spelling, otherwise
+//! The build of the specification: a record's kind with, for a leaf, its spelling, otherwise
 //! the builds of its children; no length, start or end.
 
 /// The build of a stored tree's outermost record, in bytes that are equal exactly

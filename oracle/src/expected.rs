@@ -1,5 +1,5 @@
 //! What a call must answer: the Rust's answer or, where docs/DIFFERENCES.md lists
-//! that document 01 departs from it, the answer of document 01.
+//! that the specification departs from it, the answer of the specification.
 
 use crate::{
     answer::{Answer, Call},
@@ -11,7 +11,7 @@ use std::cell::OnceCell;
 /// The longest text that is not refused.
 pub const LONGEST: usize = 65_535;
 
-/// Why document 01, and not the Rust, decides an answer.
+/// Why the specification, and not the Rust, decides an answer.
 #[derive(Clone, Copy, PartialEq, Eq, Debug)]
 pub enum Cause {
     EmptyBlock,

@@ -1,4 +1,4 @@
-//! Where document 01's limit of 64 levels strikes. The Rust has no such limit, so
+//! Where the specification's limit of 64 levels strikes. The Rust has no such limit, so
 //! the levels are counted here, by a walk of its own over the Rust's tokens.
 //!
 //! The outermost type or binding is level 1, one inside it is one more. A field

@@ -20,6 +20,7 @@ pub mod lent;
 pub mod levels;
 pub mod line;
 pub mod parsing;
+pub mod points;
 pub mod properties;
 pub mod random;
 pub mod reading;

@@ -1,4 +1,4 @@
-//! The display line of document 01, written from the Rust's trees.
+//! The display line of the specification, written from the Rust's trees.
 
 use crate::{
     location::Loc,

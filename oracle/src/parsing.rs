@@ -19,7 +19,7 @@ use crate::{
 };
 use std::thread;
 
-/// What is read, by document 01's numbers.
+/// What is read, by the specification's numbers.
 #[derive(Clone, Copy, PartialEq, Eq, Debug)]
 pub enum ItemKind {
     Name = 1,
@@ -104,7 +104,7 @@ fn item_of(kind: ItemKind, lexer: &mut Lexer) -> Result<Option<Item>, Diagnostic
     })
 }
 
-/// A diagnostic in the numbers of document 01. The refusals of the parser share one
+/// A diagnostic in the numbers of the specification. The refusals of the parser share one
 /// code: 11 has one place, 12 speaks of what opened the list, 10 is the others.
 fn refusal(diagnostic: &Diagnostic, base: usize) -> Answer {
     let span = |loc: Loc| (base + loc.start() as usize, base + loc.end() as usize);

@@ -1,6 +1,6 @@
 //! What must hold of displays, checked item by item: the answer and the line of each,
 //! that the line is read back, and that two items have one line exactly where they have
-//! one build (document 01, "The words of demand 3").
+//! one build (the specification, "The words of demand 3").
 
 use crate::{
     answer::{Answer, ItemCall},

@@ -158,7 +158,7 @@ impl Reads {
 
 /// How many answers each listed difference decided.
 pub fn print_listed(listed: &[u64; Cause::ALL.len()]) {
-    println!("\nOf these, decided by document 01 (docs/DIFFERENCES.md), and held to it:");
+    println!("\nOf these, decided by the specification (docs/DIFFERENCES.md), and held to it:");
     for cause in Cause::ALL {
         let count = grouped(listed[cause as usize]);
         println!("  {:<58} {:>12}", cause.words(), count);

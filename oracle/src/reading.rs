@@ -75,7 +75,7 @@ impl<'t> Reading<'t> {
     }
 }
 
-/// The number that document 01 gives to a refusal of the lexer.
+/// The number that the specification gives to a refusal of the lexer.
 pub fn refusal_number(diagnostic: &Diagnostic) -> u32 {
     match diagnostic.code {
         Code::Syntax(Syntax::InvalidCharacter) => 5,

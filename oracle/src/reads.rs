@@ -1,6 +1,6 @@
 //! What a read must answer and leave in the buffer: the Rust's tree or refusal or,
-//! where docs/DIFFERENCES.md lists that document 01 departs from it, the answer of
-//! document 01. What a display must is told in the same form (displays.rs).
+//! where docs/DIFFERENCES.md lists that the specification departs from it, the answer of
+//! the specification. What a display must is told in the same form (displays.rs).
 
 use crate::{
     answer::Answer,
@@ -13,7 +13,7 @@ use crate::{
 /// The longest tree or line that is not refused.
 pub const LONGEST_WRITTEN: usize = 65_535;
 
-/// Why document 01, and not the Rust, decides a read or a display.
+/// Why the specification, and not the Rust, decides a read or a display.
 #[derive(Clone, Copy, PartialEq, Eq, Debug)]
 pub enum Cause {
     TextTooLong,
@@ -150,7 +150,7 @@ fn of_an_item(kind: ItemKind, text: &Text, at: usize) -> Expected {
     }
 }
 
-/// The Rust's own answer; the end of the text's last line is document 01's.
+/// The Rust's own answer; the end of the text's last line is the specification's.
 fn of_the_rust(parse: Parse, text: &Text) -> Expected {
     if let Some(Answer { result, numbers }) = parse.answer {
         let [start, end, ..] = numbers.map(|number| number as usize);

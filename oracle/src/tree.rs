@@ -1,4 +1,4 @@
-//! The stored tree of document 01, built from the Rust's trees.
+//! The stored tree of the specification, built from the Rust's trees.
 
 use crate::{
     location::Loc,

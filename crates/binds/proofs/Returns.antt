@@ -1,5 +1,4 @@
 -- What each return of the code of bindings gives, from what its callees gave.
--- Assumes nothing.
 use mathlib.Core.Path.{_≡_, refl, ap, sym, _∙_, subst}
 use mathlib.Core.Bool.{Bool, true, false}
 use mathlib.Core.List.{List, [], _++_, append-nil, append-assoc}
@@ -15,7 +14,8 @@ use Rattle.tokens.specs.declared.Refusal.{Refusal}
 use Rattle.tokens.specs.declared.Token.{Token}
 use Rattle.tokens.specs.declared.Lexed.the-variants.{Found, Refused as Bad}
 use Rattle.tokens.proofs.Again.{found-again}
-use Rattle.records.specs.Tree.{nameKind, variableKind, structKind, structWithKind, fieldKind, bindListKind, lambdaListKind, Tree, node, Trees, none, more, joined}
+use Rattle.records.specs.Kinds.{RecName, RecVariable, RecStruct, RecStructTyped, RecField, RecBindList, RecLambdaBindList}
+use Rattle.records.specs.Tree.{Tree, node, Trees, none, more, joined}
 use Rattle.records.specs.Stored.{header, stored, storedAll}
 use Rattle.records.proofs.Pieces.{both, node-pieces}
 use Rattle.records.proofs.Children.{node-last}
@@ -79,8 +79,8 @@ pub short-pieces : (l m n o : List ℕ) (i : ℕ) (a : Token) → m ≡ sets l i
     → o ≡ sets l i (stored (shortOf [] a))
 unfolding stored
 short-pieces l m n o i a f g h =
-    let x : i + 16 ≡ i + 8 + length (stored (nameOf [] a)) = omega (arith, leaf-size nameKind (a .start) (a .end) []) in
-    node-pieces l m n o i 24 fieldKind (a .start) (a .end) (nameOf [] a) (variableOf [] a) (omega (arith, leaf-size nameKind (a .start) (a .end) [], leaf-size variableKind (a .start) (a .end) [])) f g
+    let x : i + 16 ≡ i + 8 + length (stored (nameOf [] a)) = omega (arith, leaf-size RecName (a .start) (a .end) []) in
+    node-pieces l m n o i 24 RecField (a .start) (a .end) (nameOf [] a) (variableOf [] a) (omega (arith, leaf-size RecName (a .start) (a .end) [], leaf-size RecVariable (a .start) (a .end) [])) f g
     (h ∙ ap (λ (v : ℕ). sets n v (stored (variableOf [] a))) x)
 
 short-unspelled : (text : List ℕ) (a : Token) → stored (shortOf [] a) ≡ stored (shortOf text a)
@@ -89,8 +89,8 @@ short-unspelled text a = refl
 
 short-size : (text : List ℕ) (a : Token) → length (stored (shortOf text a)) ≡ 24
 short-size text a =
-    node-size fieldKind (a .start) (a .end) (more (nameOf text a) (more (variableOf text a) none))
-    ∙ omega (arith, size-more (nameOf text a) (more (variableOf text a) none), size-more (variableOf text a) none, size-none, leaf-size nameKind (a .start) (a .end) (wordOf text a), leaf-size variableKind (a .start) (a .end) (wordOf text a))
+    node-size RecField (a .start) (a .end) (more (nameOf text a) (more (variableOf text a) none))
+    ∙ omega (arith, size-more (nameOf text a) (more (variableOf text a) none), size-more (variableOf text a) none, size-none, leaf-size RecName (a .start) (a .end) (wordOf text a), leaf-size RecVariable (a .start) (a .end) (wordOf text a))
 
 -- readers of bindings and of fields
 pub part-sure : (text : List ℕ) (b : Bool) (n : ℕ) → Reader text (readPart b n)
@@ -169,7 +169,7 @@ module _ (text : List ℕ) (left : ℕ) where
         pub over-variable : isStruct (n .kind) ≡ false → m ≡ sets l pos (header 8 20 (a .start) (a .end)) → Gives stored bnd pos l m (Read (record { len = 8; end = a .end; next = n }))
         unfolding bindOver look when stored
         over-variable b w =
-            gives-read stored text (h .fits) (a .end) (h .standing .2) bnd (variableOf text a) (rw (eq-eqb (a .kind) 4 k, found-token text (h .fits) (a .end) (h .standing .2) n f .0, b)) pos l m n 8 f (sym (leaf-size variableKind (a .start) (a .end) (wordOf text a))) w
+            gives-read stored text (h .fits) (a .end) (h .standing .2) bnd (variableOf text a) (rw (eq-eqb (a .kind) 4 k, found-token text (h .fits) (a .end) (h .standing .2) n f .0, b)) pos l m n 8 f (sym (leaf-size RecVariable (a .start) (a .end) (wordOf text a))) w
 
   -- fields in braces
   module _ (b : Token) (pos : ℕ) (l m : List ℕ) (p : Parsed) where
@@ -242,7 +242,7 @@ module _ (text : List ℕ) (left : ℕ) where
           → (r ≡ headed (p .len) f) × (w ≡ putHead 21 (a .start) (p .len) pos f o) → Gives stored upkd pos l w r
       unfolding structOver look when storedAll
       plain-struct k o w f r z y =
-          gives-headed storedAll upkd (fields rd fd (scanned text (p .next))) structKind (a .start) (λ fs. more (path-read .what) fs) (stored (path-read .what))
+          gives-headed storedAll upkd (fields rd fd (scanned text (p .next))) RecStruct (a .start) (λ fs. more (path-read .what) fs) (stored (path-read .what))
           (with-path ∙ rw (path-next .scans, ne-eqb (p .next .kind) 25 k)) (λ fs. refl)
           (p .len) (pos + 8 + p .len) pos l m o w f r (path-read .len) refl path-wrote z y
 
@@ -258,7 +258,7 @@ module _ (text : List ℕ) (left : ℕ) where
         of-types n c f = gives-as storedAll targs (onToken text (p .next) targs) (pos + 8 + p .len) m n c (sym (on-token text (p .next) targs (path-here .standing))) f
 
         abbrev result : Trees → ℕ → List ℕ → Ans Tree
-        result ts q₃ u₃ = then (fields rd fd (lex q₃ u₃)) λ fs q₄ u₄. ok (node structWithKind (a .start) q₄ (more (path-read .what) (joined ts fs))) q₄ u₄
+        result ts q₃ u₃ = then (fields rd fd (lex q₃ u₃)) λ fs q₄ u₄. ok (node RecStructTyped (a .start) q₄ (more (path-read .what) (joined ts fs))) q₄ u₄
 
         with-types : upkd ≡ then targs result
         unfolding structOver look when
@@ -307,7 +307,7 @@ module _ (text : List ℕ) (left : ℕ) where
           pub typed-struct : (o w : List ℕ) (c r : Parsed) → Gives storedAll (fields rd fd (scanned text (i .next))) (pos + 8 + p .len + i .len) n o c
               → (r ≡ headed (p .len + i .len) c) × (w ≡ putHead 22 (a .start) (p .len + i .len) pos c o) → Gives stored upkd pos l w r
           typed-struct o w c r z y =
-              gives-headed storedAll upkd (fields rd fd (scanned text (i .next))) structWithKind (a .start) (λ fs. more (path-read .what) (joined (types-read .what) fs)) (stored (path-read .what) ++ storedAll (types-read .what))
+              gives-headed storedAll upkd (fields rd fd (scanned text (i .next))) RecStructTyped (a .start) (λ fs. more (path-read .what) (joined (types-read .what) fs)) (stored (path-read .what) ++ storedAll (types-read .what))
               (with-types ∙ then-opened storedAll targs i types-read result ∙ rw (types-sure .on .rest, types-next .scans)) kids-stored
               (p .len + i .len) (pos + 8 + p .len + i .len) pos l n o w c r
               (omega (arith, length-append (stored (path-read .what)) (storedAll (types-read .what)), path-read .len, types-read .len)) (omega arith) front-wrote z y
@@ -340,7 +340,7 @@ module _ (text : List ℕ) (left : ℕ) where
 
         module _ (j : n .kind ≡ 22) where
           abbrev result-of : Tree → ℕ → List ℕ → Ans Tree
-          result-of t q u = ok (node fieldKind (a .start) q (more (nameOf text a) (more t none))) q u
+          result-of t q u = ok (node RecField (a .start) q (more (nameOf text a) (more t none))) q u
 
           behind-colon : fld ≡ then (readBind left (lex (n .end) (drop (n .end) text))) result-of
           unfolding fieldOver look when
@@ -364,9 +364,9 @@ module _ (text : List ℕ) (left : ℕ) where
                 → (r ≡ headed 8 p) × (w ≡ putHead 24 (a .start) 8 pos p o) → Gives stored fld pos l w r
             unfolding storedAll stored
             field-bound o w p r y g c =
-                gives-headed stored fld (readBind left (scanned text b)) fieldKind (a .start) (λ t. more (nameOf text a) (more t none)) (stored (nameOf text a))
+                gives-headed stored fld (readBind left (scanned text b)) RecField (a .start) (λ t. more (nameOf text a) (more t none)) (stored (nameOf text a))
                 (behind-colon ∙ rw (found-token text (h .fits) (n .end) colon-in b e .0)) (λ t. ap (λ (x : List ℕ). stored (nameOf text a) ++ x) (append-nil (stored t)))
-                8 (pos + 16) pos l m o w p r (sym (leaf-size nameKind (a .start) (a .end) (wordOf text a))) (omega arith) y g c
+                8 (pos + 16) pos l m o w p r (sym (leaf-size RecName (a .start) (a .end) (wordOf text a))) (omega arith) y g c
 
 -- a binding where levels are left
 module _ (text : List ℕ) (left : ℕ) (z : left ≡ 0 → ⊥) (a : Token) (pos : ℕ) (l m : List ℕ) (p : Parsed) where
@@ -405,17 +405,17 @@ module _ (text : List ℕ) (a : Token) where
     pub bracketed-binds : a .kind ≡ 11 → Gives storedAll (binds 12) 8 l m p → (r ≡ headed 0 p) × (w ≡ putHead 25 (a .start) 0 0 p m) → Gives stored (readBindList (scanned text a)) 0 l w r
     unfolding readBindList look when readPart
     bracketed-binds k g c =
-        gives-headed storedAll (readBindList (scanned text a)) (binds 12) bindListKind (a .start) (λ ts. ts) [] (rw (eq-eqb (a .kind) 11 k)) (λ ts. refl) 0 8 0 l l m w p r refl refl refl g c
+        gives-headed storedAll (readBindList (scanned text a)) (binds 12) RecBindList (a .start) (λ ts. ts) [] (rw (eq-eqb (a .kind) 11 k)) (λ ts. refl) 0 8 0 l l m w p r refl refl refl g c
 
     pub one-bind : (a .kind ≡ 11 → ⊥) → Gives stored (readBind 64 (scanned text a)) 8 l m p → (r ≡ headed 0 p) × (w ≡ putHead 25 (a .start) 0 0 p m) → Gives stored (readBindList (scanned text a)) 0 l w r
     unfolding readBindList look when storedAll
     one-bind k g c =
-        gives-headed stored (readBindList (scanned text a)) (readBind 64 (scanned text a)) bindListKind (a .start) (λ t. more t none) [] (rw (ne-eqb (a .kind) 11 k)) (λ t. append-nil (stored t)) 0 8 0 l l m w p r refl refl refl g c
+        gives-headed stored (readBindList (scanned text a)) (readBind 64 (scanned text a)) RecBindList (a .start) (λ t. more t none) [] (rw (ne-eqb (a .kind) 11 k)) (λ t. append-nil (stored t)) 0 8 0 l l m w p r refl refl refl g c
 
     pub lambda-binds : a .kind ≡ 59 → Gives storedAll (binds 59) 8 l m p → (r ≡ headed 0 p) × (w ≡ putHead 26 (a .start) 0 0 p m) → Gives stored (readLambdaList (scanned text a)) 0 l w r
     unfolding readLambdaList look when readPart
     lambda-binds k g c =
-        gives-headed storedAll (readLambdaList (scanned text a)) (binds 59) lambdaListKind (a .start) (λ ts. ts) [] (rw (eq-eqb (a .kind) 59 k)) (λ ts. refl) 0 8 0 l l m w p r refl refl refl g c
+        gives-headed storedAll (readLambdaList (scanned text a)) (binds 59) RecLambdaBindList (a .start) (λ ts. ts) [] (rw (eq-eqb (a .kind) 59 k)) (λ ts. refl) 0 8 0 l l m w p r refl refl refl g c
 
 pub bind-list-bads : (r : Refusal) → readBindList (bad r) ≡ no r
 unfolding readBindList look

@@ -1,5 +1,4 @@
 -- Bindings: what holds of every answer, whatever levels are left.
--- Assumes nothing.
 use mathlib.Core.Path.{_≡_, refl, _∙_, subst}
 use mathlib.Core.List.{List}
 use Prim.Native.Nat.{ℕ, zero, suc, _+_, _*_, _<_, _≤_}
@@ -10,11 +9,13 @@ use lib.ListN.{length, drop}
 use Rattle.tokens.specs.Token.{Scanned, tok, bad, lex}
 use Rattle.tokens.specs.declared.Refusal.{Refusal}
 use Rattle.tokens.proofs.Lexing.{Good}
-use Rattle.records.specs.Tree.{nameKind, variableKind, structKind, structWithKind, fieldKind, bindListKind, lambdaListKind, Tree, leaf, node, Trees, none, more, joined, startOf, endOf, Nested, Within}
+use Rattle.records.specs.Kinds.{RecName, RecVariable, RecStruct, RecStructTyped, RecField, RecBindList, RecLambdaBindList}
+use Rattle.records.specs.Tree.{Tree, leaf, node, Trees, none, more, joined, startOf, endOf, Nested, Within}
 use Rattle.records.specs.Stored.{stored, storedAll}
 use Rattle.records.proofs.Nesting.{wider, nested-order}
 use Rattle.records.proofs.Sizes.{leaf-size, node-size, size-none, size-more}
-use Rattle.names.specs.Reading.{Ans, ok, no, then, look, listBehind, identifierTok, openTok, closeTok, colonTok, lessTok, greaterTok, braceTok, pipeTok, endBraceTok}
+use Rattle.words.specs.Kinds.{Identifier, LParen, RParen, Colon, Less, Greater, LBrace, Pipe, RBrace}
+use Rattle.names.specs.Reading.{Ans, ok, no, then, look, listBehind}
 use Rattle.names.specs.Names.{chain}
 use Rattle.names.proofs.Sure.{On, Read, Reads, Sure, SureAll, Reader, look-sure, when-sure, then-sure, behind-sure}
 use Rattle.names.proofs.Parts.{leaf-read, at-token, chain-from, from-first}
@@ -59,12 +60,12 @@ module _ (text : List ℕ) where
     unfolding fields
     fields-sure at h =
         look-sure text (SureAll text (suc at)) _ at h (λ r n. n) λ k s e w r l g.
-        when-sure text (SureAll text (suc at)) (eqb k braceTok) _ _
+        when-sure text (SureAll text (suc at)) (eqb k LBrace) _ _
         (λ c.
         let z : k ≡ 58 = eqb-true k 58 c in
         rw (g .behind)
-        (earlier (suc at) e (listBehind field endBraceTok s e (drop e text)) (omega (arith, g .from, g .takes (omega arith)))
-        (behind-sure text field reader endBraceTok s (omega arith) (omega (arith, g .ordered, g .within)) e (g .within))))
+        (earlier (suc at) e (listBehind field RBrace s e (drop e text)) (omega (arith, g .from, g .takes (omega arith)))
+        (behind-sure text field reader RBrace s (omega arith) (omega (arith, g .ordered, g .within)) e (g .within))))
         (λ _. at-token text 10 s e at k w r g)
 
     struct-sure : (s : ℕ) (c : Tree) (q : ℕ) (u : List ℕ) → Read text 16 s c q u → Sure text 16 s (structOver type field s c q u)
@@ -72,22 +73,22 @@ module _ (text : List ℕ) where
     struct-sure s c q u d =
         rw (d .on .rest)
         (look-sure text (Sure text 16 s) _ q (d .on .inside) (λ r n. n) λ k₂ s₂ e₂ w₂ r₂ l₂ g₂.
-        when-sure text (Sure text 16 s) (eqb k₂ lessTok) _ _
+        when-sure text (Sure text 16 s) (eqb k₂ Less) _ _
         (λ b. rw (g₂ .behind)
         (let y : k₂ ≡ 25 = eqb-true k₂ 25 b in
-        let a₂ : SureAll text e₂ (listBehind type greaterTok s₂ e₂ (drop e₂ text)) = behind-sure text type types greaterTok s₂ (omega arith) (omega (arith, g₂ .ordered, g₂ .within)) e₂ (g₂ .within) in
-        then-sure text (Sure text 16 s) (listBehind type greaterTok s₂ e₂ (drop e₂ text)) _
+        let a₂ : SureAll text e₂ (listBehind type Greater s₂ e₂ (drop e₂ text)) = behind-sure text type types Greater s₂ (omega arith) (omega (arith, g₂ .ordered, g₂ .within)) e₂ (g₂ .within) in
+        then-sure text (Sure text 16 s) (listBehind type Greater s₂ e₂ (drop e₂ text)) _
         (λ ts q₃ u₃ a.
         let d₃ : Reads text e₂ ts q₃ u₃ = subst (SureAll text e₂) a a₂ in
         let a₃ : SureAll text q₃ (fields type field (lex q₃ (drop q₃ text))) = earlier q₃ (suc q₃) (fields type field (lex q₃ (drop q₃ text))) (omega arith) (fields-sure q₃ (d₃ .on .inside)) in
         rw (d₃ .on .rest)
         (then-sure text (Sure text 16 s) (fields type field (lex q₃ (drop q₃ text))) _
-        (λ fs q₄ u₄ f. applied text structWithKind s c q u (joined ts fs) e₂ q₄ u₄ d (omega (arith, g₂ .from, g₂ .takes (omega arith))) (joined-reads e₂ ts q₃ u₃ fs q₄ u₄ d₃ (subst (SureAll text q₃) f a₃)))
+        (λ fs q₄ u₄ f. applied text RecStructTyped s c q u (joined ts fs) e₂ q₄ u₄ d (omega (arith, g₂ .from, g₂ .takes (omega arith))) (joined-reads e₂ ts q₃ u₃ fs q₄ u₄ d₃ (subst (SureAll text q₃) f a₃)))
         (λ r f. subst (SureAll text q₃) f a₃)))
         (λ r a. subst (SureAll text e₂) a a₂)))
         (λ _.
         then-sure text (Sure text 16 s) (fields type field (lex q (drop q text))) _
-        (λ fs q₃ u₃ f. applied text structKind s c q u fs (suc q) q₃ u₃ d (omega arith) (subst (SureAll text (suc q)) f (fields-sure q (d .on .inside))))
+        (λ fs q₃ u₃ f. applied text RecStruct s c q u fs (suc q) q₃ u₃ d (omega arith) (subst (SureAll text (suc q)) f (fields-sure q (d .on .inside))))
         (λ r f. subst (SureAll text (suc q)) f (fields-sure q (d .on .inside)))))
 
     unpacked-sure : (at k s e : ℕ) (w r : List ℕ) → Good text at k s e w r → Sure text 16 s (unpacked type field s (tok k s e w r))
@@ -101,17 +102,17 @@ module _ (text : List ℕ) where
     bind-from : (at k s e : ℕ) (w r : List ℕ) → Good text at k s e w r → Sure text 16 s (bindOver type field (tok k s e w r))
     unfolding bindOver look
     bind-from at k s e w r g =
-        when-sure text (Sure text 16 s) (eqb k identifierTok) _ _
+        when-sure text (Sure text 16 s) (eqb k Identifier) _ _
         (λ c. rw (g .behind)
         (look-sure text (Sure text 16 s) _ e (g .within) (λ r n. n) λ k₂ s₂ e₂ w₂ r₂ l₂ g₂.
         when-sure text (Sure text 16 s) (isStruct k₂) _ _
         (λ _. rw (← g .behind) (unpacked-sure at k s e w r g))
-        (λ _. rw (← g .behind) (leaf-read text at variableKind k s e w w r (omega (arith, eqb-true k 4 c)) g))))
+        (λ _. rw (← g .behind) (leaf-read text at RecVariable k s e w w r (omega (arith, eqb-true k 4 c)) g))))
         (λ _. unpacked-sure at k s e w r g)
 
   -- a field's record, over its name, which ends at e, and its binding, which starts at b or later
   field-read : (s e b : ℕ) (w : List ℕ) (t : Tree) (q : ℕ) (u : List ℕ) → s < e → s ≤ b → e ≤ q → On text s q u → b ≤ startOf t → endOf t ≡ q → Nested t
-      → length (stored t) + 16 + 24 * s ≤ 24 * q → Read text 0 s (node fieldKind s q (more (leaf nameKind s e w) (more t none))) q u
+      → length (stored t) + 16 + 24 * s ≤ 24 * q → Read text 0 s (node RecField s q (more (leaf RecName s e w) (more t none))) q u
   unfolding startOf endOf Nested Within
   field-read s e b w t q u h j i p f z n c =
       record {
@@ -120,24 +121,24 @@ module _ (text : List ℕ) where
         some = omega arith;
         to = refl;
         nested = (omega arith, (omega arith, i, omega arith, (omega arith, omega arith, n, tt)));
-        small = omega (arith, node-size fieldKind s q (more (leaf nameKind s e w) (more t none)), size-more (leaf nameKind s e w) (more t none), size-more t none, size-none, leaf-size nameKind s e w);
+        small = omega (arith, node-size RecField s q (more (leaf RecName s e w) (more t none)), size-more (leaf RecName s e w) (more t none), size-more t none, size-none, leaf-size RecName s e w);
       }
 
-  short : (s e : ℕ) (w : List ℕ) → s < e → e ≤ length text → Read text 0 s (node fieldKind s e (more (leaf nameKind s e w) (more (leaf variableKind s e w) none))) e (drop e text)
+  short : (s e : ℕ) (w : List ℕ) → s < e → e ≤ length text → Read text 0 s (node RecField s e (more (leaf RecName s e w) (more (leaf RecVariable s e w) none))) e (drop e text)
   unfolding startOf endOf Nested
   short s e w t h =
-      field-read s e s w (leaf variableKind s e w) e (drop e text) t (omega arith) (omega arith)
-      (record { rest = refl; further = t; inside = h }) (omega arith) refl (omega arith) (omega (arith, leaf-size variableKind s e w))
+      field-read s e s w (leaf RecVariable s e w) e (drop e text) t (omega arith) (omega arith)
+      (record { rest = refl; further = t; inside = h }) (omega arith) refl (omega arith) (omega (arith, leaf-size RecVariable s e w))
 
   field-from : (bind : Scanned → Ans Tree) → Reader text bind → (at k s e : ℕ) (w r : List ℕ) → Good text at k s e w r → Sure text 0 s (fieldOver bind (tok k s e w r))
   unfolding fieldOver look
   field-from bind reader at k s e w r g =
-      when-sure text (Sure text 0 s) (eqb k identifierTok) _ _
+      when-sure text (Sure text 0 s) (eqb k Identifier) _ _
       (λ c.
       let t : s < e = g .takes (omega (arith, eqb-true k 4 c)) in
       rw (g .behind)
       (look-sure text (Sure text 0 s) _ e (g .within) (λ r n. n) λ k₂ s₂ e₂ w₂ r₂ l₂ g₂.
-      when-sure text (Sure text 0 s) (eqb k₂ colonTok) _ _
+      when-sure text (Sure text 0 s) (eqb k₂ Colon) _ _
       (λ _. rw (g₂ .behind)
       (then-sure text (Sure text 0 s) (bind (lex e₂ (drop e₂ text))) _
       (λ x q u a.
@@ -183,18 +184,18 @@ module _ (text : List ℕ) where
   unfolding readBindList look
   bind-list-sure =
       from-first text 0 readBindList (λ r. refl) λ at k s e w r l g.
-      when-sure text (Sure text 0 s) (eqb k openTok) _ _
-      (λ c. rw (g .behind) (listed-sure bindListKind closeTok s e (omega arith) (g .takes (omega (arith, eqb-true k 11 c))) (g .within)))
+      when-sure text (Sure text 0 s) (eqb k LParen) _ _
+      (λ c. rw (g .behind) (listed-sure RecBindList RParen s e (omega arith) (g .takes (omega (arith, eqb-true k 11 c))) (g .within)))
       (λ _.
       let a₁ : Sure text 16 s (readBind levels (tok k s e w r)) = read-bind-from levels at k s e w r g in
       then-sure text (Sure text 0 s) (readBind levels (tok k s e w r)) _
-      (λ x q u a. plain text bindListKind s x q u (subst (Sure text 16 s) a a₁))
+      (λ x q u a. plain text RecBindList s x q u (subst (Sure text 16 s) a a₁))
       (λ r₂ a. subst (Sure text 16 s) a a₁))
 
   pub lambda-list-sure : Reader text readLambdaList
   unfolding readLambdaList look
   lambda-list-sure =
       from-first text 0 readLambdaList (λ r. refl) λ at k s e w r l g.
-      when-sure text (Sure text 0 s) (eqb k pipeTok) _ _
-      (λ c. rw (g .behind) (listed-sure lambdaListKind pipeTok s e (omega arith) (g .takes (omega (arith, eqb-true k 59 c))) (g .within)))
+      when-sure text (Sure text 0 s) (eqb k Pipe) _ _
+      (λ c. rw (g .behind) (listed-sure RecLambdaBindList Pipe s e (omega arith) (g .takes (omega (arith, eqb-true k 59 c))) (g .within)))
       (λ _. at-token text 10 s e at k w r g)

@@ -1,12 +1,12 @@
 -- What the code of bindings answers and writes beside its readers.
--- Assumes nothing.
 use Prim.Native.Nat.{ℕ, _+_}
 use mathlib.Core.Bool.{Bool, true, false}
 use mathlib.Core.List.{List}
 use lib.Seq.{sets}
 use Rattle.tokens.specs.Token.{Scanned}
 use Rattle.tokens.specs.declared.Token.{Token}
-use Rattle.records.specs.Tree.{variableKind, fieldKind, Tree, leaf, node, none, more}
+use Rattle.records.specs.Kinds.{RecVariable, RecField}
+use Rattle.records.specs.Tree.{Tree, leaf, node, none, more}
 use Rattle.records.specs.Stored.{header}
 use Rattle.names.specs.Reading.{Ans}
 use Rattle.names.specs.Parsed.{wordOf, nameOf}
@@ -21,10 +21,10 @@ readPart false n = readBind n
 
 -- a variable, and a field that binds its own name
 abbrev pub variableOf : List ℕ → Token → Tree
-variableOf text a = leaf variableKind (a .start) (a .end) (wordOf text a)
+variableOf text a = leaf RecVariable (a .start) (a .end) (wordOf text a)
 
 abbrev pub shortOf : List ℕ → Token → Tree
-shortOf text a = node fieldKind (a .start) (a .end) (more (nameOf text a) (more (variableOf text a) none))
+shortOf text a = node RecField (a .start) (a .end) (more (nameOf text a) (more (variableOf text a) none))
 
 -- the bytes that were written for what was read
 unfoldable pub writtenLen : Parsed → ℕ

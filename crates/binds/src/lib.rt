@@ -16,28 +16,26 @@ use names::Parsed;
 use names::Part;
 use names::Step;
 use names::Turn;
+use records::kinds::REC_BIND_LIST;
+use records::kinds::REC_FIELD;
+use records::kinds::REC_LAMBDA_BIND_LIST;
+use records::kinds::REC_NAME;
+use records::kinds::REC_STRUCT;
+use records::kinds::REC_STRUCT_TYPED;
+use records::kinds::REC_VARIABLE;
 use tokens::Lexed;
 use tokens::Token;
+use words::kinds::COLON;
+use words::kinds::COLON_COLON;
+use words::kinds::IDENTIFIER;
+use words::kinds::L_BRACE;
+use words::kinds::L_PAREN;
+use words::kinds::LESS;
+use words::kinds::PIPE;
+use words::kinds::R_BRACE;
+use words::kinds::R_PAREN;
 
-const LEVELS: u8 = 64;
-
-const IDENTIFIER: u8 = 4;
-
-const OPEN: u8 = 11;
-
-const CLOSE: u8 = 12;
-
-const COLON: u8 = 22;
-
-const COLON_COLON: u8 = 23;
-
-const LESS: u8 = 25;
-
-const L_BRACE: u8 = 58;
-
-const PIPE: u8 = 59;
-
-const R_BRACE: u8 = 61;
+const LEVELS: u8 = types::LEVELS as u8;
 
 // Whether a binding that begins with an identifier is a struct, by the kind of the token behind it.
 pub fn is_struct(kind: u8) -> bool
@@ -57,9 +55,9 @@ fn put_short(out: &mut [u8], pos: usize, a: Token)
     requires { ⌜ pos < 2 ^ 64 - 16 ⌝ }
     ensures { λ _. ⌜ now (out .exit) ≡ sets (now (out .entry)) pos (stored (shortOf [] a)) ⌝ }
 {
-    records::put_header(out, pos, 24, 24, a.start, a.end);
-    records::put_header(out, pos + 8, 8, 1, a.start, a.end);
-    records::put_header(out, pos + 16, 8, 20, a.start, a.end);
+    records::put_header(out, pos, 24, REC_FIELD, a.start, a.end);
+    records::put_header(out, pos + 8, 8, REC_NAME, a.start, a.end);
+    records::put_header(out, pos + 16, 8, REC_VARIABLE, a.start, a.end);
 }
 
 // Ends a record of this kind from `start` on, whose last part is p and whose other parts take n bytes: its
@@ -120,7 +118,7 @@ fn variable_at(text: &[u8], a: Token, left: u8, out: &mut [u8], pos: usize) -> P
             if is_struct(n.kind) {
                 return unpack_at(text, a, left, out, pos);
             }
-            records::put_header(out, pos, 8, 20, a.start, a.end);
+            records::put_header(out, pos, 8, REC_VARIABLE, a.start, a.end);
             Parsed::Read(Part {
                 len: 8,
                 end: a.end,
@@ -143,7 +141,7 @@ fn unpack_at(text: &[u8], a: Token, left: u8, out: &mut [u8], pos: usize) -> Par
             let b = p.next;
             if b.kind != LESS {
                 let f = fields_at(text, b, left, out, pos + 8 + p.len);
-                return close_record(21, a.start, p.len, f, out, pos);
+                return close_record(REC_STRUCT, a.start, p.len, f, out, pos);
             }
             let t = types::parse_type_args(text, b, left, out, pos + 8 + p.len);
             match t {
@@ -151,7 +149,7 @@ fn unpack_at(text: &[u8], a: Token, left: u8, out: &mut [u8], pos: usize) -> Par
                 Parsed::Read(i) => {
                     let n = i.next;
                     let f = fields_at(text, n, left, out, pos + 8 + p.len + i.len);
-                    close_record(22, a.start, p.len + i.len, f, out, pos)
+                    close_record(REC_STRUCT_TYPED, a.start, p.len + i.len, f, out, pos)
                 }
             }
         }
@@ -198,9 +196,9 @@ fn field_at(text: &[u8], a: Token, left: u8, out: &mut [u8], pos: usize) -> Pars
             match m {
                 Lexed::Refused(r) => Parsed::Refused(r),
                 Lexed::Found(b) => {
-                    records::put_header(out, pos + 8, 8, 1, a.start, a.end);
+                    records::put_header(out, pos + 8, 8, REC_NAME, a.start, a.end);
                     let f = bind_at(text, b, left, out, pos + 16);
-                    close_record(24, a.start, 8, f, out, pos)
+                    close_record(REC_FIELD, a.start, 8, f, out, pos)
                 }
             }
         }
@@ -298,12 +296,12 @@ pub fn parse_bind_list(text: &[u8], at: usize, out: &mut [u8]) -> Parsed
     match l {
         Lexed::Refused(r) => Parsed::Refused(r),
         Lexed::Found(a) => {
-            if a.kind == OPEN {
-                let f = item_list(text, a.start, a.end, CLOSE, false, LEVELS, out, 8);
-                return close_record(25, a.start, 0, f, out, 0);
+            if a.kind == L_PAREN {
+                let f = item_list(text, a.start, a.end, R_PAREN, false, LEVELS, out, 8);
+                return close_record(REC_BIND_LIST, a.start, 0, f, out, 0);
             }
             let f = bind_at(text, a, LEVELS, out, 8);
-            close_record(25, a.start, 0, f, out, 0)
+            close_record(REC_BIND_LIST, a.start, 0, f, out, 0)
         }
     }
 }
@@ -319,7 +317,7 @@ pub fn parse_lambda_bind_list(text: &[u8], at: usize, out: &mut [u8]) -> Parsed
         Lexed::Found(a) => {
             if a.kind == PIPE {
                 let f = item_list(text, a.start, a.end, PIPE, false, LEVELS, out, 8);
-                return close_record(26, a.start, 0, f, out, 0);
+                return close_record(REC_LAMBDA_BIND_LIST, a.start, 0, f, out, 0);
             }
             names::unexpected(a)
         }

@@ -1,5 +1,4 @@
 -- What a call that writes bytes into a lent buffer leaves there.
--- Assumes nothing.
 use Prim.Native.Nat.{ℕ, _+_}
 use mathlib.Core.Path.{_≡_}
 use mathlib.Core.List.{List}

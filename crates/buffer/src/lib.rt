@@ -3,7 +3,6 @@
 ghost use mathlib.Core.Path.{_≡_};
 ghost use lib.ListN.{set};
 ghost use lib.Seq.{sets};
-ghost use Prim.Native.Nat.{min};
 
 // Writes b at pos, where the buffer reaches it.
 pub fn put(out: &mut [u8], pos: usize, b: u8)
@@ -14,21 +13,11 @@ pub fn put(out: &mut [u8], pos: usize, b: u8)
     }
 }
 
-// The smaller of two lengths.
-fn shorter(m: usize, n: usize) -> usize
-    ensures { λ r. ⌜ r ≡ min m n ⌝ }
-{
-    if m < n {
-        return m;
-    }
-    n
-}
-
 // Copies bytes to the front of the buffer, as many as it has room for.
 pub fn copy(out: &mut [u8], from: &[u8])
     ensures { λ _. ⌜ now (out .exit) ≡ sets (now (out .entry)) 0 (now (from .entry)) ⌝ }
 {
-    let n = shorter(out.len(), from.len());
+    let n = numbers::smaller(out.len(), from.len());
     let mut i = 0;
     while i < n {
         out[i] = from[i];

@@ -1,5 +1,4 @@
 -- A run ends at its first outsider: proved once, over the class.
--- Assumes nothing.
 use mathlib.Core.Path.{_≡_, refl}
 use mathlib.Core.Bool.{Bool, true, false, cond}
 use mathlib.Core.List.{List, [], _∷_}

@@ -1,5 +1,4 @@
 -- Quoted text as its bytes, for texts of ASCII; and whether a list begins with some bytes.
--- Assumes nothing.
 use Prim.Native.Nat.{ℕ}
 use Prim.Native.Char.{code}
 use Prim.Native.String.{String}

@@ -1,5 +1,4 @@
 -- The classes of bytes. Each has a number, by which the code names it.
--- Assumes nothing.
 use Prim.Native.Nat.{ℕ}
 use mathlib.Core.Bool.{Bool, _||_, _&&_, not, cond}
 use lib.Dec.{leb, ltb, eqb}

@@ -1,5 +1,4 @@
 -- A run of bytes of a class: to the first byte outside it, or to the end.
--- Assumes nothing.
 use Prim.Native.Nat.{ℕ, suc, _+_}
 use mathlib.Core.Bool.{Bool, cond}
 use mathlib.Core.List.{List, [], _∷_}

@@ -38,31 +38,31 @@ fn within(lo: u8, hi: u8, b: u8) -> bool
 pub fn is_digit(b: u8) -> bool
     ensures { λ r. ⌜ r ≡ isDigit b ⌝ }
 {
-    within(48, 57, b)
+    within(b'0', b'9', b)
 }
 
 fn is_hex(b: u8) -> bool
     ensures { λ r. ⌜ r ≡ isHex b ⌝ }
 {
-    if within(48, 57, b) {
+    if within(b'0', b'9', b) {
         return true;
     }
-    if within(65, 70, b) {
+    if within(b'A', b'F', b) {
         return true;
     }
-    within(97, 102, b)
+    within(b'a', b'f', b)
 }
 
 pub fn is_letter(b: u8) -> bool
     ensures { λ r. ⌜ r ≡ isLetter b ⌝ }
 {
-    if within(97, 122, b) {
+    if within(b'a', b'z', b) {
         return true;
     }
-    if within(65, 90, b) {
+    if within(b'A', b'Z', b) {
         return true;
     }
-    b == 95
+    b == b'_'
 }
 
 fn is_name(b: u8) -> bool
@@ -90,7 +90,7 @@ fn in_class(k: u8, b: u8) -> bool
     if k == ASCII {
         return b < 128;
     }
-    b != 10
+    b != b'\n'
 }
 
 // Where the run of bytes of the class k from `at` on ends (get_name_len, and the digits of

@@ -1,16 +1,15 @@
 -- What each return of the display call's code gives.
--- Assumes nothing.
 use mathlib.Core.Path.{_≡_, refl, ap, sym, _∙_}
 use mathlib.Core.Bool.{Bool, true, false, _||_}
-use mathlib.Core.List.{List, [], _∷_}
+use mathlib.Core.List.{List}
 use Prim.Native.Nat.{ℕ, _<_, _≤_}
 use native.Mathlib.Omega.{arith}
 use borrow.Author.Tests.{le-leb, lt-leb, leb-true, lt-ltb, ltb-true, ltb-false}
-use lib.Dec.{eqb, ltb, leb}
+use lib.Dec.{ltb, leb}
 use lib.ListN.{length, take}
 use lib.Seq.{sets}
 use Rattle.classes.proofs.Bools.{or-left, or-right}
-use Rattle.tokens.specs.Answers.{refusal, places}
+use Rattle.tokens.specs.Answers.{refusal}
 use Rattle.tokens.specs.Token.{lex}
 use Rattle.tokens.specs.Calls.{textLimit}
 use Rattle.tokens.specs.declared.Refusal.{Refusal}
@@ -19,8 +18,8 @@ use Rattle.names.specs.Reading.{Ans, when}
 use Rattle.names.specs.Parsed.{put, admittedPart}
 use Rattle.lines.specs.Line.{shown}
 use Rattle.lines.specs.Placed.{last, cap}
-use Rattle.reader.specs.Items.{Item, item, refused, readKind, followed, finished, readItem}
-use Rattle.reader.specs.Calls.{answerLimit, copied, roomed, written}
+use Rattle.reader.specs.Items.{item, refused, noKind, readKind, followed, finished, readItem}
+use Rattle.reader.specs.Calls.{answerLimit, tooLong, copied, roomed, written}
 use Rattle.reader.proofs.Answers.{item-text, item-offset, item-kind, goes, followed-found, sets-whole, made-in}
 use Rattle.shows.specs.declared.Drawn.{Drawn}
 use Rattle.shows.specs.declared.Shown.{Shown}
@@ -29,7 +28,7 @@ use Rattle.shows.specs.Shown.{never, shownAs, keptLine}
 use Rattle.shows.proofs.Showing.{Shows, Fails, at-once, late, Drew, drew, fails}
 use Rattle.display.specs.declared.Displayed.{Displayed}
 use Rattle.display.specs.declared.Displayed.the-variants.{Line, Refused}
-use Rattle.display.specs.Calls.{display, displayBuffer, displayNumber, displayValues, displayed}
+use Rattle.display.specs.Calls.{display, displayBuffer, displayed}
 
 -- the answer of the whole call, and the buffer l that becomes m
 abbrev pub Call : ℕ → List ℕ → ℕ → List ℕ → List ℕ → Displayed → Type 0
@@ -48,7 +47,7 @@ module _ (kind : ℕ) (text : List ℕ) (at : ℕ) (l : List ℕ) (a : Displayed
     call-offset g e = call-by kind text at l a (refusal 2 0 0) (item-offset kind text at h g) e
 
     module _ (g : at ≤ length text) where
-      pub call-kind : (b : Bool) → b ≡ (eqb kind 0 || ltb 5 kind) → b ≡ true → a ≡ Refused (refusal 3 0 0) → Call kind text at l l a
+      pub call-kind : (b : Bool) → b ≡ noKind kind → b ≡ true → a ≡ Refused (refusal 3 0 0) → Call kind text at l l a
       call-kind b z k e = call-by kind text at l a (refusal 3 0 0) (item-kind kind text at h g b z k) e
 
 -- a position that stopped at the largest is as much too long as the line
@@ -56,10 +55,10 @@ or-true : (a : Bool) → a || true ≡ true
 or-true true = refl
 or-true false = refl
 
-long-capped : (room n len : ℕ) → n ≡ cap len → (ltb room n || ltb answerLimit n) ≡ (ltb room len || ltb answerLimit len)
+long-capped : (room n len : ℕ) → n ≡ cap len → tooLong room n ≡ tooLong room len
 long-capped room n len e = go (ltb last len) refl
   where
-    go : (b : Bool) → ltb last len ≡ b → (ltb room n || ltb answerLimit n) ≡ (ltb room len || ltb answerLimit len)
+    go : (b : Bool) → ltb last len ≡ b → tooLong room n ≡ tooLong room len
     go false f = let g = ltb-false last len f in let z : n ≡ len = omega arith in rw z
     go true f =
         let g = ltb-true last len f in
@@ -74,7 +73,7 @@ finished-fails a r (at-once r₀) = refl
 finished-fails a r (late t q u r₀ e) = rw e
 
 -- where the three refusals do not apply
-module _ (kind : ℕ) (text : List ℕ) (at : ℕ) (h : length text ≤ textLimit) (g : at ≤ length text) (k : (eqb kind 0 || ltb 5 kind) ≡ false) where
+module _ (kind : ℕ) (text : List ℕ) (at : ℕ) (h : length text ≤ textLimit) (g : at ≤ length text) (k : noKind kind ≡ false) where
   abbrev found : Ans Tree
   found = admittedPart (readKind kind) text at
 
@@ -84,7 +83,7 @@ module _ (kind : ℕ) (text : List ℕ) (at : ℕ) (h : length text ≤ textLimi
   pub call-refused : (l z made : List ℕ) (r : Refusal) → Shows shown never found 0 z made (Shown-refused r) → Call kind text at l l (Refused r)
   call-refused l z made r e = call-by kind text at l (Refused r) r (is-found ∙ finished-fails found r (fails shown never found 0 z made r e)) refl
 
-  module _ (l z made : List ℕ) (d : Drawn) (w : Shows shown never found 0 z made (Shown-line d)) (b : Bool) (y : b ≡ (ltb (length l) (d .pos) || ltb 65535 (d .pos))) where
+  module _ (l z made : List ℕ) (d : Drawn) (w : Shows shown never found 0 z made (Shown-line d)) (b : Bool) (y : b ≡ tooLong (length l) (d .pos)) where
     view : Drew shown never found 0 z made d
     view = drew shown never found 0 z made d w
 
@@ -98,7 +97,7 @@ module _ (kind : ℕ) (text : List ℕ) (at : ℕ) (h : length text ≤ textLimi
     ends : d .pos ≡ cap (length shownLine)
     ends = omega (arith, view .placed .ends)
 
-    tested : b ≡ (ltb (length l) (length shownLine) || ltb answerLimit (length shownLine))
+    tested : b ≡ tooLong (length l) (length shownLine)
     tested = y ∙ long-capped (length l) (d .pos) (length shownLine) ends
 
     pub call-long : (a : Displayed) → b ≡ true → a ≡ Refused (refusal 4 0 0) → Call kind text at l l a
@@ -106,7 +105,7 @@ module _ (kind : ℕ) (text : List ℕ) (at : ℕ) (h : length text ≤ textLimi
     call-long a c e = let x = sym tested ∙ c in rw (is-item, x, e) (refl, refl)
 
     module _ (c : b ≡ false) where
-      short : (length shownLine ≤ length l) × (length shownLine ≤ 65535)
+      short : (length shownLine ≤ length l) × (length shownLine ≤ answerLimit)
       short =
           let x = sym tested ∙ c in
           (ltb-false (length l) (length shownLine) (or-left _ _ x), ltb-false answerLimit (length shownLine) (or-right (ltb (length l) (length shownLine)) _ x))
@@ -148,14 +147,3 @@ module _ (found : Ans Tree) (l m : List ℕ) where
       → keptLine (shownAs shown never 0 found) m ≡ keptLine (shownAs shown never 0 found) (copied n made (put shown 0 found l) l)
   unfolding copied
   show-again n made s h g = rw (lt-leb n (length made) h, ← g .0) (g .1)
-
--- the numbers of an answer
-pub line-numbers : (i : Item) (n : ℕ) → Line n ≡ displayed i → (0 ≡ displayNumber i) × (n ∷ 0 ∷ 0 ∷ 0 ∷ 0 ∷ 0 ∷ [] ≡ displayValues i)
-unfolding displayed displayNumber displayValues
-line-numbers (item t x) n e = let z : n ≡ length (shown t) = cc in (refl, ap (λ (k : ℕ). k ∷ 0 ∷ 0 ∷ 0 ∷ 0 ∷ 0 ∷ []) z)
-line-numbers (refused r) n e = let z : _≡_ {A = ℕ} 0 1 = cc in absurd (omega arith)
-
-pub refused-numbers : (i : Item) (r : Refusal) → Refused r ≡ displayed i → (r .number ≡ displayNumber i) × (places r ≡ displayValues i)
-unfolding displayed displayNumber displayValues
-refused-numbers (item t x) r e = let z : _≡_ {A = ℕ} 0 1 = cc in absurd (omega arith)
-refused-numbers (refused q) r e = let z : r ≡ q = cc in rw z (refl, refl)

@@ -1,5 +1,4 @@
 -- The display call: the answer and the final buffer for every text, offset, kind number and buffer.
--- Assumes nothing.
 use Prim.Native.Nat.{ℕ}
 use mathlib.Core.List.{List, [], _∷_}
 use lib.ListN.{length}
@@ -17,19 +16,19 @@ display kind text at room = roomed shown room (readItem kind text at)
 unfoldable pub displayBuffer : ℕ → List ℕ → ℕ → List ℕ → List ℕ
 displayBuffer kind text at out = written shown (display kind text at (length out)) out
 
--- an accepted display gives the line's length alone
-unfoldable pub displayNumber : Item → ℕ
-displayNumber (item t n) = 0
-displayNumber (refused r) = r .number
-
-unfoldable pub displayValues : Item → List ℕ
-displayValues (item t n) = length (shown t) ∷ 0 ∷ 0 ∷ 0 ∷ 0 ∷ 0 ∷ []
-displayValues (refused r) = places r
-
--- the same as the code has it
+-- what a display answers: the line's length alone, or the refusal
 unfoldable pub displayed : Item → Displayed
 displayed (item t n) = Line (length (shown t))
 displayed (refused r) = Refused r
+
+-- for every case of the answer its number, 0 where nothing is refused, and its six values
+unfoldable pub displayNumber : Displayed → ℕ
+displayNumber (Line n) = 0
+displayNumber (Refused r) = r .number
+
+unfoldable pub displayValues : Displayed → List ℕ
+displayValues (Line n) = n ∷ 0 ∷ 0 ∷ 0 ∷ 0 ∷ 0 ∷ []
+displayValues (Refused r) = places r
 
 abbrev pub refusedWith : ℕ → Displayed
 refusedWith number = Refused (refusal number 0 0)

@@ -1,27 +1,26 @@
 // The display call: an item of a text as one line in a lent buffer.
 ghost use mathlib.Core.Path.{_≡_};
-ghost use mathlib.Core.Bool.{false, _||_};
+ghost use mathlib.Core.Bool.{false};
 ghost use Prim.Native.Nat.{_≤_};
-ghost use lib.Dec.{eqb, ltb};
 ghost use lib.ListN.{length};
+ghost use Rattle.tokens.specs.Calls.{textLimit};
 ghost use Rattle.lines.specs.Line.{shown};
 ghost use Rattle.names.specs.Parsed.{put, admittedPart};
-ghost use Rattle.reader.specs.Items.{readKind};
+ghost use Rattle.reader.specs.Items.{noKind, readKind};
 ghost use Rattle.reader.specs.Calls.{copied};
 ghost use Rattle.shows.specs.Shown.{never, shownAs, keptLine};
 ghost use Rattle.display.specs.Calls.{displayBuffer, displayed};
+use reader::BIND_LIST;
+use reader::NAME;
+use reader::TYPE;
+use reader::VALUE;
 use shows::Shown;
 use tokens::Refusal;
 use tokens::TEXT_LIMIT;
-
-// The kinds of items.
-const NAME: u64 = 1;
-
-const VALUE: u64 = 2;
-
-const TYPE: u64 = 3;
-
-const BIND_LIST: u64 = 4;
+use tokens::refusals::NO_ROOM;
+use tokens::refusals::NO_SUCH_KIND;
+use tokens::refusals::START_PAST_END;
+use tokens::refusals::TEXT_TOO_LONG;
 
 // The line's length; or a refusal, and nothing was written.
 pub enum Displayed {
@@ -71,9 +70,9 @@ fn write_line(kind: u64, text: &[u8], at: usize, made: &[u8], n: usize, out: &mu
 // Shows the item of the kind from `at` on in `made`, and writes the line into the lent buffer where it is
 // accepted: a refused call writes no byte.
 fn display_over(kind: u64, text: &[u8], at: usize, made: &mut [u8], out: &mut [u8]) -> Displayed
-    requires { ⌜ length (now text) ≤ 65535 ⌝ }
+    requires { ⌜ length (now text) ≤ textLimit ⌝ }
     requires { ⌜ at ≤ length (now text) ⌝ }
-    requires { ⌜ (eqb kind 0 || ltb 5 kind) ≡ false ⌝ }
+    requires { ⌜ noKind kind ≡ false ⌝ }
     ensures answer { λ r. ⌜ r ≡ displayed (Rattle.display.specs.Calls.display kind (now (text .entry)) at (length (now (out .entry)))) ⌝ }
     ensures buffer { λ r. ⌜ now (out .exit) ≡ displayBuffer kind (now (text .entry)) at (now (out .entry)) ⌝ }
 {
@@ -82,7 +81,7 @@ fn display_over(kind: u64, text: &[u8], at: usize, made: &mut [u8], out: &mut [u
         Shown::Refused(r) => Displayed::Refused(r),
         Shown::Line(d) => {
             if reader::too_long(out.len(), d.pos) {
-                return refused(4);
+                return refused(NO_ROOM);
             }
             write_line(kind, text, at, made, d.pos, out);
             Displayed::Line(d.pos)
@@ -93,9 +92,9 @@ fn display_over(kind: u64, text: &[u8], at: usize, made: &mut [u8], out: &mut [u
 // Shows the item of the kind from `at` on over a buffer of its own: most lines are short enough to be shown
 // once.
 fn display_admitted(kind: u64, text: &[u8], at: usize, out: &mut [u8]) -> Displayed
-    requires { ⌜ length (now text) ≤ 65535 ⌝ }
+    requires { ⌜ length (now text) ≤ textLimit ⌝ }
     requires { ⌜ at ≤ length (now text) ⌝ }
-    requires { ⌜ (eqb kind 0 || ltb 5 kind) ≡ false ⌝ }
+    requires { ⌜ noKind kind ≡ false ⌝ }
     ensures answer { λ r. ⌜ r ≡ displayed (Rattle.display.specs.Calls.display kind (now (text .entry)) at (length (now (out .entry)))) ⌝ }
     ensures buffer { λ r. ⌜ now (out .exit) ≡ displayBuffer kind (now (text .entry)) at (now (out .entry)) ⌝ }
 {
@@ -113,13 +112,13 @@ fn display_at(kind: u64, text: &[u8], at: usize, line: &mut [u8]) -> Displayed
     ensures buffer { λ r. ⌜ now (line .exit) ≡ displayBuffer kind (now (text .entry)) at (now (line .entry)) ⌝ }
 {
     if TEXT_LIMIT < text.len() {
-        return refused(1);
+        return refused(TEXT_TOO_LONG);
     }
     if text.len() < at {
-        return refused(2);
+        return refused(START_PAST_END);
     }
     if reader::no_kind(kind) {
-        return refused(3);
+        return refused(NO_SUCH_KIND);
     }
     display_admitted(kind, text, at, line)
 }

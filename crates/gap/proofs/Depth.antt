@@ -1,5 +1,4 @@
--- The first walk through a block comment, at a place of the text: one law for each way through the code's loop.
--- Assumes nothing.
+-- The first scan of a block comment, at a place of the text: one law for each way through the code's loop.
 use mathlib.Core.Path.{_≡_, refl}
 use mathlib.Core.Bool.{Bool, true, false, _||_}
 use mathlib.Core.List.{List, [], _∷_}
@@ -11,9 +10,9 @@ use lib.ListN.{length, getD, drop, drop-of-length-le}
 use lib.Seq.{drop-cons}
 use Rattle.classes.proofs.Bools.{or-left, or-right}
 use Rattle.gap.specs.Marks.{opens, closes}
-use Rattle.gap.specs.Walks.{depthTurn, depthWalk, depthAt}
-use Rattle.gap.specs.declared.Walk.{Walk}
-use Rattle.gap.specs.declared.Walk.the-variants.{Shut, Deep}
+use Rattle.gap.specs.code.Blocks.{depthStep, depthScan, depthAt}
+use Rattle.gap.specs.declared.Close.{Close}
+use Rattle.gap.specs.declared.Close.the-variants.{At, Missing}
 use Rattle.gap.proofs.Places.{behind, behind-two}
 
 -- a byte that begins no mark neither opens nor closes
@@ -22,19 +21,19 @@ unfolding opens closes
 no-mark a b h = (rw (or-left (eqb a 47) (eqb a 42) h), rw (or-right (eqb a 47) (eqb a 42) h))
 
 -- the second byte of a mark is passed over
-skipped : (n i : ℕ) (s : List ℕ) → depthWalk true n i s ≡ depthWalk false n (suc i) (drop 1 s)
-unfolding depthWalk
+skipped : (n i : ℕ) (s : List ℕ) → depthScan true n i s ≡ depthScan false n (suc i) (drop 1 s)
+unfolding depthScan
 skipped n i [] = refl
 skipped n i (a ∷ s) = refl
 
-pub depth-end : (text : List ℕ) (i n : ℕ) → length text ≤ i → depthAt text i n ≡ Deep n
-unfolding depthAt depthWalk
+pub depth-end : (text : List ℕ) (i n : ℕ) → length text ≤ i → depthAt text i n ≡ Missing n
+unfolding depthAt depthScan
 depth-end text i n h = rw (drop-of-length-le text h)
 
 -- what is left behind the byte at i
 module _ (text : List ℕ) (i : ℕ) where
-  after : Bool → ℕ → Walk
-  after c m = depthWalk c m (suc i) (drop (suc i) text)
+  after : Bool → ℕ → Close
+  after c m = depthScan c m (suc i) (drop (suc i) text)
 
   two-on : (m : ℕ) → after true m ≡ depthAt text (i + 2) m
   unfolding after depthAt
@@ -45,15 +44,15 @@ module _ (text : List ℕ) (i : ℕ) where
   one-on m = rw (add-one i)
 
 module _ (text : List ℕ) (i n b : ℕ) (h : i < length text) (eb : b ≡ getD text (i + 1) 0) where
-  step : depthAt text i n ≡ depthTurn (opens (getD text i 0) b) (closes (getD text i 0) b) n i (after text i)
-  unfolding after depthAt depthWalk
+  step : depthAt text i n ≡ depthStep (opens (getD text i 0) b) (closes (getD text i 0) b) n i (after text i)
+  unfolding after depthAt depthScan
   step = rw (eb, drop-cons text i 0 h, behind text i)
 
   pub opened : opens (getD text i 0) b ≡ true → depthAt text i n ≡ depthAt text (i + 2) (n + 1)
   opened e = rw (step, e, two-on text i (suc n), add-one n)
 
   module _ (e : opens (getD text i 0) b ≡ false) where
-    pub shut : closes (getD text i 0) b ≡ true → n ≤ 1 → depthAt text i n ≡ Shut (i + 2)
+    pub shut : closes (getD text i 0) b ≡ true → n ≤ 1 → depthAt text i n ≡ At (i + 2)
     shut f g = rw (step, e, f, le-leb n 1 g)
 
     pub closed : closes (getD text i 0) b ≡ true → 1 < n → depthAt text i n ≡ depthAt text (i + 2) (n - 1)

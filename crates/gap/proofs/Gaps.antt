@@ -1,5 +1,4 @@
 -- The gap, one part after the other, at a place of a text; and where its parts end.
--- Assumes nothing.
 use mathlib.Core.Path.{_≡_, refl, ap, sym, _∙_, subst}
 use mathlib.Core.Bool.{Bool, true, false, cond, _||_}
 use mathlib.Core.List.{List, [], _∷_}
@@ -16,28 +15,28 @@ use Rattle.classes.proofs.Bools.{false-true, and-left, and-right, or-left, or-r
 use Rattle.classes.proofs.Runs.{run-short}
 use Rattle.gap.specs.Marks.{isSpace, isBlank, slashes, opens, docLine, docBlock}
 use Rattle.gap.specs.Comments.{inside, lineText, lineComment, blockComment, partAt}
-use Rattle.gap.specs.Gap.{End, clear, broken, Gap, noted, follow, gap}
+use Rattle.gap.specs.Gap.{End, clear, broken, Gap, noted, gapFrom, gap}
 use Rattle.gap.specs.declared.Comment.{Comment}
 use Rattle.gap.specs.declared.Block.{Block}
 use Rattle.gap.specs.declared.Block.the-variants.{Closed, Open}
-use Rattle.gap.specs.declared.Part.{Part}
-use Rattle.gap.specs.declared.Part.the-variants.{Pass, Doc, Unclosed, Other}
+use Rattle.gap.specs.declared.GapPart.{GapPart}
+use Rattle.gap.specs.declared.GapPart.the-variants.{Pass, Doc, Unclosed, Other}
 use Rattle.gap.proofs.Inside.{Within, inside-within}
 use Rattle.gap.proofs.Parts.{part-blank, part-other}
 use Rattle.gap.proofs.Places.{tail-at, in-text}
 
 -- a part that begins at p takes a byte at least and ends in the text, whose end is `last`; so does a blamed opener
-abbrev pub Held : ℕ → ℕ → Part → Type 0
+abbrev pub Held : ℕ → ℕ → GapPart → Type 0
 Held p last (Pass e) = (p < e) × (e ≤ last)
 Held p last (Doc c) = (p < c .end) × (c .end ≤ last)
 Held p last (Unclosed o q) = (o < q) × (q ≤ last)
 Held p last Other = Unit {0}
 
-held-cond : (p last : ℕ) (b : Bool) (x y : Part) → Held p last x → Held p last y → Held p last (cond b x y)
+held-cond : (p last : ℕ) (b : Bool) (x y : GapPart) → Held p last x → Held p last y → Held p last (cond b x y)
 held-cond p last true x y f g = f
 held-cond p last false x y f g = g
 
-held-if : (p last : ℕ) (b : Bool) (x y : Part) → (b ≡ true → Held p last x) → Held p last y → Held p last (cond b x y)
+held-if : (p last : ℕ) (b : Bool) (x y : GapPart) → (b ≡ true → Held p last x) → Held p last y → Held p last (cond b x y)
 held-if p last true x y f g = f refl
 held-if p last false x y f g = g
 
@@ -107,7 +106,7 @@ module _ (text : List ℕ) (i : ℕ) (h : i < length text) where
       subst (λ (l : List ℕ). i + length l ≡ length text → Held i (length text) (partAt i l)) (sym e)
       (λ q. subst (λ (m : ℕ). Held i m (partAt i (getD text i 0 ∷ drop (suc i) text))) q (part-held i (getD text i 0) (drop (suc i) text))) n
 
-  step : gap 0 i (drop i text) ≡ follow (partAt i (drop i text)) i (drop i text) (λ k. gap k (suc i) (drop (suc i) text))
+  step : gap 0 i (drop i text) ≡ gapFrom (partAt i (drop i text)) i (drop i text) (λ k. gap k (suc i) (drop (suc i) text))
   unfolding gap
   step = rw (drop-cons text i 0 h)
 
@@ -151,12 +150,12 @@ module _ (text : List ℕ) where
   earlier p (clear q u) g h = (omega arith, λ k. h .1 (omega arith), h .2)
   earlier p (broken o e) g h = h
 
-  follow-ended : (p : ℕ) (s : List ℕ) (x : Part) (go : ℕ → Gap) → p < length text → s ≡ drop p text → Held p (length text) x
-      → ((k : ℕ) → Ended text (suc p) (go k .last)) → Ended text p (follow x p s go .last)
-  follow-ended p s (Pass e) go g q h ih = earlier p (go (e - suc p) .last) g (ih (e - suc p))
-  follow-ended p s (Doc c) go g q h ih = earlier p (go (c .end - suc p) .last) g (ih (c .end - suc p))
-  follow-ended p s (Unclosed o e) go g q h ih = h
-  follow-ended p s Other go g q h ih = (omega arith, λ k. k, q)
+  from-ended : (p : ℕ) (s : List ℕ) (x : GapPart) (go : ℕ → Gap) → p < length text → s ≡ drop p text → Held p (length text) x
+      → ((k : ℕ) → Ended text (suc p) (go k .last)) → Ended text p (gapFrom x p s go .last)
+  from-ended p s (Pass e) go g q h ih = earlier p (go (e - suc p) .last) g (ih (e - suc p))
+  from-ended p s (Doc c) go g q h ih = earlier p (go (c .end - suc p) .last) g (ih (c .end - suc p))
+  from-ended p s (Unclosed o e) go g q h ih = h
+  from-ended p s Other go g q h ih = (omega arith, λ k. k, q)
 
   pub gap-ended : (s : List ℕ) (k p : ℕ) → s ≡ drop p text → Ended text p (gap k p s .last)
   unfolding gap
@@ -164,6 +163,6 @@ module _ (text : List ℕ) where
   gap-ended (a ∷ s) (suc k) p e = earlier p (gap k (suc p) s .last) (in-text text p a s e) (gap-ended s k (suc p) (tail-at text p a s e))
   gap-ended (a ∷ s) zero p e =
       let n : p + length (a ∷ s) ≡ length text = omega (arith, ap length e, length-drop p text, in-text text p a s e) in
-      follow-ended p (a ∷ s) (partAt p (a ∷ s)) (λ k. gap k (suc p) s) (in-text text p a s e) e
+      from-ended p (a ∷ s) (partAt p (a ∷ s)) (λ k. gap k (suc p) s) (in-text text p a s e) e
       (subst (λ (m : ℕ). Held p m (partAt p (a ∷ s))) n (part-held p a s))
       (λ k. gap-ended s k (suc p) (tail-at text p a s e))

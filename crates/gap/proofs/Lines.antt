@@ -1,5 +1,4 @@
 -- The text of a line comment, at a place of the text.
--- Assumes nothing.
 use mathlib.Core.Path.{_≡_}
 use mathlib.Core.Bool.{cond}
 use mathlib.Core.List.{List, []}

@@ -1,5 +1,4 @@
 -- The parts of a gap at a place of a text, by the tests that lead to each; and where they end.
--- Assumes nothing.
 use mathlib.Core.Path.{_≡_, refl, sym, _∙_, subst}
 use mathlib.Core.Bool.{Bool, true, false, cond, _&&_}
 use mathlib.Core.List.{List, [], _∷_}
@@ -11,10 +10,11 @@ use lib.Seq.{getD-drop, drop-drop}
 use Rattle.classes.specs.Class.{inClass}
 use Rattle.classes.specs.Run.{runEnd}
 use Rattle.gap.specs.Marks.{isBlank, slashes, opens, docLine, docBlock}
-use Rattle.gap.specs.Comments.{inside, lineText, lineComment, blockComment, blockPart, partAt}
+use Rattle.gap.specs.Comments.{inside, lineText, lineComment, blockComment, partAt}
+use Rattle.gap.specs.code.Blocks.{blockPart}
 use Rattle.gap.specs.declared.Block.{Block}
 use Rattle.gap.specs.declared.Block.the-variants.{Closed, Open}
-use Rattle.gap.specs.declared.Part.the-variants.{Pass, Doc, Unclosed, Other}
+use Rattle.gap.specs.declared.GapPart.the-variants.{Pass, Doc, Unclosed, Other}
 use Rattle.gap.proofs.Places.{front}
 use Rattle.gap.proofs.Inside.{Within, inside-within}
 

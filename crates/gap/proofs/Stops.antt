@@ -1,5 +1,4 @@
 -- Where a gap ends before some bytes, these begin no part of a gap; and neither does what is left of them when they are cut off.
--- Assumes nothing.
 use mathlib.Core.Path.{_≡_, refl, subst}
 use mathlib.Core.Bool.{Bool, true, false, cond, _&&_, _||_}
 use mathlib.Core.List.{List, [], _∷_}
@@ -12,33 +11,33 @@ use Rattle.classes.specs.Run.{runLen}
 use Rattle.classes.proofs.Bools.{and-false}
 use Rattle.gap.specs.Marks.{isSpace, isBlank, slashes, opens, docLine, docBlock}
 use Rattle.gap.specs.Comments.{inside, lineText, lineComment, blockComment, partAt}
-use Rattle.gap.specs.Gap.{End, clear, Gap, follow, gap}
+use Rattle.gap.specs.Gap.{End, clear, Gap, gapFrom, gap}
 use Rattle.gap.specs.declared.Block.{Block}
 use Rattle.gap.specs.declared.Block.the-variants.{Closed, Open}
-use Rattle.gap.specs.declared.Part.{Part}
-use Rattle.gap.specs.declared.Part.the-variants.{Pass, Doc, Unclosed, Other}
+use Rattle.gap.specs.declared.GapPart.{GapPart}
+use Rattle.gap.specs.declared.GapPart.the-variants.{Pass, Doc, Unclosed, Other}
 
 module _ (q a : ℕ) (u : List ℕ) where
   abbrev Stop : End → Type 0
   Stop e = e ≡ clear q (a ∷ u) → partAt q (a ∷ u) ≡ Other
 
-  follow-stops : (p : ℕ) (s : List ℕ) (x : Part) (go : ℕ → Gap) → partAt p s ≡ x → ((k : ℕ) → Stop (go k .last)) → Stop (follow x p s go .last)
-  follow-stops p s (Pass e) go h ih f = ih (e - suc p) f
-  follow-stops p s (Doc c) go h ih f = ih (c .end - suc p) f
-  follow-stops p s (Unclosed o e) go h ih f = let z : _≡_ {A = ℕ} 0 1 = cc in absurd (omega arith)
-  follow-stops p s Other go h ih f = let i : p ≡ q = cc in let j : s ≡ a ∷ u = cc in rw (i, j) at h
+  from-stops : (p : ℕ) (s : List ℕ) (x : GapPart) (go : ℕ → Gap) → partAt p s ≡ x → ((k : ℕ) → Stop (go k .last)) → Stop (gapFrom x p s go .last)
+  from-stops p s (Pass e) go h ih f = ih (e - suc p) f
+  from-stops p s (Doc c) go h ih f = ih (c .end - suc p) f
+  from-stops p s (Unclosed o e) go h ih f = let z : _≡_ {A = ℕ} 0 1 = cc in absurd (omega arith)
+  from-stops p s Other go h ih f = let i : p ≡ q = cc in let j : s ≡ a ∷ u = cc in rw (i, j) at h
 
   pub gap-stops : (s : List ℕ) (k p : ℕ) → Stop (gap k p s .last)
   unfolding gap
   gap-stops [] k p f = let z : _≡_ {A = ℕ} 0 1 = cc in absurd (omega arith)
   gap-stops (b ∷ s) (suc k) p f = gap-stops s k (suc p) f
-  gap-stops (b ∷ s) zero p f = follow-stops p (b ∷ s) (partAt p (b ∷ s)) (λ k. gap k (suc p) s) refl (λ k. gap-stops s k (suc p)) f
+  gap-stops (b ∷ s) zero p f = from-stops p (b ∷ s) (partAt p (b ∷ s)) (λ k. gap k (suc p) s) refl (λ k. gap-stops s k (suc p)) f
 
 -- the tests that leave no part of a gap
 abbrev Plain : ℕ → ℕ → Type 0
 Plain a b = (isBlank a b ≡ false) × (slashes a b ≡ false) × (opens a b ≡ false)
 
-is-other : Part → Bool
+is-other : GapPart → Bool
 is-other (Pass e) = false
 is-other (Doc c) = false
 is-other (Unclosed o e) = false
@@ -59,9 +58,9 @@ block-other false p (Closed e) = refl
 block-other true p (Open o) = refl
 block-other false p (Open o) = refl
 
-differ : (A : Type 0) (x : Part) → is-other x ≡ false → x ≡ Other → A
+differ : (A : Type 0) (x : GapPart) → is-other x ≡ false → x ≡ Other → A
 unfolding is-other
-differ A x h e = let z : is-other Other ≡ false = subst (λ (y : Part). is-other y ≡ false) e h in let y : _≡_ {A = ℕ} 0 1 = cc in absurd (omega arith)
+differ A x h e = let z : is-other Other ≡ false = subst (λ (y : GapPart). is-other y ≡ false) e h in let y : _≡_ {A = ℕ} 0 1 = cc in absurd (omega arith)
 
 plain-by : (p a : ℕ) (s : List ℕ) (v w x : Bool) → isBlank a (getD s 0 0) ≡ v → slashes a (getD s 0 0) ≡ w → opens a (getD s 0 0) ≡ x
     → cond v (Pass (p + 1)) (cond w (lineComment p (a ∷ s)) (cond x (blockComment (docBlock (getD (a ∷ s) 2 0) (getD (a ∷ s) 3 0)) p (inside false (p ∷ []) (p + 2) (drop 2 (a ∷ s)))) Other)) ≡ Other

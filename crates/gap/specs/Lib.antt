@@ -1,5 +1,5 @@
 pub mod Marks
 pub mod Comments
 pub mod Gap
-pub mod Walks
 pub mod Raise
+pub mod code

@@ -1,5 +1,4 @@
 -- The marks of a gap, told by a byte and the one behind it (0 past the end).
--- Assumes nothing.
 use Prim.Native.Nat.{ℕ}
 use mathlib.Core.Bool.{Bool, _||_, _&&_, not}
 use lib.Dec.{eqb}

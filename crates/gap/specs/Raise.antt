@@ -1,5 +1,4 @@
 -- Comments and the end of a gap with all places raised by k.
--- Assumes nothing.
 use Prim.Native.Nat.{ℕ, _+_}
 use mathlib.Core.List.{map}
 use Rattle.gap.specs.Gap.{End, clear, broken, Gap}

@@ -7,9 +7,9 @@ ghost use Prim.Native.Nat.{_+_, _-_, _^_, _<_};
 ghost use lib.Dec.{eqb};
 ghost use lib.ListN.{length, drop};
 ghost use Rattle.gap.specs.Marks.{isSpace, isBlank, docLine, docBlock};
-ghost use Rattle.gap.specs.Comments.{inside, lineText, lineComment, blockPart, partAt};
-ghost use Rattle.gap.specs.Gap.{gap, endOf, docOf};
-ghost use Rattle.gap.specs.Walks.{depthAt, openerAt};
+ghost use Rattle.gap.specs.Comments.{inside, lineText, lineComment, partAt};
+ghost use Rattle.gap.specs.Gap.{gap, gapEndOf, docOf};
+ghost use Rattle.gap.specs.code.Blocks.{blockPart, depthAt, openerAt};
 use classes::LINE;
 
 // A doc comment: its span, and its text's, from `from` to `to`.
@@ -26,15 +26,15 @@ pub enum Block {
     Open(usize),
 }
 
-// The end of a block comment, or how many are open at the end of the text.
-pub enum Walk {
-    Shut(usize),
-    Deep(usize),
+// Where a block comment closes, or how many are open at the end of the text.
+pub enum Close {
+    At(usize),
+    Missing(usize),
 }
 
 // A part of a gap: a blank or a plain comment, by its end; a doc comment; an unclosed block comment,
 // by the span of the opener that is blamed; or no part of a gap.
-pub enum Part {
+pub enum GapPart {
     Pass(usize),
     Doc(Comment),
     Unclosed(usize, usize),
@@ -57,13 +57,13 @@ pub enum FirstDoc {
 fn is_space(a: u8) -> bool
     ensures { λ r. ⌜ r ≡ isSpace a ⌝ }
 {
-    if a == 32 {
+    if a == b' ' {
         return true;
     }
-    if a == 9 {
+    if a == b'\t' {
         return true;
     }
-    a == 10
+    a == b'\n'
 }
 
 fn is_blank(a: u8, b: u8) -> bool
@@ -72,8 +72,8 @@ fn is_blank(a: u8, b: u8) -> bool
     if is_space(a) {
         return true;
     }
-    if a == 13 {
-        return b == 10;
+    if a == b'\r' {
+        return b == b'\n';
     }
     false
 }
@@ -82,10 +82,10 @@ fn is_blank(a: u8, b: u8) -> bool
 fn begins_part(a: u8) -> bool
     ensures { λ r. ⌜ r ≡ (eqb a 47 || eqb a 13) ⌝ }
 {
-    if a == 47 {
+    if a == b'/' {
         return true;
     }
-    a == 13
+    a == b'\r'
 }
 
 // Whether two bytes are these.
@@ -102,21 +102,21 @@ fn pair(a: u8, b: u8, x: u8, y: u8) -> bool
 fn doc_block(a: u8, b: u8) -> bool
     ensures { λ r. ⌜ r ≡ docBlock a b ⌝ }
 {
-    if a != 42 {
+    if a != b'*' {
         return false;
     }
-    if b == 42 {
+    if b == b'*' {
         return false;
     }
-    b != 47
+    b != b'/'
 }
 
 // Whether a line comment that goes on with a and b is a doc comment.
 fn doc_line(a: u8, b: u8) -> bool
     ensures { λ r. ⌜ r ≡ docLine a b ⌝ }
 {
-    if a == 47 {
-        return b != 47;
+    if a == b'/' {
+        return b != b'/';
     }
     false
 }
@@ -125,10 +125,10 @@ fn doc_line(a: u8, b: u8) -> bool
 fn begins_mark(a: u8) -> bool
     ensures { λ r. ⌜ r ≡ (eqb a 47 || eqb a 42) ⌝ }
 {
-    if a == 47 {
+    if a == b'/' {
         return true;
     }
-    a == 42
+    a == b'*'
 }
 
 // a where n is d, else b.
@@ -151,9 +151,9 @@ fn one_less(n: usize) -> usize
     0
 }
 
-// The first walk through a block comment, from behind its opener: a depth stands for the Rust's
+// The first scan of a block comment, from behind its opener: a depth stands for the Rust's
 // stack of openers.
-fn close_of(text: &[u8], at: usize) -> Walk
+fn close_of(text: &[u8], at: usize) -> Close
     ensures { λ r. ⌜ r ≡ depthAt (now (text .entry)) at 1 ⌝ }
 {
     let mut i = at;
@@ -162,12 +162,12 @@ fn close_of(text: &[u8], at: usize) -> Walk
         let a = text[i];
         if begins_mark(a) {
             let b = classes::byte_at(text, i + 1);
-            if pair(a, b, 47, 42) {
+            if pair(a, b, b'/', b'*') {
                 n += 1;
                 i += 2;
-            } else if pair(a, b, 42, 47) {
+            } else if pair(a, b, b'*', b'/') {
                 if n <= 1 {
-                    return Walk::Shut(i + 2);
+                    return Close::At(i + 2);
                 }
                 n -= 1;
                 i += 2;
@@ -178,10 +178,10 @@ fn close_of(text: &[u8], at: usize) -> Walk
             i += 1;
         }
     }
-    Walk::Deep(n)
+    Close::Missing(n)
 }
 
-// The second walk, for a comment that is not closed: the last opener that brought the depth to d,
+// The second scan, for a comment that is not closed: the last opener that brought the depth to d,
 // p where there is none.
 fn opener_of(text: &[u8], at: usize, d: usize, p: usize) -> usize
     ensures { λ r. ⌜ r ≡ openerAt d (now (text .entry)) at 1 p ⌝ }
@@ -192,11 +192,11 @@ fn opener_of(text: &[u8], at: usize, d: usize, p: usize) -> usize
     while i < text.len() {
         let a = text[i];
         let b = classes::byte_at(text, i + 1);
-        if pair(a, b, 47, 42) {
+        if pair(a, b, b'/', b'*') {
             n += 1;
             last = where_equal(n, d, i, last);
             i += 2;
-        } else if pair(a, b, 42, 47) {
+        } else if pair(a, b, b'*', b'/') {
             n = one_less(n);
             i += 2;
         } else {
@@ -213,8 +213,8 @@ fn block_at(text: &[u8], p: usize) -> Block
 {
     let w = close_of(text, p + 2);
     match w {
-        Walk::Shut(e) => Block::Closed(e),
-        Walk::Deep(d) => Block::Open(opener_of(text, p + 2, d, p)),
+        Close::At(e) => Block::Closed(e),
+        Close::Missing(d) => Block::Open(opener_of(text, p + 2, d, p)),
     }
 }
 
@@ -223,7 +223,7 @@ fn text_with(a: u8, t: usize, i: usize) -> usize
     requires { ⌜ i + 1 < 2 ^ 64 ⌝ }
     ensures { λ r. ⌜ r ≡ cond (eqb a 13) t (i + 1) ⌝ }
 {
-    if a == 13 {
+    if a == b'\r' {
         return t;
     }
     i + 1
@@ -237,7 +237,7 @@ fn text_end(text: &[u8], at: usize) -> usize
     let mut t = at;
     while i < text.len() {
         let a = text[i];
-        if a == 10 {
+        if a == b'\n' {
             return t;
         }
         t = text_with(a, t, i);
@@ -247,7 +247,7 @@ fn text_end(text: &[u8], at: usize) -> usize
 }
 
 // The line comment at i.
-fn line_comment(text: &[u8], i: usize) -> Part
+fn line_comment(text: &[u8], i: usize) -> GapPart
     requires { ⌜ i < length (now text) ⌝ }
     ensures { λ r. ⌜ r ≡ lineComment i (drop i (now (text .entry))) ⌝ }
 {
@@ -256,14 +256,14 @@ fn line_comment(text: &[u8], i: usize) -> Part
     let b = classes::byte_at(text, i + 3);
     if doc_line(a, b) {
         let t = text_end(text, i);
-        return Part::Doc(Comment {
+        return GapPart::Doc(Comment {
             start: i,
             end: e,
             from: i + 3,
             to: t,
         });
     }
-    Part::Pass(e)
+    GapPart::Pass(e)
 }
 
 // The length of the opener o of the comment at p: 3 for a doc comment's own, else 2.
@@ -279,7 +279,7 @@ fn opener_len(doc: bool, p: usize, o: usize) -> usize
 }
 
 // The block comment at i.
-fn block_comment(text: &[u8], i: usize) -> Part
+fn block_comment(text: &[u8], i: usize) -> GapPart
     requires { ⌜ i < length (now text) ⌝ }
     ensures { λ r. ⌜ r ≡ blockPart (now (text .entry)) i ⌝ }
 {
@@ -290,44 +290,44 @@ fn block_comment(text: &[u8], i: usize) -> Part
     match k {
         Block::Closed(e) => {
             if doc {
-                return Part::Doc(Comment {
+                return GapPart::Doc(Comment {
                     start: i,
                     end: e,
                     from: i + 3,
                     to: e - 2,
                 });
             }
-            Part::Pass(e)
+            GapPart::Pass(e)
         }
         Block::Open(o) => {
             let n = opener_len(doc, i, o);
-            Part::Unclosed(o, o + n)
+            GapPart::Unclosed(o, o + n)
         }
     }
 }
 
 // The part of a gap that stands at i.
-fn part_at(text: &[u8], i: usize) -> Part
+fn part_at(text: &[u8], i: usize) -> GapPart
     requires { ⌜ i < length (now text) ⌝ }
     ensures { λ r. ⌜ r ≡ partAt i (drop i (now (text .entry))) ⌝ }
 {
     let a = text[i];
     let b = classes::byte_at(text, i + 1);
     if is_blank(a, b) {
-        return Part::Pass(i + 1);
+        return GapPart::Pass(i + 1);
     }
-    if pair(a, b, 47, 47) {
+    if pair(a, b, b'/', b'/') {
         return line_comment(text, i);
     }
-    if pair(a, b, 47, 42) {
+    if pair(a, b, b'/', b'*') {
         return block_comment(text, i);
     }
-    Part::Other
+    GapPart::Other
 }
 
 // Where the gap from `at` on ends. Most gaps are a blank or nothing, so these are told first.
 pub fn gap_end(text: &[u8], at: usize) -> GapEnd
-    ensures { λ r. ⌜ r ≡ endOf (gap 0 at (drop at (now (text .entry))) .last) ⌝ }
+    ensures { λ r. ⌜ r ≡ gapEndOf (gap 0 at (drop at (now (text .entry))) .last) ⌝ }
 {
     let mut i = at;
     while i < text.len() {
@@ -337,16 +337,16 @@ pub fn gap_end(text: &[u8], at: usize) -> GapEnd
         } else if begins_part(a) {
             let p = part_at(text, i);
             match p {
-                Part::Pass(e) => {
+                GapPart::Pass(e) => {
                     i = e;
                 }
-                Part::Doc(c) => {
+                GapPart::Doc(c) => {
                     i = c.end;
                 }
-                Part::Unclosed(o, q) => {
+                GapPart::Unclosed(o, q) => {
                     return GapEnd::Broken(o, q);
                 }
-                Part::Other => {
+                GapPart::Other => {
                     return GapEnd::Clear(i);
                 }
             }
@@ -365,16 +365,16 @@ pub fn first_doc(text: &[u8], at: usize) -> FirstDoc
     while i < text.len() {
         let p = part_at(text, i);
         match p {
-            Part::Pass(e) => {
+            GapPart::Pass(e) => {
                 i = e;
             }
-            Part::Doc(c) => {
+            GapPart::Doc(c) => {
                 return FirstDoc::Found(c);
             }
-            Part::Unclosed(o, q) => {
+            GapPart::Unclosed(o, q) => {
                 return FirstDoc::BrokenFirst(o, q);
             }
-            Part::Other => {
+            GapPart::Other => {
                 return FirstDoc::Nothing;
             }
         }

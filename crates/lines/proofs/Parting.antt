@@ -1,5 +1,4 @@
 -- The parts of a line whose children are told apart: a function type's result behind its arguments, a struct's fields behind its types.
--- Assumes nothing.
 use mathlib.Core.Path.{_≡_, refl, ap}
 use mathlib.Core.Bool.{Bool, true, false}
 use mathlib.Core.List.{[], _∷_}

@@ -1,11 +1,11 @@
--- The display line of a build, from document 01's "Display line".
--- Assumes nothing.
+-- The display line of a build, by the specification.
 use Prim.Native.Nat.{ℕ}
 use mathlib.Core.Bool.{Bool, not, cond, _||_}
 use mathlib.Core.List.{List, [], _∷_, _++_}
 use lib.Dec.{eqb}
 use Rattle.classes.specs.Bytes.{bytes}
-use Rattle.records.specs.Tree.{twoKind, threeKind, pairKind, typeKind, refKind, refMutKind, functionKind, unitKind, tupleKind, structKind, structWithKind, fieldKind, bindListKind, lambdaListKind, addressValueKind, Tree, Build, spelled, made, Builds, bnone, bmore, build}
+use Rattle.records.specs.Kinds.{RecTwoPart, RecThreePart, RecPair, RecType, RecRef, RecRefMut, RecFunction, RecUnit, RecTuple, RecStruct, RecStructTyped, RecField, RecBindList, RecLambdaBindList, RecAddressValue}
+use Rattle.records.specs.Tree.{Tree, Build, spelled, made, Builds, bnone, bmore, build}
 
 -- a child: its kind and its line
 pub record Piece : Type 0 where
@@ -18,7 +18,7 @@ plain [] = []
 plain (p ∷ ps) = p .text ∷ plain ps
 
 unfoldable pub argument : Piece → List ℕ
-argument p = cond (eqb (p .kind) functionKind) (bytes "(" ++ (p .text ++ bytes ")")) (p .text)
+argument p = cond (eqb (p .kind) RecFunction) (bytes "(" ++ (p .text ++ bytes ")")) (p .text)
 
 unfoldable pub arguments : List Piece → List (List ℕ)
 arguments [] = []
@@ -76,7 +76,7 @@ select f [] = []
 select f (p ∷ ps) = cond (f (p .kind)) (p ∷ select f ps) (select f ps)
 
 unfoldable pub isField : ℕ → Bool
-isField k = eqb k fieldKind
+isField k = eqb k RecField
 
 unfoldable pub isType : ℕ → Bool
 isType k = not (isField k)
@@ -84,18 +84,18 @@ isType k = not (isField k)
 -- the line of a record of kind k over its children
 unfoldable pub shape : ℕ → List Piece → List ℕ
 shape k ps =
-    cond (eqb k twoKind || (eqb k threeKind || eqb k pairKind)) (first ps ++ (bytes "::" ++ first (later ps)))
-    (cond (eqb k typeKind) (first ps ++ angles (plain (later ps)))
-    (cond (eqb k refKind) (bytes "& " ++ first ps)
-    (cond (eqb k refMutKind) (bytes "&mut " ++ first ps)
-    (cond (eqb k functionKind) (bars (arguments (initial ps)) ++ (bytes " " ++ final ps))
-    (cond (eqb k tupleKind || eqb k bindListKind) (brackets (plain ps))
-    (cond (eqb k structKind) (first ps ++ braces (plain (later ps)))
-    (cond (eqb k structWithKind)
+    cond (eqb k RecTwoPart || (eqb k RecThreePart || eqb k RecPair)) (first ps ++ (bytes "::" ++ first (later ps)))
+    (cond (eqb k RecType) (first ps ++ angles (plain (later ps)))
+    (cond (eqb k RecRef) (bytes "& " ++ first ps)
+    (cond (eqb k RecRefMut) (bytes "&mut " ++ first ps)
+    (cond (eqb k RecFunction) (bars (arguments (initial ps)) ++ (bytes " " ++ final ps))
+    (cond (eqb k RecTuple || eqb k RecBindList) (brackets (plain ps))
+    (cond (eqb k RecStruct) (first ps ++ braces (plain (later ps)))
+    (cond (eqb k RecStructTyped)
     (first ps ++ (bytes "<" ++ (commas (plain (select isType (later ps))) ++ (bytes ">" ++ braces (plain (select isField (later ps)))))))
-    (cond (eqb k fieldKind) (first ps ++ (bytes ": " ++ first (later ps)))
-    (cond (eqb k lambdaListKind) (bars (plain ps))
-    (cond (eqb k addressValueKind) (bytes "@" ++ first ps) []))))))))))
+    (cond (eqb k RecField) (first ps ++ (bytes ": " ++ first (later ps)))
+    (cond (eqb k RecLambdaBindList) (bars (plain ps))
+    (cond (eqb k RecAddressValue) (bytes "@" ++ first ps) []))))))))))
 
 unfoldable pub kindOf : Build → ℕ
 kindOf (spelled k w) = k
@@ -104,7 +104,7 @@ kindOf (made k bs) = k
 -- a leaf is shown as it is spelled; the unit, which has no spelling, as `()`
 unfoldable mutual
   pub line : Build → List ℕ
-  line (spelled k w) = cond (eqb k unitKind) (bytes "()") w
+  line (spelled k w) = cond (eqb k RecUnit) (bytes "()") w
   line (made k bs) = shape k (pieces bs)
 
   pub pieces : Builds → List Piece

@@ -1,5 +1,4 @@
 -- What a function that writes a piece of a line leaves in a lent buffer, and where the line goes on.
--- Assumes nothing.
 use Prim.Native.Nat.{ℕ, _+_, _-_, min}
 use mathlib.Core.Path.{_≡_}
 use mathlib.Core.List.{List, [], _∷_}

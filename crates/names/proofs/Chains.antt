@@ -1,5 +1,4 @@
 -- Names, by the tests and the callees' answers that lead to each case of the code.
--- Assumes nothing.
 use mathlib.Core.Path.{_≡_, refl}
 use mathlib.Core.Bool.{true, false, cond}
 use mathlib.Core.List.{List, []}
@@ -16,7 +15,8 @@ use lib.Seq.{sets}
 use Rattle.records.specs.Stored.{two, span, header, stored, storedAll}
 use Rattle.records.proofs.Pieces.{node-pieces}
 use Rattle.records.proofs.Sizes.{leaf-size}
-use Rattle.records.specs.Tree.{nameKind, addressKind, oneKind, twoKind, Tree, leaf}
+use Rattle.records.specs.Kinds.{RecName, RecAddress, RecOnePart, RecTwoPart}
+use Rattle.records.specs.Tree.{Tree, leaf}
 use Rattle.names.specs.Reading.{Ans, ok, no, refusal₂, look, when}
 use Rattle.names.specs.Names.{isFirst, lastPart, thirdPart, secondPart, chain}
 use Rattle.names.specs.Parsed.{wordOf, scanned, firstOf, nameOf, pairOf, threeOf}
@@ -48,7 +48,7 @@ module _ (text : List ℕ) where
     unfolding thirdPart look
     third-bad r h = rw h
 
-    pub third-two : (n : Token) → lex (b .end) (drop (b .end) text) ≡ scanned text n → (n .kind ≡ 23 → ⊥) → third ≡ ok (pairOf twoKind text a b) (b .end) (drop (b .end) text)
+    pub third-two : (n : Token) → lex (b .end) (drop (b .end) text) ≡ scanned text n → (n .kind ≡ 23 → ⊥) → third ≡ ok (pairOf RecTwoPart text a b) (b .end) (drop (b .end) text)
     unfolding thirdPart look when
     third-two n h k = rw (h, ne-eqb (n .kind) 23 k)
 
@@ -89,7 +89,7 @@ module _ (text : List ℕ) where
         unfolding chain look when
         chain-more k = rw (f, h, eq-eqb (n .kind) 23 k)
 
-        pub chain-one : (n .kind ≡ 23 → ⊥) → a .kind ≡ 4 → chain (scanned text a) ≡ ok (leaf oneKind (a .start) (a .end) (wordOf text a)) (a .end) (drop (a .end) text)
+        pub chain-one : (n .kind ≡ 23 → ⊥) → a .kind ≡ 4 → chain (scanned text a) ≡ ok (leaf RecOnePart (a .start) (a .end) (wordOf text a)) (a .end) (drop (a .end) text)
         unfolding chain look when
         chain-one k j = rw (f, h, ne-eqb (n .kind) 23 k, eq-eqb (a .kind) 4 j)
 
@@ -115,12 +115,12 @@ unfolding stored storedAll
 three-unspelled text a b c = refl
 
 -- the records, written piece by piece
-pub pair-pieces : (l m n o : List ℕ) (i k f : ℕ) (a b : Token) → f ≡ cond (eqb (a .kind) 4) nameKind addressKind → m ≡ sets l i (header 24 k (a .start) (b .end))
+pub pair-pieces : (l m n o : List ℕ) (i k f : ℕ) (a b : Token) → f ≡ cond (eqb (a .kind) 4) RecName RecAddress → m ≡ sets l i (header 24 k (a .start) (b .end))
     → n ≡ sets m (i + 8) (header 8 f (a .start) (a .end)) → o ≡ sets n (i + 16) (header 8 1 (b .start) (b .end)) → o ≡ sets l i (stored (pairOf k [] a b))
 unfolding stored
 pair-pieces l m n o i k f a b z p q r =
-    let t : i + 8 + length (stored (firstOf [] a)) ≡ i + 16 = omega (arith, leaf-size (cond (eqb (a .kind) 4) nameKind addressKind) (a .start) (a .end) []) in
-    let w : 24 ≡ length (stored (firstOf [] a)) + length (stored (nameOf [] b)) + 8 = omega (arith, leaf-size (cond (eqb (a .kind) 4) nameKind addressKind) (a .start) (a .end) [], leaf-size nameKind (b .start) (b .end) []) in
+    let t : i + 8 + length (stored (firstOf [] a)) ≡ i + 16 = omega (arith, leaf-size (cond (eqb (a .kind) 4) RecName RecAddress) (a .start) (a .end) []) in
+    let w : 24 ≡ length (stored (firstOf [] a)) + length (stored (nameOf [] b)) + 8 = omega (arith, leaf-size (cond (eqb (a .kind) 4) RecName RecAddress) (a .start) (a .end) [], leaf-size RecName (b .start) (b .end) []) in
     node-pieces l m n o i 24 k (a .start) (b .end) (firstOf [] a) (nameOf [] b) w p (rw z at q) (rw t r)
 
 pub three-pieces : (l m n o : List ℕ) (i : ℕ) (a b c : Token) → m ≡ sets l i (header 40 5 (a .start) (c .end)) → n ≡ sets m (i + 8) (stored (pairOf 6 [] a b))
@@ -129,5 +129,5 @@ unfolding stored
 three-pieces l m n o i a b c p q r =
     let y : length (stored (pairOf 6 [] a b)) ≡ 24 = pair-long 6 [] a b in
     let t : i + 8 + length (stored (pairOf 6 [] a b)) ≡ i + 32 = omega arith in
-    let w : 40 ≡ length (stored (pairOf 6 [] a b)) + length (stored (nameOf [] c)) + 8 = omega (arith, leaf-size nameKind (c .start) (c .end) []) in
+    let w : 40 ≡ length (stored (pairOf 6 [] a b)) + length (stored (nameOf [] c)) + 8 = omega (arith, leaf-size RecName (c .start) (c .end) []) in
     node-pieces l m n o i 40 5 (a .start) (c .end) (pairOf 6 [] a b) (nameOf [] c) w p q (rw t r)

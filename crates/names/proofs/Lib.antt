@@ -4,10 +4,8 @@ pub mod Steps
 pub mod Chains
 pub mod Returns
 pub mod Values
-pub mod Levels
 pub mod Lists
-pub mod Shift
-pub mod Kinded
+pub mod Every
 pub mod Entries
 pub mod Listing
 pub mod Opening

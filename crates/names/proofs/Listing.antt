@@ -1,5 +1,4 @@
 -- Lists by their steps: what each return of the code of a step gives, and how a list goes on from step to step.
--- Assumes nothing.
 use mathlib.Core.Path.{_≡_, refl, ap, sym, _∙_, subst}
 use mathlib.Core.Bool.{Bool, true, false, cond, _&&_, _||_}
 use mathlib.Core.List.{List, _∷_, _++_, append-nil}
@@ -24,7 +23,8 @@ use Rattle.classes.proofs.Bools.{false-true}
 use Rattle.records.specs.Tree.{Tree, Trees, none, more}
 use Rattle.records.specs.Stored.{stored, storedAll}
 use Rattle.records.proofs.Sizes.{size-more}
-use Rattle.names.specs.Reading.{Ans, ok, no, refusal₂, then, look, when, commaTok, greaterTok, shiftTok, Close, closes, stays, closing, closed, afterItem, list, listBehind}
+use Rattle.words.specs.Kinds.{Comma, Greater, GreaterGreater}
+use Rattle.names.specs.Reading.{Ans, ok, no, refusal₂, then, look, when, Close, closes, stays, closing, closed, afterItem, list, listBehind}
 use Rattle.names.specs.Parsed.{wordOf, scanned, follow, given, kept, put}
 use Rattle.names.specs.Lists.{Passed, empty, ended, onward, stepAfter, listStep, goOn, passedBytes, stepped, keptStep, putStep, closesList, closeEnd, beforeItem, itemStep}
 use Rattle.names.specs.declared.Part.{Part}
@@ -83,7 +83,7 @@ module _ (text : List ℕ) (fits : length text ≤ textLimit) (at : ℕ) (h : at
   abbrev closingAt : Close
   closingAt = closing close (t .kind) (t .start) (t .end) (drop (t .end) text)
 
-  by-test : (x y z : Bool) → eqb (t .kind) close ≡ x → eqb close greaterTok ≡ y → eqb (t .kind) shiftTok ≡ z
+  by-test : (x y z : Bool) → eqb (t .kind) close ≡ x → eqb close Greater ≡ y → eqb (t .kind) GreaterGreater ≡ z
       → when x (λ _. closes (t .end) (drop (t .end) text)) (λ _. when (y && z) (λ _. closes (suc (t .start)) (62 ∷ drop (t .end) text)) λ _. stays)
       ≡ cond (x || (y && z)) (closes (cond x (t .end) (cond (ltb (t .start) (t .end)) (suc (t .start)) (t .end))) (drop (cond x (t .end) (cond (ltb (t .start) (t .end)) (suc (t .start)) (t .end))) text)) stays
   unfolding when
@@ -98,7 +98,7 @@ module _ (text : List ℕ) (fits : length text ≤ textLimit) (at : ℕ) (h : at
 
   pub closing-as : closingAt ≡ cond (closesList close (t .kind)) (closes (closeEnd close t) (drop (closeEnd close t) text)) stays
   unfolding closing closeEnd
-  closing-as = by-test (eqb (t .kind) close) (eqb close greaterTok) (eqb (t .kind) shiftTok) refl refl refl
+  closing-as = by-test (eqb (t .kind) close) (eqb close Greater) (eqb (t .kind) GreaterGreater) refl refl refl
 
 -- the tests of a token, where a list may close
 module _ (text : List ℕ) (fits : length text ≤ textLimit) (at : ℕ) (h : at ≤ length text) (t : Token) (f : nextToken text at ≡ Found t) (close : ℕ) {B : Type 0} (y : ℕ → List ℕ → Ans B) (n : Unit {0} → Ans B) where
@@ -291,7 +291,7 @@ module _ (text : List ℕ) (fits : length text ≤ textLimit) (item : Scanned �
       (look-sure text (SureStep at) _ q (d .on .inside) (λ r n. tt) λ k s e w r l g.
       closed-sure text (SureStep at) close q k s e w r _ _ (d .on .inside) c l g
       (λ q₂ u₂ p. record { on = record { rest = p .rest; further = omega (arith, p .further, d .on .further); inside = p .inside }; small = omega (arith, d .small, d .from, p .further) })
-      (when-sure text (SureStep at) (eqb k commaTok) _ _
+      (when-sure text (SureStep at) (eqb k Comma) _ _
       (λ _. record { on = record { rest = g .behind; further = omega (arith, g .from, g .ordered, d .on .further); inside = g .within }; small = omega (arith, d .small, d .from, g .from, g .ordered) })
       (λ _. tt)))
 
@@ -300,7 +300,7 @@ module _ (text : List ℕ) (fits : length text ≤ textLimit) (item : Scanned �
   step-sure at h =
       look-sure text (SureStep at) _ at h (λ r n. tt) λ k s e w r l g.
       closed-sure text (SureStep at) close at k s e w r _ _ h c l g (λ q u p. record { on = p; small = omega (arith, p .further) })
-      (when-sure text (SureStep at) (eqb k commaTok) _ _ (λ _. tt)
+      (when-sure text (SureStep at) (eqb k Comma) _ _ (λ _. tt)
       (λ _. then-sure text (SureStep at) (item (lex at (drop at text))) _
       (λ t q u a. after-sure at t q u (subst (Sure text 0 at) a (reader at h)))
       (λ r₂ a. tt)))
@@ -316,10 +316,10 @@ module _ (text : List ℕ) (fits : length text ≤ textLimit) (item : Scanned �
       (λ k s e w r l.
       let g : Good text q k s e w r = subst (Sound text q) l (lex-sound text q (d .on .inside)) in
       closed-same (closing close k s e r) _ _ _
-      (when-same (eqb k commaTok) _ _ _ _
+      (when-same (eqb k Comma) _ _ _ _
       (rw (g .behind) (ap (λ (x : Ans Trees). then x λ ts q₂ u₂. ok (more t ts) q₂ u₂) (h e (omega (arith, g .from, g .ordered)) (g .within))))
       refl
-      ∙ sym (when-then (goOn (listBehind item close o)) (eqb k commaTok) _ _))
+      ∙ sym (when-then (goOn (listBehind item close o)) (eqb k Comma) _ _))
       ∙ sym (closed-then (goOn (listBehind item close o)) (closing close k s e r) _ _))
       ∙ sym (look-then (goOn (listBehind item close o)) (lex q (drop q text)) _))
 
@@ -329,13 +329,13 @@ module _ (text : List ℕ) (fits : length text ≤ textLimit) (item : Scanned �
       look-same (lex at (drop at text)) _ _
       (λ k s e w r l.
       closed-same (closing close k s e r) _ _ _
-      (when-same (eqb k commaTok) _ _ _ _ refl
+      (when-same (eqb k Comma) _ _ _ _ refl
       (then-same (item (lex at (drop at text))) _ _
       (λ t q u a.
       let d : Sound-read text 0 at t q u = subst (Sure text 0 at) a (reader at i) in
       onwards (list item close o (length (drop at text))) t q u at d (λ e f j. list-enough text item reader close o (length (drop at text)) (suc (length (drop e text))) e j (omega (arith, length-drop at text, d .on .further, d .on .inside)) (omega (arith, length-drop e text))))
       ∙ sym (then-then (goOn (listBehind item close o)) (item (lex at (drop at text))) _))
-      ∙ sym (when-then (goOn (listBehind item close o)) (eqb k commaTok) _ _))
+      ∙ sym (when-then (goOn (listBehind item close o)) (eqb k Comma) _ _))
       ∙ sym (closed-then (goOn (listBehind item close o)) (closing close k s e r) _ _))
       ∙ sym (look-then (goOn (listBehind item close o)) (lex at (drop at text)) _)
 
@@ -347,9 +347,9 @@ module _ (text : List ℕ) (fits : length text ≤ textLimit) (item : Scanned �
 
   -- an item that was read
   module _ (at : ℕ) (p : Part) (t : Tree) (d : Sound-read text 0 at t (p .end) (drop (p .end) text)) (f : nextToken text (p .end) ≡ Found (p .next)) (z : p .len ≡ length (stored t)) (pos : ℕ) (l m : List ℕ) (w : m ≡ sets l pos (stored t)) where
-    after-by : (x y : Bool) → closesList close (p .next .kind) ≡ x → eqb (p .next .kind) commaTok ≡ y
+    after-by : (x y : Bool) → closesList close (p .next .kind) ≡ x → eqb (p .next .kind) Comma ≡ y
         → StepGives (closed (closing close (p .next .kind) (p .next .start) (p .next .end) (drop (p .next .end) text)) (λ q₂ u₂. ok (ended t) q₂ u₂)
-        (λ _. when (eqb (p .next .kind) commaTok) (λ _. ok (onward t) (p .next .end) (drop (p .next .end) text)) λ _. no (refusal₂ 12 (p .next .start) (p .next .start) o o))) pos l m
+        (λ _. when (eqb (p .next .kind) Comma) (λ _. ok (onward t) (p .next .end) (drop (p .next .end) text)) λ _. no (refusal₂ 12 (p .next .start) (p .next .start) o o))) pos l m
         (cond x (Last (p .len) (closeEnd close (p .next))) (cond y (Item (p .len) (p .next .end)) (Stopped (refusal₂ 12 (p .next .start) (p .next .start) o o))))
     unfolding when stepped keptStep putStep passedBytes
     after-by true y e g = rw (closed-yes text fits (p .end) (d .on .inside) (p .next) f close (λ q₂ u₂. ok (ended t) q₂ u₂) _ e) (ap (λ (n : ℕ). Last n (closeEnd close (p .next))) z, w)
@@ -358,7 +358,7 @@ module _ (text : List ℕ) (fits : length text ≤ textLimit) (item : Scanned �
 
     after-read : (s : Step) → s ≡ itemStep close o p → StepGives (stepAfter close o t (p .end) (drop (p .end) text)) pos l m s
     unfolding itemStep stepAfter look
-    after-read s h = rw (found-token text fits (p .end) (d .on .inside) (p .next) f .0, h) (after-by (closesList close (p .next .kind)) (eqb (p .next .kind) commaTok) refl refl)
+    after-read s h = rw (found-token text fits (p .end) (d .on .inside) (p .next) f .0, h) (after-by (closesList close (p .next .kind)) (eqb (p .next .kind) Comma) refl refl)
 
   -- the step by what the token before an item says
   unfoldable pub turned : ℕ → Turn → Ans Passed → Ans Passed
@@ -372,9 +372,9 @@ module _ (text : List ℕ) (fits : length text ≤ textLimit) (item : Scanned �
     step-refused pos l m r h = rw (refused-token text fits at i r h) (refl, refl)
 
     module _ (a : Token) (f : nextToken text at ≡ Found a) where
-      by-turn : (x y : Bool) → closesList close (a .kind) ≡ x → eqb (a .kind) commaTok ≡ y
+      by-turn : (x y : Bool) → closesList close (a .kind) ≡ x → eqb (a .kind) Comma ≡ y
           → closed (closing close (a .kind) (a .start) (a .end) (drop (a .end) text)) (λ q u. ok empty q u)
-          (λ _. when (eqb (a .kind) commaTok) (λ _. no (refusal 11 (a .start) (a .start))) λ _. then (item (scanned text a)) λ t q u. stepAfter close o t q u)
+          (λ _. when (eqb (a .kind) Comma) (λ _. no (refusal 11 (a .start) (a .start))) λ _. then (item (scanned text a)) λ t q u. stepAfter close o t q u)
           ≡ turned at (cond x (Closes (closeEnd close a)) (cond y (Wrong (refusal 11 (a .start) (a .start))) Goes)) (then (item (scanned text a)) λ t q u. stepAfter close o t q u)
       unfolding turned when
       by-turn true y e g = closed-yes text fits at i a f close _ _ e
@@ -383,7 +383,7 @@ module _ (text : List ℕ) (fits : length text ≤ textLimit) (item : Scanned �
 
       pub step-turn : step at ≡ turned at (beforeItem close a) (then (item (scanned text a)) λ t q u. stepAfter close o t q u)
       unfolding listStep look beforeItem
-      step-turn = rw (found-token text fits at i a f .0) (by-turn (closesList close (a .kind)) (eqb (a .kind) commaTok) refl refl)
+      step-turn = rw (found-token text fits at i a f .0) (by-turn (closesList close (a .kind)) (eqb (a .kind) Comma) refl refl)
 
       item-read : (p : Part) (d : Opened stored (item (scanned text a)) p) → Sound-read text 0 at (d .what) (p .end) (d .rest)
       item-read p d = subst (Sure text 0 at) (ap item (found-token text fits at i a f .0) ∙ d .is) (reader at i)

@@ -1,5 +1,4 @@
 -- Lists: how many items are allowed does not matter where the bytes left are enough for them.
--- Assumes nothing.
 use mathlib.Core.Path.{_≡_, refl, ap, subst}
 use mathlib.Core.Bool.{Bool, true, false}
 use mathlib.Core.List.{List}
@@ -10,7 +9,8 @@ use lib.ListN.{length, drop}
 use Rattle.tokens.specs.Token.{Scanned, tok, bad, lex}
 use Rattle.tokens.proofs.Lexing.{Good, Sound, lex-sound}
 use Rattle.records.specs.Tree.{Tree, Trees, more}
-use Rattle.names.specs.Reading.{Ans, ok, no, then, look, when, commaTok, Close, closes, stays, closing, closed, afterItem, list}
+use Rattle.words.specs.Kinds.{Comma}
+use Rattle.names.specs.Reading.{Ans, ok, no, then, look, when, Close, closes, stays, closing, closed, afterItem, list}
 use Rattle.names.proofs.Sure.{Read, Sure, Reader}
 
 pub look-same : {B : Type 0} (l : Scanned) (f g : ℕ → ℕ → ℕ → List ℕ → List ℕ → Ans B) → ((k s e : ℕ) (w r : List ℕ) → l ≡ tok k s e w r → f k s e w r ≡ g k s e w r) → look l f ≡ look l g
@@ -45,7 +45,7 @@ module _ (text : List ℕ) (item : Scanned → Ans Tree) (reader : Reader text i
   list-enough (suc f) (suc g) at h m n =
       look-same (lex at (drop at text)) _ _ λ k s e w r l.
       closed-same (closing close k s e r) _ _ _
-      (when-same (eqb k commaTok) _ _ _ _ refl
+      (when-same (eqb k Comma) _ _ _ _ refl
       (then-same (item (lex at (drop at text))) _ _ λ t q u a.
       let d : Read text 0 at t q u = subst (Sure text 0 at) a (reader at h) in
       rw (d .on .rest)
@@ -53,6 +53,6 @@ module _ (text : List ℕ) (item : Scanned → Ans Tree) (reader : Reader text i
       let c : Good text q k₂ s₂ e₂ w₂ r₂ = found q k₂ s₂ e₂ w₂ r₂ (d .on .inside) l₂ in
       let z : at < e₂ = omega (arith, d .on .further, c .from, c .ordered) in
       closed-same (closing close k₂ s₂ e₂ r₂) _ _ _
-      (when-same (eqb k₂ commaTok) _ _ _ _
+      (when-same (eqb k₂ Comma) _ _ _ _
       (rw (c .behind) (ap (λ (x : Ans Trees). then x λ ts q₂ u₂. ok (more t ts) q₂ u₂) (list-enough f g e₂ (c .within) (omega arith) (omega arith))))
       refl))))

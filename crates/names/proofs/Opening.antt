@@ -1,5 +1,4 @@
 -- Where a reader stands in the text: at a token that the caller found, and behind what another reader's code read.
--- Assumes nothing.
 use mathlib.Core.Path.{_≡_, ap, _∙_, subst}
 use mathlib.Core.List.{List}
 use Prim.Native.Nat.{ℕ, _<_, _≤_}

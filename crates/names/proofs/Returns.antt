@@ -1,5 +1,4 @@
 -- What each return of the code of names gives, from the answers of the token call.
--- Assumes nothing.
 use mathlib.Core.Path.{_≡_, refl, ap, sym, _∙_, subst}
 use mathlib.Core.Bool.{Bool, true, false, cond}
 use mathlib.Core.List.{List, []}
@@ -15,12 +14,13 @@ use Rattle.tokens.specs.Answers.{refusal}
 use Rattle.tokens.specs.declared.Lexed.{Lexed}
 use Rattle.tokens.specs.declared.Lexed.the-variants.{Found, Refused as Bad}
 use Rattle.tokens.proofs.Again.{admitted-in, found-fits}
-use Rattle.records.specs.Tree.{oneKind, twoKind, Tree, leaf}
+use Rattle.records.specs.Kinds.{RecOnePart, RecTwoPart}
+use Rattle.records.specs.Tree.{Tree, leaf}
 use Rattle.records.specs.Stored.{header, stored}
 use Rattle.records.proofs.Sizes.{leaf-size}
 use Rattle.names.specs.Reading.{Ans, no, look}
 use Rattle.names.specs.Names.{isFirst, chain}
-use Rattle.names.specs.Parsed.{Standing, wordOf, scanned, pairOf, threeOf, unexpected, colonsDue, admittedPart}
+use Rattle.names.specs.Parsed.{Standing, Inside, wordOf, scanned, pairOf, threeOf, unexpected, colonsDue, admittedPart}
 use Rattle.names.specs.declared.Parsed.{Parsed}
 use Rattle.names.specs.declared.Parsed.the-variants.{Read, Refused}
 use Rattle.names.proofs.Steps.{found-token, refused-token, Gives, gives-no, gives-late, gives-read, gives-as}
@@ -76,7 +76,7 @@ module _ (text : List ℕ) (fits : length text ≤ textLimit) (pos : ℕ) (l m :
 
       pub third-read : (n .kind ≡ 23 → ⊥) → m ≡ sets l pos (stored (pairOf 4 [] a b)) → Gives stored (third text a b) pos l m (Read (record { len = 24; end = b .end; next = n }))
       third-read k w =
-          gives-read stored text fits (b .end) h (third text a b) (pairOf twoKind text a b) (third-two text a b n (found-token text fits (b .end) h n e .0) k) pos l m n 24 e (sym (pair-long 4 text a b)) (w ∙ ap (sets l pos) (sym (pair-unspelled 4 text a b)))
+          gives-read stored text fits (b .end) h (third text a b) (pairOf RecTwoPart text a b) (third-two text a b n (found-token text fits (b .end) h n e .0) k) pos l m n 24 e (sym (pair-long 4 text a b)) (w ∙ ap (sets l pos) (sym (pair-unspelled 4 text a b)))
 
   -- the first part
   module _ (a : Token) where
@@ -94,7 +94,7 @@ module _ (text : List ℕ) (fits : length text ≤ textLimit) (pos : ℕ) (l m :
         pub chain-read : (n .kind ≡ 23 → ⊥) → a .kind ≡ 4 → m ≡ sets l pos (header 8 3 (a .start) (a .end)) → Gives stored (chain (scanned text a)) pos l m (Read (record { len = 8; end = a .end; next = n }))
         unfolding stored
         chain-read k j w =
-            gives-read stored text fits (a .end) h (chain (scanned text a)) (leaf oneKind (a .start) (a .end) (wordOf text a)) (chain-one text a f n (found-token text fits (a .end) h n e .0) k j) pos l m n 8 e (sym (leaf-size oneKind (a .start) (a .end) (wordOf text a))) w
+            gives-read stored text fits (a .end) h (chain (scanned text a)) (leaf RecOnePart (a .start) (a .end) (wordOf text a)) (chain-one text a f n (found-token text fits (a .end) h n e .0) k j) pos l m n 8 e (sym (leaf-size RecOnePart (a .start) (a .end) (wordOf text a))) w
 
         pub chain-unmet : (p : Parsed) → p ≡ colonsDue n a → (n .kind ≡ 23 → ⊥) → (a .kind ≡ 4 → ⊥) → Gives stored (chain (scanned text a)) pos l m p
         chain-unmet p z k j = gives-no stored (chain (scanned text a)) pos l m _ p z (chain-due text a f n (found-token text fits (a .end) h n e .0) k j)
@@ -127,6 +127,9 @@ module _ (one : Scanned → Ans Tree) (bads : (r : Refusal) → one (bad r) ≡ 
 module _ (text : List ℕ) (at : ℕ) (t : Token) where
   pub found-stands : nextToken text at ≡ Found t → Standing text t
   found-stands h = let f = found-fits text at t h in found-token text (f .0) at (f .1) t h .1
+
+  pub found-inside : nextToken text at ≡ Found t → Inside text (t .end)
+  found-inside h = let s = found-stands h in (s .0, s .2)
 
   pub found-takes : nextToken text at ≡ Found t → 0 < t .kind → t .start < t .end
   found-takes h = let f = found-fits text at t h in found-token text (f .0) at (f .1) t h .3

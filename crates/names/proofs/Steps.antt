@@ -1,5 +1,4 @@
 -- The token at a place as the code has it, and what each return of a reader's code says.
--- Assumes nothing.
 use mathlib.Core.Path.{_≡_, refl, ap, sym, _∙_, subst}
 use mathlib.Core.List.{List}
 use Prim.Native.Nat.{ℕ, _<_, _≤_}

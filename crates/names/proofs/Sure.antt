@@ -1,7 +1,6 @@
 -- What holds of every answer of a reader, put together as readers are: a tree that was read ends where reading goes on, in the
 -- text, its spans are nested, and its stored form is no longer than 24 bytes a byte read, with some bytes to spare; a refusal's places
 -- are in the text.
--- Assumes nothing.
 use mathlib.Core.Path.{_≡_, refl, ap, _∙_, subst}
 use mathlib.Core.Bool.{Bool, true, false, _&&_}
 use mathlib.Core.List.{List, [], _∷_}
@@ -18,7 +17,8 @@ use Rattle.classes.proofs.Bools.{and-right}
 use Rattle.records.specs.Tree.{Tree, Trees, none, more, startOf, endOf, Nested, Within}
 use Rattle.records.proofs.Nesting.{wider}
 use Rattle.records.specs.Stored.{stored, storedAll}
-use Rattle.names.specs.Reading.{Ans, ok, no, refusal₂, then, look, when, commaTok, greaterTok, shiftTok, closing, closed, afterItem, list, listBehind}
+use Rattle.words.specs.Kinds.{Comma, Greater, GreaterGreater}
+use Rattle.names.specs.Reading.{Ans, ok, no, refusal₂, then, look, when, closing, closed, afterItem, list, listBehind}
 
 module _ (text : List ℕ) where
   abbrev pub Placed : Refusal → Type 0
@@ -89,9 +89,9 @@ module _ (text : List ℕ) where
       (λ b.
       let z : k ≡ close = eqb-true k close b in
       p e r (record { rest = d .behind; further = omega (arith, d .from, d .takes (omega arith)); inside = d .within }))
-      (λ _. when-sure (λ x. P (closed x f g)) (eqb close greaterTok && eqb k shiftTok) _ _
+      (λ _. when-sure (λ x. P (closed x f g)) (eqb close Greater && eqb k GreaterGreater) _ _
       (λ b.
-      let z : k ≡ 34 = eqb-true k 34 (and-right (eqb close greaterTok) (eqb k shiftTok) b) in
+      let z : k ≡ 34 = eqb-true k 34 (and-right (eqb close Greater) (eqb k GreaterGreater) b) in
       let y = shift-split text at s e w r h (l ∙ ap (λ (j : ℕ). tok j s e w r) z) in
       p (suc s) (62 ∷ r) (record { rest = y .1; further = omega (arith, d .from); inside = omega (arith, d .within, y .0) }))
       (λ _. n))
@@ -130,7 +130,7 @@ module _ (text : List ℕ) where
         rw (d .on .rest)
         (look-sure (SureAll at) _ q (d .on .inside) (λ r n. n) λ k s e w r l g.
         closed-sure (SureAll at) close q k s e w r _ _ (d .on .inside) c l g (λ q₂ u₂ p. one-read at t q u q₂ u₂ d p)
-        (when-sure (SureAll at) (eqb k commaTok) _ _
+        (when-sure (SureAll at) (eqb k Comma) _ _
         (λ _. rw (g .behind)
         (then-sure (SureAll at) (again (lex e (drop e text))) _
         (λ ts q₂ u₂ a. more-read at t q u e ts q₂ u₂ d (omega (arith, g .from, g .ordered)) (subst (SureAll e) a (ih e (g .within))))
@@ -143,7 +143,7 @@ module _ (text : List ℕ) where
     list-sure (suc f) at h =
         look-sure (SureAll at) _ at h (λ r n. n) λ k s e w r l g.
         closed-sure (SureAll at) close at k s e w r _ _ h c l g (λ q u p. empty-read at q u p)
-        (when-sure (SureAll at) (eqb k commaTok) _ _ (λ _. ((omega arith, omega (arith, g .ordered, g .within)), (omega arith, omega (arith, g .ordered, g .within))))
+        (when-sure (SureAll at) (eqb k Comma) _ _ (λ _. ((omega arith, omega (arith, g .ordered, g .within)), (omega arith, omega (arith, g .ordered, g .within))))
         (λ _. then-sure (SureAll at) (item (lex at (drop at text))) _
         (λ t q u a. after-sure (list item close o f) (λ at₂ h₂. list-sure f at₂ h₂) at t q u (subst (Sure 0 at) a (reader at h)))
         (λ r₂ a. subst (Sure 0 at) a (reader at h))))

@@ -1,5 +1,4 @@
 -- Values, by the tests and the callees' answers that lead to each case of the code.
--- Assumes nothing.
 use mathlib.Core.Path.{_≡_, refl, ap, sym, _∙_}
 use mathlib.Core.Bool.{Bool, true, false, cond, _&&_, _||_}
 use mathlib.Core.List.{List, [], _∷_, append-nil}
@@ -16,7 +15,8 @@ use Rattle.tokens.specs.Calls.{textLimit, nextToken}
 use Rattle.tokens.specs.declared.Refusal.{Refusal}
 use Rattle.tokens.specs.declared.Token.{Token}
 use Rattle.tokens.specs.declared.Lexed.the-variants.{Found, Refused as Bad}
-use Rattle.records.specs.Tree.{nameKind, addressKind, Tree, leaf}
+use Rattle.records.specs.Kinds.{RecName, RecAddress}
+use Rattle.records.specs.Tree.{Tree, leaf}
 use Rattle.records.specs.Stored.{two, span, header, stored, storedAll}
 use Rattle.records.proofs.Pieces.{both, header-long}
 use Rattle.records.proofs.Sizes.{leaf-size}
@@ -131,18 +131,18 @@ module _ (text : List ℕ) (fits : length text ≤ textLimit) (pos : ℕ) (l m :
     pub named-late : (r : Refusal) → nextToken text (b .end) ≡ Bad r → Gives stored (ok (addressOf text a b) (b .end) (drop (b .end) text)) pos l m (Refused r)
     named-late r e = gives-late stored text fits (b .end) h _ (addressOf text a b) refl pos l m r e
 
-    address-pieces : (n : List ℕ) (f : ℕ) → f ≡ cond (eqb (b .kind) 4) nameKind addressKind → n ≡ sets l pos (header 16 30 (a .start) (b .end)) → m ≡ sets n (pos + 8) (header 8 f (b .start) (b .end))
+    address-pieces : (n : List ℕ) (f : ℕ) → f ≡ cond (eqb (b .kind) 4) RecName RecAddress → n ≡ sets l pos (header 16 30 (a .start) (b .end)) → m ≡ sets n (pos + 8) (header 8 f (b .start) (b .end))
         → m ≡ sets l pos (stored (addressOf text a b))
     unfolding stored storedAll
     address-pieces n f z p q =
-        rw (append-nil (header 8 (cond (eqb (b .kind) 4) nameKind addressKind) (b .start) (b .end)), header-long 8 (cond (eqb (b .kind) 4) nameKind addressKind) (b .start) (b .end))
-        (both l n m (header 16 30 (a .start) (b .end)) (header 8 (cond (eqb (b .kind) 4) nameKind addressKind) (b .start) (b .end)) pos p (rw (header-long 16 30 (a .start) (b .end)) (rw z at q)))
+        rw (append-nil (header 8 (cond (eqb (b .kind) 4) RecName RecAddress) (b .start) (b .end)), header-long 8 (cond (eqb (b .kind) 4) RecName RecAddress) (b .start) (b .end))
+        (both l n m (header 16 30 (a .start) (b .end)) (header 8 (cond (eqb (b .kind) 4) RecName RecAddress) (b .start) (b .end)) pos p (rw (header-long 16 30 (a .start) (b .end)) (rw z at q)))
 
     address-long : length (stored (addressOf text a b)) ≡ 16
     unfolding stored storedAll header span two
     address-long = refl
 
-    pub named-read : (n : Token) → nextToken text (b .end) ≡ Found n → (o : List ℕ) (f : ℕ) → f ≡ cond (eqb (b .kind) 4) nameKind addressKind → o ≡ sets l pos (header 16 30 (a .start) (b .end)) → m ≡ sets o (pos + 8) (header 8 f (b .start) (b .end))
+    pub named-read : (n : Token) → nextToken text (b .end) ≡ Found n → (o : List ℕ) (f : ℕ) → f ≡ cond (eqb (b .kind) 4) RecName RecAddress → o ≡ sets l pos (header 16 30 (a .start) (b .end)) → m ≡ sets o (pos + 8) (header 8 f (b .start) (b .end))
         → Gives stored (ok (addressOf text a b) (b .end) (drop (b .end) text)) pos l m (Read (record { len = 16; end = b .end; next = n }))
     named-read n e o f z p q =
         gives-read stored text fits (b .end) h _ (addressOf text a b) refl pos l m n 16 e (sym address-long) (address-pieces o f z p q)

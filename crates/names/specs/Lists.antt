@@ -1,17 +1,18 @@
 -- One step of a list: up to a closing token or behind the comma that follows an item. A list is its steps, one after the other.
--- Assumes nothing.
 use Prim.Native.Nat.{ℕ, suc}
 use mathlib.Core.Bool.{Bool, cond, _&&_, _||_}
 use mathlib.Core.List.{List, []}
 use lib.Dec.{eqb, ltb}
 use lib.ListN.{length}
 use lib.Seq.{sets}
+use Rattle.tokens.specs.Refusals.{CommaForItem, ListNotClosed}
 use Rattle.tokens.specs.Answers.{refusal}
 use Rattle.tokens.specs.Token.{Scanned, lex}
 use Rattle.tokens.specs.declared.Token.{Token}
 use Rattle.records.specs.Tree.{Tree, Trees, none, more}
 use Rattle.records.specs.Stored.{stored}
-use Rattle.names.specs.Reading.{Ans, ok, no, refusal₂, then, look, when, commaTok, greaterTok, shiftTok, closing, closed}
+use Rattle.words.specs.Kinds.{Comma, Greater, GreaterGreater}
+use Rattle.names.specs.Reading.{Ans, ok, no, refusal₂, then, look, when, closing, closed}
 use Rattle.names.specs.declared.Part.{Part}
 use Rattle.names.specs.declared.Turn.{Turn}
 use Rattle.names.specs.declared.Turn.the-variants.{Goes, Closes, Refused as Wrong}
@@ -28,14 +29,14 @@ unfoldable pub stepAfter : ℕ → ℕ → Tree → ℕ → List ℕ → Ans Pas
 stepAfter close o t q u =
     look (lex q u) λ k s e w r.
     closed (closing close k s e r) (λ q₂ u₂. ok (ended t) q₂ u₂) λ _.
-    when (eqb k commaTok) (λ _. ok (onward t) e r) λ _.
-    no (refusal₂ 12 s s o o)
+    when (eqb k Comma) (λ _. ok (onward t) e r) λ _.
+    no (refusal₂ ListNotClosed s s o o)
 
 unfoldable pub listStep : (Scanned → Ans Tree) → ℕ → ℕ → Scanned → Ans Passed
 listStep item close o l =
     look l λ k s e w r.
     closed (closing close k s e r) (λ q u. ok empty q u) λ _.
-    when (eqb k commaTok) (λ _. no (refusal 11 s s)) λ _.
+    when (eqb k Comma) (λ _. no (refusal CommaForItem s s)) λ _.
     then (item l) λ t q u. stepAfter close o t q u
 
 -- the list from a step on
@@ -67,7 +68,7 @@ putStep pos (no r) out = out
 
 -- by the token before an item, and by what was read of an item with the token behind it
 abbrev pub closesList : ℕ → ℕ → Bool
-closesList close k = eqb k close || (eqb close greaterTok && eqb k shiftTok)
+closesList close k = eqb k close || (eqb close Greater && eqb k GreaterGreater)
 
 -- behind a closing token: behind the first byte of `>>`
 unfoldable pub closeEnd : ℕ → Token → ℕ
@@ -76,9 +77,9 @@ closeEnd close t = cond (eqb (t .kind) close) (t .end) (cond (ltb (t .start) (t 
 unfoldable pub beforeItem : ℕ → Token → Turn
 beforeItem close t =
     cond (closesList close (t .kind)) (Closes (closeEnd close t))
-    (cond (eqb (t .kind) commaTok) (Wrong (refusal 11 (t .start) (t .start))) Goes)
+    (cond (eqb (t .kind) Comma) (Wrong (refusal CommaForItem (t .start) (t .start))) Goes)
 
 unfoldable pub itemStep : ℕ → ℕ → Part → Step
 itemStep close o p =
     cond (closesList close (p .next .kind)) (Last (p .len) (closeEnd close (p .next)))
-    (cond (eqb (p .next .kind) commaTok) (Item (p .len) (p .next .end)) (Stopped (refusal₂ 12 (p .next .start) (p .next .start) o o)))
+    (cond (eqb (p .next .kind) Comma) (Item (p .len) (p .next .end)) (Stopped (refusal₂ ListNotClosed (p .next .start) (p .next .start) o o)))

@@ -1,19 +1,18 @@
 -- What the code answers for what a reader reads, with the token that follows already read, and what it writes.
--- Assumes nothing.
 use Prim.Native.Nat.{ℕ, _+_, _-_, _*_, _^_, _<_, _≤_}
 use mathlib.Core.Path.{_≡_}
-use mathlib.Core.Bool.{Bool, true, false, cond}
 use mathlib.Core.List.{List, []}
-use lib.Dec.{ltb}
 use lib.ListN.{length, take, drop}
 use lib.Seq.{sets}
+use Rattle.tokens.specs.Refusals.{UnexpectedToken, NoValue}
 use Rattle.tokens.specs.Answers.{refusal}
 use Rattle.tokens.specs.Token.{Scanned, tok, lex}
 use Rattle.tokens.specs.Calls.{textLimit, admitted, lexed, nextToken}
 use Rattle.tokens.specs.declared.Token.{Token}
 use Rattle.tokens.specs.declared.Lexed.{Lexed}
 use Rattle.tokens.specs.declared.Lexed.the-variants.{Found, Refused as Bad}
-use Rattle.records.specs.Tree.{nameKind, threeKind, pairKind, addressValueKind, Tree, leaf, node, none, more}
+use Rattle.records.specs.Kinds.{RecName, RecThreePart, RecPair, RecAddressValue}
+use Rattle.records.specs.Tree.{Tree, leaf, node, none, more}
 use Rattle.names.specs.Reading.{Ans, ok, no, refusal₂}
 use Rattle.names.specs.Names.{firstPart}
 use Rattle.names.specs.Values.{leafValue}
@@ -24,12 +23,9 @@ use Rattle.names.specs.declared.Parsed.the-variants.{Read, Refused}
 abbrev pub Standing : List ℕ → Token → Type 0
 Standing text t = (length text ≤ textLimit) × (t .start ≤ t .end) × (t .end ≤ length text)
 
--- the same as a test
-unfoldable pub stands : List ℕ → Token → Bool
-stands text t =
-    cond (ltb textLimit (length text)) false
-    (cond (ltb (t .end) (t .start)) false
-    (cond (ltb (length text) (t .end)) false true))
+-- a text and an offset that refusals 1 and 2 do not concern
+abbrev pub Inside : List ℕ → ℕ → Type 0
+Inside text at = (length text ≤ textLimit) × (at ≤ length text)
 
 -- the token is the one that is found at its own first byte
 abbrev pub Stands : List ℕ → Token → Type 0
@@ -55,29 +51,29 @@ abbrev pub firstOf : List ℕ → Token → Tree
 firstOf text a = firstPart (a .kind) (a .start) (a .end) (wordOf text a)
 
 abbrev pub nameOf : List ℕ → Token → Tree
-nameOf text b = leaf nameKind (b .start) (b .end) (wordOf text b)
+nameOf text b = leaf RecName (b .start) (b .end) (wordOf text b)
 
 abbrev pub pairOf : ℕ → List ℕ → Token → Token → Tree
 pairOf k text a b = node k (a .start) (b .end) (more (firstOf text a) (more (nameOf text b) none))
 
 abbrev pub threeOf : List ℕ → Token → Token → Token → Tree
-threeOf text a b c = node threeKind (a .start) (c .end) (more (pairOf pairKind text a b) (more (nameOf text c) none))
+threeOf text a b c = node RecThreePart (a .start) (c .end) (more (pairOf RecPair text a b) (more (nameOf text c) none))
 
 -- an address behind its `@`, and a value that is one token
 abbrev pub addressOf : List ℕ → Token → Token → Tree
-addressOf text a b = node addressValueKind (a .start) (b .end) (more (firstOf text b) none)
+addressOf text a b = node RecAddressValue (a .start) (b .end) (more (firstOf text b) none)
 
 abbrev pub leafOf : ℕ → List ℕ → Token → Ans Tree
 leafOf c text a = leafValue c (a .kind) (a .start) (a .end) (wordOf text a) (drop (a .end) text)
 
 abbrev pub noValue : Token → Parsed
-noValue t = Refused (refusal 13 (t .start) (t .end))
+noValue t = Refused (refusal NoValue (t .start) (t .end))
 
 abbrev pub unexpected : Token → Parsed
-unexpected t = Refused (refusal 10 (t .start) (t .end))
+unexpected t = Refused (refusal UnexpectedToken (t .start) (t .end))
 
 abbrev pub colonsDue : Token → Token → Parsed
-colonsDue n a = Refused (refusal₂ 10 (n .start) (n .end) (a .start) (a .end))
+colonsDue n a = Refused (refusal₂ UnexpectedToken (n .start) (n .end) (a .start) (a .end))
 
 -- n bytes were written for what ends at q, and the token that follows
 unfoldable pub follow : ℕ → ℕ → Lexed → Parsed
@@ -99,9 +95,10 @@ unfoldable pub put : {A : Type 0} → (A → List ℕ) → ℕ → Ans A → Lis
 put one pos (ok x q u) out = sets out pos (one x)
 put one pos (no r) out = out
 
--- a reader from a token on; a token that is not one of the text is refused
+-- a reader that goes on behind a token t, which the caller has read and which is taken as it is: refusals 1 and 2 are those of the
+-- offset where it goes on
 unfoldable pub onToken : {A : Type 0} → List ℕ → Token → Ans A → Ans A
-onToken text t a = cond (stands text t) a (no (refusal 2 0 0))
+onToken text t a = admitted no text (t .end) a
 
 -- a reader from an offset on, with refusals 1 and 2
 unfoldable pub admittedPart : (Scanned → Ans Tree) → List ℕ → ℕ → Ans Tree

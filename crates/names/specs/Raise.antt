@@ -1,5 +1,4 @@
 -- Answers of readers with all places raised by k.
--- Assumes nothing.
 use Prim.Native.Nat.{ℕ, _+_}
 use Rattle.tokens.specs.Raise.{raiseRefusal}
 use Rattle.names.specs.Reading.{Ans, ok, no}

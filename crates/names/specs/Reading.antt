@@ -1,10 +1,11 @@
 -- What reading answers, and the four ways in which readers are put together.
--- Assumes nothing.
 use Prim.Native.Nat.{ℕ, zero, suc}
 use mathlib.Core.Bool.{Bool, true, false, _&&_}
 use mathlib.Core.List.{List, _∷_}
 use lib.Dec.{eqb}
 use lib.ListN.{length}
+use Rattle.words.specs.Kinds.{Comma, Greater, GreaterGreater}
+use Rattle.tokens.specs.Refusals.{CommaForItem, ListNotClosed}
 use Rattle.tokens.specs.Answers.{place, refusal}
 use Rattle.tokens.specs.Token.{Scanned, tok, bad, lex}
 use Rattle.tokens.specs.declared.Refusal.{Refusal}
@@ -34,70 +35,6 @@ unfoldable pub when : {A : Type 0} → Bool → (Unit {0} → A) → (Unit {0} �
 when true f g = f tt
 when false f g = g tt
 
--- the kinds of tokens that the grammar names, in the order of `Tok`
-abbrev pub eofTok : ℕ
-eofTok = 0
-
-abbrev pub numTok : ℕ
-numTok = 1
-
-abbrev pub typedTok : ℕ
-typedTok = 2
-
-abbrev pub stringTok : ℕ
-stringTok = 3
-
-abbrev pub identifierTok : ℕ
-identifierTok = 4
-
-abbrev pub ampTok : ℕ
-ampTok = 8
-
-abbrev pub ampMutTok : ℕ
-ampMutTok = 10
-
-abbrev pub openTok : ℕ
-openTok = 11
-
-abbrev pub closeTok : ℕ
-closeTok = 12
-
-abbrev pub commaTok : ℕ
-commaTok = 17
-
-abbrev pub colonTok : ℕ
-colonTok = 22
-
-abbrev pub colonsTok : ℕ
-colonsTok = 23
-
-abbrev pub lessTok : ℕ
-lessTok = 25
-
-abbrev pub greaterTok : ℕ
-greaterTok = 32
-
-abbrev pub shiftTok : ℕ
-shiftTok = 34
-
-abbrev pub falseTok : ℕ
-falseTok = 43
-
-abbrev pub trueTok : ℕ
-trueTok = 55
-
-abbrev pub braceTok : ℕ
-braceTok = 58
-
-abbrev pub pipeTok : ℕ
-pipeTok = 59
-
-abbrev pub endBraceTok : ℕ
-endBraceTok = 61
-
-abbrev pub atTok : ℕ
-atTok = 67
-
 -- does a token close a list, and where does reading go on: a `>` closes, and so does the first byte of `>>`
 pub data Close : Type 0 where
   closes : (end : ℕ) (rest : List ℕ) → Close
@@ -106,7 +43,7 @@ pub data Close : Type 0 where
 unfoldable pub closing : ℕ → ℕ → ℕ → ℕ → List ℕ → Close
 closing close k s e r =
     when (eqb k close) (λ _. closes e r) λ _.
-    when (eqb close greaterTok && eqb k shiftTok) (λ _. closes (suc s) (62 ∷ r)) λ _. stays
+    when (eqb close Greater && eqb k GreaterGreater) (λ _. closes (suc s) (62 ∷ r)) λ _. stays
 
 -- try to close a list
 unfoldable pub closed : {B : Type 0} → Close → (ℕ → List ℕ → Ans B) → (Unit {0} → Ans B) → Ans B
@@ -118,16 +55,17 @@ unfoldable pub afterItem : (Scanned → Ans Trees) → ℕ → ℕ → Tree → 
 afterItem again close o t q u =
     look (lex q u) λ k s e w r.
     closed (closing close k s e r) (λ q₂ u₂. ok (more t none) q₂ u₂) λ _.
-    when (eqb k commaTok) (λ _. then (again (lex e r)) λ ts q₂ u₂. ok (more t ts) q₂ u₂) λ _.
-    no (refusal₂ 12 s s o o)
+    when (eqb k Comma) (λ _. then (again (lex e r)) λ ts q₂ u₂. ok (more t ts) q₂ u₂) λ _.
+    no (refusal₂ ListNotClosed s s o o)
 
--- f bounds the items; every item takes a byte, so the bytes left are enough
+-- f bounds the items; every item takes a byte, so more than the bytes left are enough (`list-enough`), and the first clause, where the
+-- bound runs out, is never reached from `listBehind`
 unfoldable pub list : (Scanned → Ans Tree) → ℕ → ℕ → ℕ → Scanned → Ans Trees
-list item close o zero l = no (refusal 12 o o)
+list item close o zero l = no (refusal ListNotClosed o o)
 list item close o (suc f) l =
     look l λ k s e w r.
     closed (closing close k s e r) (λ q u. ok none q u) λ _.
-    when (eqb k commaTok) (λ _. no (refusal 11 s s)) λ _.
+    when (eqb k Comma) (λ _. no (refusal CommaForItem s s)) λ _.
     then (item l) λ t q u. afterItem (list item close o f) close o t q u
 
 -- the list whose opening token stands at o and ends at e, with the bytes r behind it

@@ -6,19 +6,49 @@ ghost use Prim.Native.Nat.{_+_, _^_, _<_, _≤_};
 ghost use lib.Dec.{eqb, ltb};
 ghost use lib.ListN.{length, drop};
 ghost use lib.Seq.{sets};
-ghost use Rattle.records.specs.Tree.{nameKind, addressKind, hexStringKind, byteStringKind};
+ghost use Rattle.records.specs.Kinds.{RecName, RecAddress, RecHexString, RecByteString};
 ghost use Rattle.records.specs.Stored.{stored};
 ghost use Rattle.names.specs.Names.{isFirst, lastPart, thirdPart, secondPart, chain};
 ghost use Rattle.names.specs.Reading.{ok};
 ghost use Rattle.names.specs.Values.{leafKind, addressValue, value};
-ghost use Rattle.tokens.specs.Calls.{nextToken};
-ghost use Rattle.names.specs.Parsed.{Standing, scanned, firstOf, nameOf, pairOf, threeOf, follow, given, kept, put, colonsDue, noValue, leafOf, addressOf, onToken, admittedPart};
+ghost use Rattle.tokens.specs.Calls.{textLimit, nextToken};
+ghost use Rattle.words.specs.Kinds.{NumValue, NumTypedValue, Identifier, ColonColon};
+ghost use Rattle.names.specs.Parsed.{Standing, Inside, scanned, firstOf, nameOf, pairOf, threeOf, follow, given, kept, put, colonsDue, noValue, leafOf, addressOf, onToken, admittedPart};
 ghost use Rattle.names.specs.Lists.{closesList, closeEnd, beforeItem, itemStep};
+use records::kinds::REC_ADDRESS;
+use records::kinds::REC_ADDRESS_VALUE;
+use records::kinds::REC_BYTE_STRING;
+use records::kinds::REC_FALSE;
+use records::kinds::REC_HEX_STRING;
+use records::kinds::REC_NAME;
+use records::kinds::REC_NUMBER;
+use records::kinds::REC_ONE_PART;
+use records::kinds::REC_PAIR;
+use records::kinds::REC_THREE_PART;
+use records::kinds::REC_TRUE;
+use records::kinds::REC_TWO_PART;
 use tokens::Lexed;
 use tokens::Place;
 use tokens::Refusal;
 use tokens::TEXT_LIMIT;
 use tokens::Token;
+use tokens::refusals::COMMA_FOR_ITEM;
+use tokens::refusals::LIST_NOT_CLOSED;
+use tokens::refusals::NO_VALUE;
+use tokens::refusals::START_PAST_END;
+use tokens::refusals::TEXT_TOO_LONG;
+use tokens::refusals::UNEXPECTED_TOKEN;
+use words::kinds::AT_SIGN;
+use words::kinds::BYTE_STRING_VALUE;
+use words::kinds::COLON_COLON;
+use words::kinds::COMMA;
+use words::kinds::FALSE;
+use words::kinds::GREATER;
+use words::kinds::GREATER_GREATER;
+use words::kinds::IDENTIFIER;
+use words::kinds::NUM_TYPED_VALUE;
+use words::kinds::NUM_VALUE;
+use words::kinds::TRUE;
 
 // What was read: the length of its stored form, where its last token ends, and the token that follows.
 pub struct Part {
@@ -48,33 +78,11 @@ pub enum Step {
     Refused(Refusal),
 }
 
-const NUM_VALUE: u8 = 1;
-
-const NUM_TYPED_VALUE: u8 = 2;
-
-const BYTE_STRING_VALUE: u8 = 3;
-
-const IDENTIFIER: u8 = 4;
-
-const COMMA: u8 = 17;
-
-const COLON_COLON: u8 = 23;
-
-const GREATER: u8 = 32;
-
-const GREATER_GREATER: u8 = 34;
-
-const FALSE: u8 = 43;
-
-const TRUE: u8 = 55;
-
-const AT_SIGN: u8 = 67;
-
 // The refusal of the token t, where another was due.
 pub fn unexpected(t: Token) -> Parsed
     ensures { λ r. ⌜ r ≡ Rattle.names.specs.Parsed.unexpected t ⌝ }
 {
-    Parsed::Refused(tokens::refuse(10, t.start, t.end))
+    Parsed::Refused(tokens::refuse(UNEXPECTED_TOKEN, t.start, t.end))
 }
 
 // Whether a name may begin with a token of this kind.
@@ -89,12 +97,12 @@ fn is_first(kind: u8) -> bool
 
 // The kind of the record of a first part.
 fn first_kind(kind: u8) -> usize
-    ensures { λ r. ⌜ r ≡ cond (eqb kind 4) nameKind addressKind ⌝ }
+    ensures { λ r. ⌜ r ≡ cond (eqb kind Identifier) RecName RecAddress ⌝ }
 {
     if kind == IDENTIFIER {
-        return 1;
+        return REC_NAME;
     }
-    2
+    REC_ADDRESS
 }
 
 // Writes a record of two parts.
@@ -105,7 +113,7 @@ fn put_pair(out: &mut [u8], pos: usize, kind: usize, a: Token, b: Token)
     let first = first_kind(a.kind);
     records::put_header(out, pos, 24, kind, a.start, b.end);
     records::put_header(out, pos + 8, 8, first, a.start, a.end);
-    records::put_header(out, pos + 16, 8, 1, b.start, b.end);
+    records::put_header(out, pos + 16, 8, REC_NAME, b.start, b.end);
 }
 
 // Writes a record of three parts.
@@ -113,9 +121,9 @@ fn put_three(out: &mut [u8], pos: usize, a: Token, b: Token, c: Token)
     requires { ⌜ pos ≤ 2 ^ 63 ⌝ }
     ensures { λ _. ⌜ now (out .exit) ≡ sets (now (out .entry)) pos (stored (threeOf [] a b c)) ⌝ }
 {
-    records::put_header(out, pos, 40, 5, a.start, c.end);
-    put_pair(out, pos + 8, 6, a, b);
-    records::put_header(out, pos + 32, 8, 1, c.start, c.end);
+    records::put_header(out, pos, 40, REC_THREE_PART, a.start, c.end);
+    put_pair(out, pos + 8, REC_PAIR, a, b);
+    records::put_header(out, pos + 32, 8, REC_NAME, c.start, c.end);
 }
 
 // The refusal of n where `::` was due behind the address a.
@@ -123,7 +131,7 @@ fn colons_due(n: Token, a: Token) -> Parsed
     ensures { λ r. ⌜ r ≡ colonsDue n a ⌝ }
 {
     Parsed::Refused(Refusal {
-        number: 10,
+        number: UNEXPECTED_TOKEN,
         place: Place {
             start: n.start,
             end: n.end,
@@ -137,7 +145,7 @@ fn colons_due(n: Token, a: Token) -> Parsed
 
 // Behind the second `::`: the third part of a name whose parts are a and b.
 fn last_part(text: &[u8], a: Token, b: Token, at: usize, out: &mut [u8], pos: usize) -> Parsed
-    requires { ⌜ length (now text) ≤ 65535 ⌝ }
+    requires { ⌜ length (now text) ≤ textLimit ⌝ }
     requires { ⌜ at ≤ length (now text) ⌝ }
     requires { ⌜ pos ≤ 2 ^ 63 ⌝ }
     ensures answer { λ r. ⌜ r ≡ given stored (lastPart (a .start) (firstOf (now (text .entry)) a) (nameOf (now (text .entry)) b) (b .end) at (drop at (now (text .entry)))) ⌝ }
@@ -168,7 +176,7 @@ fn last_part(text: &[u8], a: Token, b: Token, at: usize, out: &mut [u8], pos: us
 
 // Behind the second part b: a third, or the end of the name that a begins.
 fn third_part(text: &[u8], a: Token, b: Token, out: &mut [u8], pos: usize) -> Parsed
-    requires { ⌜ length (now text) ≤ 65535 ⌝ }
+    requires { ⌜ length (now text) ≤ textLimit ⌝ }
     requires { ⌜ b .end ≤ length (now text) ⌝ }
     requires { ⌜ pos ≤ 2 ^ 63 ⌝ }
     ensures answer { λ r. ⌜ r ≡ given stored (thirdPart (a .start) (firstOf (now (text .entry)) a) (nameOf (now (text .entry)) b) (b .end) (drop (b .end) (now (text .entry)))) ⌝ }
@@ -181,7 +189,7 @@ fn third_part(text: &[u8], a: Token, b: Token, out: &mut [u8], pos: usize) -> Pa
             if n.kind == COLON_COLON {
                 return last_part(text, a, b, n.end, out, pos);
             }
-            put_pair(out, pos, 4, a, b);
+            put_pair(out, pos, REC_TWO_PART, a, b);
             Parsed::Read(Part {
                 len: 24,
                 end: b.end,
@@ -193,7 +201,7 @@ fn third_part(text: &[u8], a: Token, b: Token, out: &mut [u8], pos: usize) -> Pa
 
 // Behind the first `::`: the second part of a name that a begins.
 fn second_part(text: &[u8], a: Token, at: usize, out: &mut [u8], pos: usize) -> Parsed
-    requires { ⌜ length (now text) ≤ 65535 ⌝ }
+    requires { ⌜ length (now text) ≤ textLimit ⌝ }
     requires { ⌜ at ≤ length (now text) ⌝ }
     requires { ⌜ pos ≤ 2 ^ 63 ⌝ }
     ensures answer { λ r. ⌜ r ≡ given stored (secondPart (a .start) (firstOf (now (text .entry)) a) at (drop at (now (text .entry)))) ⌝ }
@@ -213,7 +221,7 @@ fn second_part(text: &[u8], a: Token, at: usize, out: &mut [u8], pos: usize) -> 
 
 // The name whose first part is a.
 fn chain_from(text: &[u8], a: Token, out: &mut [u8], pos: usize) -> Parsed
-    requires { ⌜ Standing (now text) a ⌝ }
+    requires { ⌜ Inside (now text) (a .end) ⌝ }
     requires { ⌜ isFirst (a .kind) ≡ true ⌝ }
     requires { ⌜ pos ≤ 2 ^ 63 ⌝ }
     ensures answer { λ r. ⌜ r ≡ given stored (chain (scanned (now (text .entry)) a)) ⌝ }
@@ -227,7 +235,7 @@ fn chain_from(text: &[u8], a: Token, out: &mut [u8], pos: usize) -> Parsed
                 return second_part(text, a, n.end, out, pos);
             }
             if a.kind == IDENTIFIER {
-                records::put_header(out, pos, 8, 3, a.start, a.end);
+                records::put_header(out, pos, 8, REC_ONE_PART, a.start, a.end);
                 return Parsed::Read(Part {
                     len: 8,
                     end: a.end,
@@ -241,7 +249,7 @@ fn chain_from(text: &[u8], a: Token, out: &mut [u8], pos: usize) -> Parsed
 
 // The name whose first token is a.
 fn chain_at(text: &[u8], a: Token, out: &mut [u8], pos: usize) -> Parsed
-    requires { ⌜ Standing (now text) a ⌝ }
+    requires { ⌜ Inside (now text) (a .end) ⌝ }
     requires { ⌜ pos ≤ 2 ^ 63 ⌝ }
     ensures answer { λ r. ⌜ r ≡ given stored (chain (scanned (now (text .entry)) a)) ⌝ }
     ensures bytes { λ r. ⌜ kept r (now (out .exit)) ≡ kept r (put stored pos (chain (scanned (now (text .entry)) a)) (now (out .entry))) ⌝ }
@@ -250,19 +258,6 @@ fn chain_at(text: &[u8], a: Token, out: &mut [u8], pos: usize) -> Parsed
         return chain_from(text, a, out, pos);
     }
     unexpected(a)
-}
-
-// Whether t can be a token of the text.
-pub fn stands(text: &[u8], t: Token) -> bool
-    ensures { λ r. ⌜ r ≡ Rattle.names.specs.Parsed.stands (now (text .entry)) t ⌝ }
-{
-    if TEXT_LIMIT < text.len() {
-        return false;
-    }
-    if t.end < t.start {
-        return false;
-    }
-    t.end <= text.len()
 }
 
 // pos, or n where pos is past it. A write past a buffer's end is the same as a write at its end.
@@ -275,16 +270,20 @@ pub fn clip(pos: usize, n: usize) -> usize
     n
 }
 
-// The name whose first token is a, its records written at pos.
+// The name whose first token is a, its records written at pos. The token is taken as the caller has it, and
+// reading goes on at its end.
 pub fn parse_chain_at(text: &[u8], a: Token, out: &mut [u8], pos: usize) -> Parsed
     ensures answer { λ r. ⌜ r ≡ given stored (onToken (now (text .entry)) a (chain (scanned (now (text .entry)) a))) ⌝ }
     ensures bytes { λ r. ⌜ kept r (now (out .exit)) ≡ kept r (put stored pos (onToken (now (text .entry)) a (chain (scanned (now (text .entry)) a))) (now (out .entry))) ⌝ }
 {
-    if stands(text, a) {
-        let p = clip(pos, out.len());
-        return chain_at(text, a, out, p);
+    if TEXT_LIMIT < text.len() {
+        return Parsed::Refused(tokens::refuse(TEXT_TOO_LONG, 0, 0));
     }
-    Parsed::Refused(tokens::refuse(2, 0, 0))
+    if text.len() < a.end {
+        return Parsed::Refused(tokens::refuse(START_PAST_END, 0, 0));
+    }
+    let p = clip(pos, out.len());
+    chain_at(text, a, out, p)
 }
 
 // The name from `at` on.
@@ -303,22 +302,22 @@ pub fn parse_name_access_chain(text: &[u8], at: usize, out: &mut [u8]) -> Parsed
 fn no_value(t: Token) -> Parsed
     ensures { λ r. ⌜ r ≡ noValue t ⌝ }
 {
-    Parsed::Refused(tokens::refuse(13, t.start, t.end))
+    Parsed::Refused(tokens::refuse(NO_VALUE, t.start, t.end))
 }
 
 // The kind of the record of a string whose first byte is b.
 fn string_kind(b: u8) -> usize
-    ensures { λ r. ⌜ r ≡ cond (eqb b 120) hexStringKind byteStringKind ⌝ }
+    ensures { λ r. ⌜ r ≡ cond (eqb b 120) RecHexString RecByteString ⌝ }
 {
-    if b == 120 {
-        return 34;
+    if b == b'x' {
+        return REC_HEX_STRING;
     }
-    35
+    REC_BYTE_STRING
 }
 
 // Whether a token of this kind is a number.
 fn is_number(kind: u8) -> bool
-    ensures { λ r. ⌜ r ≡ (eqb kind 1 || eqb kind 2) ⌝ }
+    ensures { λ r. ⌜ r ≡ (eqb kind NumValue || eqb kind NumTypedValue) ⌝ }
 {
     if kind == NUM_VALUE {
         return true;
@@ -331,13 +330,13 @@ fn leaf_kind(kind: u8, b: u8) -> usize
     ensures { λ r. ⌜ r ≡ leafKind kind b ⌝ }
 {
     if kind == TRUE {
-        return 32;
+        return REC_TRUE;
     }
     if kind == FALSE {
-        return 33;
+        return REC_FALSE;
     }
     if is_number(kind) {
-        return 31;
+        return REC_NUMBER;
     }
     if kind == BYTE_STRING_VALUE {
         return string_kind(b);
@@ -347,7 +346,7 @@ fn leaf_kind(kind: u8, b: u8) -> usize
 
 // Whether a is a number and b is `::`.
 fn before_colons(a: u8, b: u8) -> bool
-    ensures { λ r. ⌜ r ≡ (eqb a 1 && eqb b 23) ⌝ }
+    ensures { λ r. ⌜ r ≡ (eqb a NumValue && eqb b ColonColon) ⌝ }
 {
     if a == NUM_VALUE {
         return b == COLON_COLON;
@@ -391,7 +390,7 @@ fn address_of(text: &[u8], a: Token, b: Token, out: &mut [u8], pos: usize) -> Pa
         Lexed::Refused(r) => Parsed::Refused(r),
         Lexed::Found(n) => {
             let first = first_kind(b.kind);
-            records::put_header(out, pos, 16, 30, a.start, b.end);
+            records::put_header(out, pos, 16, REC_ADDRESS_VALUE, a.start, b.end);
             records::put_header(out, pos + 8, 8, first, b.start, b.end);
             Parsed::Read(Part {
                 len: 16,
@@ -487,7 +486,7 @@ pub fn before_item(close: u8, t: Token) -> Turn
         return Turn::Closes(close_end(close, t));
     }
     if t.kind == COMMA {
-        return Turn::Refused(tokens::refuse(11, t.start, t.start));
+        return Turn::Refused(tokens::refuse(COMMA_FOR_ITEM, t.start, t.start));
     }
     Turn::Goes
 }
@@ -503,7 +502,7 @@ pub fn item_step(close: u8, o: usize, p: Part) -> Step
         return Step::Item(p.len, p.next.end);
     }
     Step::Refused(Refusal {
-        number: 12,
+        number: LIST_NOT_CLOSED,
         place: Place {
             start: p.next.start,
             end: p.next.start,

@@ -1,6 +1,4 @@
--- Two ways to speak of an answer: `Sure P`, what holds of what was read where something was; and `Gives f b z`, something was read, of
--- the build b, and z stands behind it. A law of each for each way in which readers are put together.
--- Assumes nothing.
+-- `Gives f b z`: something was read, of the build b, and z stands behind it. A law for each way in which readers are put together.
 use mathlib.Core.Path.{_≡_, refl, sym}
 use mathlib.Core.Bool.{Bool, true, false}
 use mathlib.Core.List.{List}
@@ -11,43 +9,11 @@ use Rattle.tokens.specs.declared.Refusal.{Refusal}
 use Rattle.names.specs.Reading.{Ans, ok, no, then, look, when, Close, closes, stays, closed}
 
 module _ {A : Type 0} where
-  abbrev pub Sure : (A → Type 0) → Ans A → Type 0
-  Sure P (ok x q u) = P x
-  Sure P (no r) = Unit {0}
-
   pub data Gives {B : Type 0} (f : A → B) (b : B) (z : List ℕ) : Ans A → Type 0 where
     gives : (x : A) (q : ℕ) → f x ≡ b → Gives f b z (ok x q z)
 
   pub given-is : {B : Type 0} {f : A → B} {b : B} {z : List ℕ} {a : Ans A} → Gives f b z a → (x : A) × (q : ℕ) × (a ≡ ok x q z) × (f x ≡ b)
   given-is (gives x q e) = (x, q, refl, e)
-
-pub sure-map : {A : Type 0} (P Q : A → Type 0) (a : Ans A) → ((x : A) → P x → Q x) → Sure P a → Sure Q a
-sure-map P Q (ok x q u) f s = f x s
-sure-map P Q (no r) f s = tt
-
-pub sure-then : {A B : Type 0} (P : A → Type 0) (Q : B → Type 0) (a : Ans A) (f : A → ℕ → List ℕ → Ans B)
-    → Sure P a → ((x : A) (q : ℕ) (u : List ℕ) → P x → Sure Q (f x q u)) → Sure Q (then a f)
-unfolding then
-sure-then P Q (ok x q u) f s h = h x q u s
-sure-then P Q (no r) f s h = tt
-
-module _ {B : Type 0} (Q : B → Type 0) where
-  pub sure-look : (l : Scanned) (f : ℕ → ℕ → ℕ → List ℕ → List ℕ → Ans B)
-      → ((k s e : ℕ) (w r : List ℕ) → l ≡ tok k s e w r → Sure Q (f k s e w r)) → Sure Q (look l f)
-  unfolding look
-  sure-look (tok k s e w r) f h = h k s e w r refl
-  sure-look (bad r) f h = tt
-
-  pub sure-when : (b : Bool) (f g : Unit {0} → Ans B) → (b ≡ true → Sure Q (f tt)) → (b ≡ false → Sure Q (g tt)) → Sure Q (when b f g)
-  unfolding when
-  sure-when true f g h i = h refl
-  sure-when false f g h i = i refl
-
-  pub sure-closed : (c : Close) (f : ℕ → List ℕ → Ans B) (g : Unit {0} → Ans B)
-      → ((q : ℕ) (u : List ℕ) → Sure Q (f q u)) → (c ≡ stays → Sure Q (g tt)) → Sure Q (closed c f g)
-  unfolding closed
-  sure-closed (closes q u) f g h i = h q u
-  sure-closed stays f g h i = i refl
 
 module _ {A A₂ B C : Type 0} {g : A₂ → C} {c : C} {y : List ℕ} {h : A → B} {b : B} {z : List ℕ} where
   pub gives-then : {a : Ans A} (f : A → ℕ → List ℕ → Ans A₂)

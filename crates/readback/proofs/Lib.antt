@@ -6,5 +6,5 @@ pub mod Names
 pub mod Types
 pub mod Binds
 pub mod Round
-pub mod Numbers
 pub mod Theorem
+pub mod Examples

@@ -1,5 +1,4 @@
 -- A comma list reads back where each of its items does.
--- Assumes nothing.
 use mathlib.Core.Path.{_≡_, refl, subst, sym, ap, _∙_}
 use mathlib.Core.Bool.{Bool, false}
 use mathlib.Core.List.{List, _∷_, _++_, append-assoc}
@@ -11,12 +10,14 @@ use lib.ListN.{length, length-append}
 use Rattle.classes.proofs.Bools.{and-false}
 use Rattle.tokens.specs.Token.{Scanned, tok, bad, lex}
 use Rattle.records.specs.Tree.{Tree, Trees, none, more, Build, Builds, bnone, bmore, build, builds}
-use Rattle.names.specs.Reading.{Ans, when, closes, stays, closing, commaTok, greaterTok, shiftTok, afterItem, list, listBehind}
+use Rattle.words.specs.Kinds.{Comma, Greater, GreaterGreater}
+use Rattle.names.specs.Reading.{Ans, when, closes, stays, closing, afterItem, list, listBehind}
 use Rattle.binds.specs.Binds.{isStruct}
 use Rattle.lines.specs.Line.{plain, argument, arguments, others, commas, line, pieces}
 use Rattle.lines.proofs.Parting.{All, piece}
 use Rattle.readback.proofs.Words.{differs, Good, lex-good}
-use Rattle.readback.proofs.Answers.{Sure, Gives, gives, sure-then, sure-look, sure-when, sure-closed, gives-then, gives-look, gives-look-by, gives-true, gives-false, gives-closes, gives-stays}
+use Rattle.names.proofs.Every.{Every, then-every, look-every, when-every, closed-every}
+use Rattle.readback.proofs.Answers.{Gives, gives, gives-then, gives-look, gives-look-by, gives-true, gives-false, gives-closes, gives-stays}
 use Rattle.readback.proofs.Marks.{First, Ends, ends-comma, lex-blank, lex-comma}
 
 -- the lines of builds with commas between them, in front of y; `sel` gives the line of one
@@ -74,13 +75,13 @@ count (bmore b bs) = suc (count bs)
 -- what begins an item neither closes its list nor is a comma, and a comma does not close the list
 pub record Apart (close : ℕ) (F : ℕ → Bool) : Type 0 where
   pub noClose : F close ≡ false
-  pub noShift : F shiftTok ≡ false
-  pub noComma : F commaTok ≡ false
-  pub commaOpen : eqb commaTok close ≡ false
+  pub noShift : F GreaterGreater ≡ false
+  pub noComma : F Comma ≡ false
+  pub commaOpen : eqb Comma close ≡ false
 
-stays-open : (close k s e : ℕ) (r : List ℕ) → eqb k close ≡ false → eqb k shiftTok ≡ false → closing close k s e r ≡ stays
+stays-open : (close k s e : ℕ) (r : List ℕ) → eqb k close ≡ false → eqb k GreaterGreater ≡ false → closing close k s e r ≡ stays
 unfolding closing when
-stays-open close k s e r h i = rw (h, i, and-false (eqb close greaterTok))
+stays-open close k s e r h i = rw (h, i, and-false (eqb close Greater))
 
 module _ (sel : Build → List ℕ) where
   rest-grows : (y : List ℕ) (bs : Builds) → count bs + length y ≤ length (rest sel bs y)
@@ -112,7 +113,7 @@ module _ (item : Scanned → Ans Tree) (F : ℕ → Bool) (sel : Build → List 
         gives-closes _ _ (x .1) (gives (more t none) (x .0) refl)
     after-back t (bmore b bs) ih zero h q = absurd (not-suc-le-zero h)
     after-back t (bmore b bs) ih (suc f) h q =
-        gives-look _ (lex-comma q _) (gives-stays _ _ (stays-open close commaTok _ _ _ (apart .commaOpen) refl) (gives-true _ _ _ refl
+        gives-look _ (lex-comma q _) (gives-stays _ _ (stays-open close Comma _ _ _ (apart .commaOpen) refl) (gives-true _ _ _ refl
         (gives-then _ (rw (lex-blank (q + 1) (join sel (bmore b bs) y)) (ih f (le-of-suc-le-suc h) (suc (q + 1)))) λ ts q₃ e₃. gives (more t ts) q₃ (ap (bmore (build t)) e₃))))
 
     list-back : (bs : Builds) → All ItemBack bs → Back bs
@@ -122,7 +123,7 @@ module _ (item : Scanned → Ans Tree) (F : ℕ → Bool) (sel : Build → List 
         gives-closes _ _ (x .1) (gives none (x .0) refl)
     list-back (bmore b bs) a f h p =
         gives-look-by (First F) _ _ (a .0 .first p _ (rest-ends bs)) (λ r x. x) λ k s e w r x.
-        gives-stays _ _ (stays-open close k s e r (differs F close k (apart .noClose) x) (differs F shiftTok k (apart .noShift) x)) (gives-false _ _ _ (differs F commaTok k (apart .noComma) x)
+        gives-stays _ _ (stays-open close k s e r (differs F close k (apart .noClose) x) (differs F GreaterGreater k (apart .noShift) x)) (gives-false _ _ _ (differs F Comma k (apart .noComma) x)
         (gives-then _ (a .0 .back p _ (rest-ends bs)) λ t q e. rw (← e) (after-back t bs (list-back bs (a .1)) f h q)))
 
     -- the list behind its opening mark
@@ -145,19 +146,19 @@ Stays close (tok k s e w r) = closing close k s e r ≡ stays
 Stays close (bad r) = Unit {0}
 
 module _ (item : Scanned → Ans Tree) (close o : ℕ) (P : Build → Type 0)
-    (one : (l : Scanned) → Good l → Stays close l → Sure (λ (t : Tree). P (build t)) (item l)) where
-  list-sure : (f : ℕ) (l : Scanned) → Good l → Sure (λ (ts : Trees). All P (builds ts)) (list item close o f l)
+    (one : (l : Scanned) → Good l → Stays close l → Every (λ (t : Tree). P (build t)) (item l)) where
+  list-sure : (f : ℕ) (l : Scanned) → Good l → Every (λ (ts : Trees). All P (builds ts)) (list item close o f l)
   unfolding list afterItem builds
   list-sure zero l g = tt
   list-sure (suc f) l g =
-      sure-look _ l _ λ k s e w r d.
-      sure-closed _ _ _ _ (λ q u. tt) λ x.
-      sure-when _ _ _ _ (λ c. tt) λ c.
-      sure-then (λ (t : Tree). P (build t)) _ _ _ (one l g (subst (Stays close) (sym d) x)) λ t q u h.
-      sure-look _ _ _ λ k₂ s₂ e₂ w₂ r₂ d₂.
-      sure-closed _ _ _ _ (λ q₂ u₂. (h, tt)) λ x₂.
-      sure-when _ _ _ _ (λ c₂. sure-then (λ (ts : Trees). All P (builds ts)) _ _ _ (list-sure f (lex e₂ r₂) (lex-good e₂ r₂)) λ ts q₃ u₃ i. (h, i)) λ c₂. tt
+      look-every _ l _ λ k s e w r d.
+      closed-every _ _ _ _ (λ q u. tt) λ x.
+      when-every _ _ _ _ (λ c. tt) λ c.
+      then-every (λ (t : Tree). P (build t)) _ _ _ (one l g (subst (Stays close) (sym d) x)) λ t q u h.
+      look-every _ _ _ λ k₂ s₂ e₂ w₂ r₂ d₂.
+      closed-every _ _ _ _ (λ q₂ u₂. (h, tt)) λ x₂.
+      when-every _ _ _ _ (λ c₂. then-every (λ (ts : Trees). All P (builds ts)) _ _ _ (list-sure f (lex e₂ r₂) (lex-good e₂ r₂)) λ ts q₃ u₃ i. (h, i)) λ c₂. tt
 
-  pub behind-sure : (e : ℕ) (r : List ℕ) → Sure (λ (ts : Trees). All P (builds ts)) (listBehind item close o e r)
+  pub behind-sure : (e : ℕ) (r : List ℕ) → Every (λ (ts : Trees). All P (builds ts)) (listBehind item close o e r)
   unfolding listBehind
   behind-sure e r = list-sure (suc (length r)) (lex e r) (lex-good e r)

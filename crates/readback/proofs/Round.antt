@@ -1,13 +1,12 @@
 -- What is read as an item of a kind is read again from its line; and what the answers of the calls say of it.
--- Assumes nothing.
 use mathlib.Core.Path.{_≡_, refl, subst, sym, ap, _∙_}
-use mathlib.Core.Bool.{Bool, true, false, _||_}
+use mathlib.Core.Bool.{Bool, true, false}
 use mathlib.Core.List.{List, [], _++_, append-nil}
 use Prim.Native.Nat.{ℕ, _+_, _-_, _≤_}
 use native.Mathlib.Nat.{add-zero}
 use native.Mathlib.Omega.{arith}
 use borrow.Author.Tests.{le-ltb}
-use lib.Dec.{eqb, ltb}
+use lib.Dec.{ltb}
 use lib.ListN.{length, drop, length-drop}
 use lib.Seq.{take-append-seam}
 use Rattle.tokens.specs.Answers.{token}
@@ -18,21 +17,23 @@ use Rattle.tokens.specs.declared.Token.{Token}
 use Rattle.records.specs.Tree.{Tree, Build, build}
 use Rattle.records.specs.Stored.{stored, size}
 use Rattle.records.proofs.Sizes.{stored-size}
-use Rattle.names.specs.Reading.{Ans, ok, no, when, eofTok}
+use Rattle.words.specs.Kinds.{EOF}
+use Rattle.names.specs.Reading.{Ans, ok, no, when}
 use Rattle.names.specs.Names.{chain}
 use Rattle.names.specs.Values.{value}
 use Rattle.names.proofs.Sure.{Sure as Placed, Read}
 use Rattle.types.specs.Types.{levels, readType}
 use Rattle.binds.specs.Binds.{isStruct, readBindList, readLambdaList}
-use Rattle.reader.specs.Items.{Item, item, refused, readKind, followed, finished, readItem}
-use Rattle.reader.specs.Calls.{answerLimit, roomed, written, read, readValues}
+use Rattle.reader.specs.Items.{Item, item, refused, noKind, readKind, followed, finished, readItem}
+use Rattle.reader.specs.Calls.{answerLimit, tooLong, answered, roomed, written, read, readValues}
 use Rattle.reader.proofs.Room.{roomed-fits}
 use Rattle.reader.proofs.Sure.{kind-sure}
 use Rattle.lines.specs.Line.{line, shown}
-use Rattle.display.specs.Calls.{display, displayBuffer, displayValues}
+use Rattle.display.specs.Calls.{displayed, display, displayBuffer, displayValues}
 use Rattle.readback.specs.Demand.{Lent, readOf, displayOf, NotRefused, Accepted, treeLength, lineLength, lineOf, lineBack, eofAt}
 use Rattle.readback.proofs.Words.{Good, lex-good}
-use Rattle.readback.proofs.Answers.{Sure, Gives, given-is, sure-map, sure-when, gives-true, gives-false}
+use Rattle.names.proofs.Every.{Every, map-every, when-every}
+use Rattle.readback.proofs.Answers.{Gives, given-is, gives-true, gives-false}
 use Rattle.readback.proofs.Marks.{lexer, ends-nil}
 use Rattle.readback.proofs.Names.{colons, Chain, chain-sure, ValueBack, value-sure}
 use Rattle.readback.proofs.Types.{Typed, type-sure}
@@ -46,20 +47,20 @@ alone : (one : Scanned → Ans Tree) (b : Build) → Gives build b [] (one (lex 
 alone one b h = rw append-nil at h
 
 -- whatever is read as an item of a kind
-kind-alone : (kind : ℕ) (l : Scanned) → Good l → Sure (λ (t : Tree). Alone (readKind kind) (build t)) (readKind kind l)
+kind-alone : (kind : ℕ) (l : Scanned) → Good l → Every (λ (t : Tree). Alone (readKind kind) (build t)) (readKind kind l)
 unfolding readKind
 kind-alone kind l g =
-    sure-when _ _ _ _
-    (λ c. sure-map (λ (t : Tree). Chain (build t)) _ (chain l) (λ t h. gives-true _ _ _ c (alone chain (build t) (h .back 0 [] (ends-nil colons refl)))) (chain-sure l g)) λ c₁.
-    sure-when _ _ _ _
-    (λ c. sure-map (λ (t : Tree). ValueBack (build t)) _ (value l) (λ t h. gives-false _ _ _ c₁ (gives-true _ _ _ c (alone value (build t) (h 0 [] (ends-nil colons refl))))) (value-sure l g)) λ c₂.
-    sure-when _ _ _ _
-    (λ c. sure-map (λ (t : Tree). Typed levels (build t)) _ (readType levels l)
+    when-every _ _ _ _
+    (λ c. map-every (λ (t : Tree). Chain (build t)) _ (chain l) (λ t h. gives-true _ _ _ c (alone chain (build t) (h .back 0 [] (ends-nil colons refl)))) (chain-sure l g)) λ c₁.
+    when-every _ _ _ _
+    (λ c. map-every (λ (t : Tree). ValueBack (build t)) _ (value l) (λ t h. gives-false _ _ _ c₁ (gives-true _ _ _ c (alone value (build t) (h 0 [] (ends-nil colons refl))))) (value-sure l g)) λ c₂.
+    when-every _ _ _ _
+    (λ c. map-every (λ (t : Tree). Typed levels (build t)) _ (readType levels l)
     (λ t h. gives-false _ _ _ c₁ (gives-false _ _ _ c₂ (gives-true _ _ _ c (alone (readType levels) (build t) (h .plainly levels (omega arith) .back 0 [] (ends-nil isStruct refl)))))) (type-sure levels l g)) λ c₃.
-    sure-when _ _ _ _
-    (λ c. sure-map (λ (t : Tree). ListBack (build t)) _ (readBindList l)
+    when-every _ _ _ _
+    (λ c. map-every (λ (t : Tree). ListBack (build t)) _ (readBindList l)
     (λ t h. gives-false _ _ _ c₁ (gives-false _ _ _ c₂ (gives-false _ _ _ c₃ (gives-true _ _ _ c (alone readBindList (build t) (h 0 [])))))) (list-sure l g)) λ c₄.
-    sure-map (λ (t : Tree). LambdaBack (build t)) _ (readLambdaList l)
+    map-every (λ (t : Tree). LambdaBack (build t)) _ (readLambdaList l)
     (λ t h. gives-false _ _ _ c₁ (gives-false _ _ _ c₂ (gives-false _ _ _ c₃ (gives-false _ _ _ c₄ (alone readLambdaList (build t) (h 0 [] tt)))))) (lambda-sure l)
 
 -- what an item says of its kind and of what was read
@@ -73,17 +74,17 @@ unfolding followed
 followed-tree t₀ (tok k s e w r) t n h = cc
 followed-tree t₀ (bad r) t n h = let z : _≡_ {A = ℕ} 0 1 = cc in absurd (omega arith)
 
-finished-tree : (P : Tree → Type 0) (a : Ans Tree) (t : Tree) (n : Token) → Sure P a → finished a ≡ item t n → P t
+finished-tree : (P : Tree → Type 0) (a : Ans Tree) (t : Tree) (n : Token) → Every P a → finished a ≡ item t n → P t
 unfolding finished
 finished-tree P (ok x q u) t n s h = subst P (followed-tree x (lex q u) t n h) s
 finished-tree P (no r) t n s h = let z : _≡_ {A = ℕ} 0 1 = cc in absurd (omega arith)
 
-item-alone : (kind : ℕ) (text : List ℕ) (at : ℕ) (t : Tree) (n : Token) → readItem kind text at ≡ item t n → (eqb kind 0 || ltb 5 kind ≡ false) × Alone (readKind kind) (build t)
+item-alone : (kind : ℕ) (text : List ℕ) (at : ℕ) (t : Tree) (n : Token) → readItem kind text at ≡ item t n → (noKind kind ≡ false) × Alone (readKind kind) (build t)
 unfolding readItem
 item-alone kind text at t n e =
     let a = chosen (ltb textLimit (length text)) _ _ t n e in
     let b = chosen (ltb (length text) at) _ _ t n (a .1) in
-    let c = chosen (eqb kind 0 || ltb 5 kind) _ _ t n (b .1) in
+    let c = chosen (noKind kind) _ _ t n (b .1) in
     (c .0, finished-tree (λ (t : Tree). Alone (readKind kind) (build t)) (readKind kind (lex at (drop at text))) t n (kind-alone kind (lex at (drop at text)) (lex-good at (drop at text))) (c .1))
 
 -- what is read to the last byte of a text ends at its length, and EOF follows
@@ -95,9 +96,9 @@ ended kind text x q h =
 
 at-end : (x : Tree) (q : ℕ) → finished (ok x q []) ≡ item x (eofAt q)
 unfolding finished followed lexer
-at-end x q = ap (λ (e : ℕ). item x (token eofTok q e)) (add-zero q)
+at-end x q = ap (λ (e : ℕ). item x (token EOF q e)) (add-zero q)
 
-whole : (kind : ℕ) (text : List ℕ) (x : Tree) → length text ≤ textLimit → eqb kind 0 || ltb 5 kind ≡ false → readKind kind (lex 0 text) ≡ ok x (length text) []
+whole : (kind : ℕ) (text : List ℕ) (x : Tree) → length text ≤ textLimit → noKind kind ≡ false → readKind kind (lex 0 text) ≡ ok x (length text) []
     → readItem kind text 0 ≡ item x (eofAt (length text))
 unfolding readItem when
 whole kind text x h k e = rw (le-ltb textLimit (length text) h, le-ltb (length text) 0 (omega arith), k, e) (at-end x (length text))
@@ -120,7 +121,7 @@ again kind text at t n e h =
 module _ (one : Tree → List ℕ) (room : ℕ) (t : Tree) (n : Token) where
   not-refused : NotRefused (roomed one room (item t n)) → roomed one room (item t n) ≡ item t n
   unfolding roomed when
-  not-refused = go (ltb room (length (one t)) || ltb answerLimit (length (one t)))
+  not-refused = go (tooLong room (length (one t)))
     where
       go : (b : Bool) → NotRefused (when b (λ _. refused (record { number = 4; place = record { start = 0; end = 0 }; second = record { start = 0; end = 0 } })) λ _. item t n)
           → when b (λ _. refused (record { number = 4; place = record { start = 0; end = 0 }; second = record { start = 0; end = 0 } })) (λ _. item t n) ≡ item t n
@@ -134,11 +135,11 @@ module _ (one : Tree → List ℕ) (room : ℕ) (t : Tree) (n : Token) where
 -- what the answers of an accepted item say
 module _ (i : Lent) (t : Tree) (n : Token) where
   pub tree-length : readOf i ≡ item t n → treeLength i ≡ length (stored t)
-  unfolding readValues
+  unfolding answered readValues
   tree-length e = rw e
 
   pub line-length : displayOf i ≡ item t n → lineLength i ≡ length (shown t)
-  unfolding displayValues
+  unfolding displayed displayValues
   line-length e = rw e
 
   pub line-written : displayOf i ≡ item t n → displayBuffer (i .kind) (i .text) (i .at) (i .forLine) ≡ shown t ++ drop (length (shown t)) (i .forLine)

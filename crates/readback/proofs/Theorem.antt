@@ -1,22 +1,25 @@
--- Demand 3 of document 01, about the definitions that the contracts of the read and the display call cite. Its words are in specs/Demand.
--- Assumes nothing.
+-- Demand 3, about the definitions that the contracts of the read and the display call cite. Its words are in specs/Demand.
 use mathlib.Core.Path.{_≡_, refl, subst, sym, ap, _∙_}
+use mathlib.Core.Bool.{true}
 use mathlib.Core.Logic.{_↔_}
 use mathlib.Core.List.{List, _++_}
 use Prim.Native.Nat.{ℕ, _≤_}
-use native.Mathlib.Omega.{arith}
 use lib.ListN.{length, drop}
+use Rattle.classes.proofs.Bools.{false-true}
+use Rattle.tokens.specs.Refusals.{among}
+use Rattle.tokens.specs.declared.Refusal.{Refusal}
 use Rattle.tokens.specs.declared.Token.{Token}
 use Rattle.records.specs.Tree.{Tree, build}
 use Rattle.records.specs.Stored.{stored}
 use Rattle.reader.specs.Items.{Item, item, refused, readItem}
-use Rattle.reader.specs.Calls.{read, readBuffer, written, readNumber, readValues}
+use Rattle.reader.specs.Calls.{itemRefusals, answered, read, readBuffer, written, readNumber, readValues}
 use Rattle.reader.proofs.Room.{roomed-fits}
+use Rattle.reader.proofs.RefusalSets.{read-refusals}
 use Rattle.lines.specs.Line.{shown}
-use Rattle.display.specs.Calls.{display, displayNumber, displayValues}
+use Rattle.display.specs.Calls.{displayed, display, displayNumber, displayValues}
+use Rattle.display.proofs.RefusalSets.{display-refusals}
 use Rattle.readback.specs.Demand.{Lent, readOf, displayOf, NotRefused, Accepted, treeLength, lineLength, lineOf, lineBack, ReadBack, AnsweredBack}
 use Rattle.readback.proofs.Round.{tree-length, line-length, line-written, line-is, known, again, same-shown, same-size, lines-part, lined}
-use Rattle.readback.proofs.Numbers.{ItemNumbered, read-numbered, display-numbered}
 
 -- two accepted items of one kind have the same line exactly when their builds are equal
 pub lines-builds : (i j : Lent) (t u : Tree) (n m : Token) → i .kind ≡ j .kind → Accepted i t n → Accepted j u m → (lineOf i ≡ lineOf j) ↔ (build t ≡ build u)
@@ -66,7 +69,7 @@ own-room i t n a =
 
 -- the reading back in the calls' own numbers, and the bytes that the display writes
 pub answers-back : (i : Lent) (t : Tree) (n : Token) → Accepted i t n → (out lineOut : List ℕ) → treeLength i ≤ length out → lineLength i ≤ length lineOut → AnsweredBack i (lineBack i out lineOut)
-unfolding readNumber readValues displayNumber displayValues
+unfolding answered readNumber readValues displayed displayNumber displayValues
 answers-back i t n a out lineOut g h =
     let d = known i t n a .isShown in
     let b = lined i t n a out lineOut g h in
@@ -75,25 +78,32 @@ answers-back i t n a out lineOut g h =
     let m : shown (b .tree) ≡ lineOf i = same-shown (b .tree) t (b .sameBuild) ∙ sym (line-is i t n d) in
     let v : length (shown (b .tree)) ≡ lineLength i = ap length m ∙ l in
     record {
-      readNumberIs = ap readNumber (b .isRead);
-      readValuesAre = ap readValues (b .isRead) ∙ rw (s, l);
-      displayNumberIs = ap displayNumber (b .isShown);
-      displayValuesAre = ap displayValues (b .isShown) ∙ rw v;
+      readNumberIs = ap (λ (x : Item). readNumber (answered x)) (b .isRead);
+      readValuesAre = ap (λ (x : Item). readValues (answered x)) (b .isRead) ∙ rw (s, l);
+      displayNumberIs = ap (λ (x : Item). displayNumber (displayed x)) (b .isShown);
+      displayValuesAre = ap (λ (x : Item). displayValues (displayed x)) (b .isShown) ∙ rw v;
       displayWrites = line-written (lineBack i out lineOut) (b .tree) _ (b .isShown) ∙ rw (v, m);
     }
 
 -- no refusal has the number 0: an item is accepted where both numbers are 0
-read-item : (x : Item) → ItemNumbered x → readNumber x ≡ 0 → (t : Tree) × (n : Token) × (x ≡ item t n)
-unfolding readNumber
+abbrev Numbered : Item → Type 0
+Numbered x = (r : Refusal) → x ≡ refused r → among itemRefusals (r .number) ≡ true
+
+never-0 : (A : Type 0) (n : ℕ) → n ≡ 0 → among itemRefusals n ≡ true → A
+unfolding among
+never-0 A n e h = false-true A (subst (λ (m : ℕ). among itemRefusals m ≡ true) e h)
+
+read-item : (x : Item) → Numbered x → readNumber (answered x) ≡ 0 → (t : Tree) × (n : Token) × (x ≡ item t n)
+unfolding answered readNumber
 read-item (item t n) h e = (t, n, refl)
-read-item (refused r) h e = absurd (omega arith)
+read-item (refused r) h e = never-0 _ (r .number) e (h r refl)
 
-not-refused : (x : Item) → ItemNumbered x → displayNumber x ≡ 0 → NotRefused x
-unfolding displayNumber
+not-refused : (x : Item) → Numbered x → displayNumber (displayed x) ≡ 0 → NotRefused x
+unfolding displayed displayNumber
 not-refused (item t n) h e = tt
-not-refused (refused r) h e = absurd (omega arith)
+not-refused (refused r) h e = never-0 ⊥ (r .number) e (h r refl)
 
-pub accepted-by-numbers : (i : Lent) → readNumber (readOf i) ≡ 0 → displayNumber (displayOf i) ≡ 0 → (t : Tree) × (n : Token) × Accepted i t n
+pub accepted-by-numbers : (i : Lent) → readNumber (answered (readOf i)) ≡ 0 → displayNumber (displayed (displayOf i)) ≡ 0 → (t : Tree) × (n : Token) × Accepted i t n
 accepted-by-numbers i g h =
-    let r = read-item (readOf i) (read-numbered (i .kind) (i .text) (i .at) (length (i .forTree))) g in
-    (r .0, r .1, record { isRead = r .2; isShown = not-refused (displayOf i) (display-numbered (i .kind) (i .text) (i .at) (length (i .forLine))) h })
+    let r = read-item (readOf i) (read-refusals (i .kind) (i .text) (i .at) (length (i .forTree))) g in
+    (r .0, r .1, record { isRead = r .2; isShown = not-refused (displayOf i) (display-refusals (i .kind) (i .text) (i .at) (length (i .forLine))) h })

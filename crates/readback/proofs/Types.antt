@@ -1,5 +1,4 @@
 -- Types read back: each form of a type does where its parts do, and so does what is read with any number of levels left.
--- Assumes nothing.
 use mathlib.Core.Path.{_≡_, refl, subst, sym, ap, ap₂, _∙_}
 use mathlib.Core.Bool.{Bool, true, false, _&&_, _||_}
 use mathlib.Core.List.{List, [], _∷_, _++_, append-assoc}
@@ -10,58 +9,61 @@ use lib.Dec.{eqb}
 use Rattle.classes.specs.Bytes.{bytes}
 use Rattle.classes.proofs.Bools.{false-true, or-left, or-right}
 use Rattle.tokens.specs.Token.{Scanned, tok, bad, lex}
-use Rattle.records.specs.Tree.{typeKind, refKind, refMutKind, functionKind, unitKind, tupleKind, Tree, leaf, node, Trees, none, more, behind, respan, Build, spelled, made, Builds, bnone, bmore, build, builds}
-use Rattle.names.specs.Reading.{Ans, ok, then, when, closes, stays, closing, listBehind, ampTok, ampMutTok, openTok, closeTok, lessTok, greaterTok, pipeTok, braceTok, colonsTok}
+use Rattle.records.specs.Kinds.{RecType, RecRef, RecRefMut, RecFunction, RecUnit, RecTuple}
+use Rattle.records.specs.Tree.{Tree, leaf, node, Trees, none, more, behind, respan, Build, spelled, made, Builds, bnone, bmore, build, builds}
+use Rattle.words.specs.Kinds.{Amp, AmpMut, LParen, RParen, Less, Greater, Pipe, LBrace, ColonColon}
+use Rattle.names.specs.Reading.{Ans, ok, then, when, closes, stays, closing, listBehind}
 use Rattle.names.specs.Names.{isFirst}
 use Rattle.types.specs.Types.{bracketed, withArguments, named, brackets, reference, function, typeOver, readType}
 use Rattle.binds.specs.Binds.{isStruct}
 use Rattle.lines.specs.Line.{Piece, plain, argument, arguments, commas, bars, angles, brackets as inBrackets, first as firstLine, later, isField, shape, kindOf, line, pieces}
 use Rattle.lines.proofs.Parting.{All, bbehind, builds-behind, initial-behind, final-behind}
 use Rattle.readback.proofs.Words.{Stops, differs, Good, lex-good}
-use Rattle.readback.proofs.Answers.{Sure, Gives, gives, sure-map, sure-then, sure-look, sure-when, gives-then, gives-look, gives-look-by, gives-true, gives-false}
+use Rattle.names.proofs.Every.{Every, map-every, then-every, look-every, when-every}
+use Rattle.readback.proofs.Answers.{Gives, gives, gives-then, gives-look, gives-look-by, gives-true, gives-false}
 use Rattle.readback.proofs.Marks.{lexer, widens, lex-blank, lex-open, lex-amp, lex-ampmut, lex-less, lex-bar, lex-greater, First, no-bar, no-wider, After, Ends, ends-close, ends-less, ends-bar, ends-greater}
 use Rattle.readback.proofs.Lists.{join, argLine, commas-plain, commas-arguments, ClosesTo, Closed, Reads, Apart, list-reads, list-reads-blank, list-first, Stays, behind-sure}
 use Rattle.readback.proofs.Names.{colons, Chain, chain-sure}
 
 -- the tokens that begin a type which is no function type as it stands; and those that begin any type
 abbrev pub beginsArg : ℕ → Bool
-beginsArg k = isFirst k || (eqb k openTok || (eqb k ampTok || eqb k ampMutTok))
+beginsArg k = isFirst k || (eqb k LParen || (eqb k Amp || eqb k AmpMut))
 
 abbrev pub beginsType : ℕ → Bool
-beginsType k = beginsArg k || eqb k pipeTok
+beginsType k = beginsArg k || eqb k Pipe
 
-pub apart-greater : Apart greaterTok beginsType
+pub apart-greater : Apart Greater beginsType
 apart-greater = record { noClose = refl; noShift = refl; noComma = refl; commaOpen = refl }
 
-apart-close : Apart closeTok beginsType
+apart-close : Apart RParen beginsType
 apart-close = record { noClose = refl; noShift = refl; noComma = refl; commaOpen = refl }
 
-apart-bar : Apart pipeTok beginsArg
+apart-bar : Apart Pipe beginsArg
 apart-bar = record { noClose = refl; noShift = refl; noComma = refl; commaOpen = refl }
 
 -- closing marks
-pub closed-greater : (z : List ℕ) → Stops (λ b. eqb b 61) z → Closed greaterTok (62 ∷ z) z
+pub closed-greater : (z : List ℕ) → Stops (λ b. eqb b 61) z → Closed Greater (62 ∷ z) z
 unfolding closing when
 closed-greater z h = record {
   ends = ends-greater isStruct refl refl z h;
-  shuts = λ q. lex-greater (ClosesTo greaterTok z) q z h (q + 1, refl) (λ y e. (suc q, ap (closes (suc q)) (sym e)));
+  shuts = λ q. lex-greater (ClosesTo Greater z) q z h (q + 1, refl) (λ y e. (suc q, ap (closes (suc q)) (sym e)));
   long = omega arith;
 }
 
-pub closed-close : (z : List ℕ) → Closed closeTok (41 ∷ z) z
+pub closed-close : (z : List ℕ) → Closed RParen (41 ∷ z) z
 unfolding closing when lexer
 closed-close z = record { ends = ends-close isStruct refl z; shuts = λ q. (q + 1, refl); long = omega arith }
 
-pub closed-bar : (z : List ℕ) → Stops (λ b. eqb b 124) z → Closed pipeTok (124 ∷ z) z
+pub closed-bar : (z : List ℕ) → Stops (λ b. eqb b 124) z → Closed Pipe (124 ∷ z) z
 unfolding closing when
-closed-bar z h = record { ends = ends-bar isStruct refl refl z; shuts = λ q. subst (ClosesTo pipeTok z) (sym (lex-bar q z h)) (q + 1, refl); long = omega arith }
+closed-bar z h = record { ends = ends-bar isStruct refl refl z; shuts = λ q. subst (ClosesTo Pipe z) (sym (lex-bar q z h)) (q + 1, refl); long = omega arith }
 
 -- an end of a type ends its name too
 to-colons : {z : List ℕ} → Ends isStruct z → Ends colons z
 to-colons {z} d = record { stops = d .stops; noEqual = d .noEqual; after = λ q. go (lex q z) (d .after q) }
   where
     go : (l : Scanned) → After isStruct l → After colons l
-    go (tok k s e w r) x = or-right (eqb k braceTok || eqb k lessTok) (eqb k colonsTok) x
+    go (tok k s e w r) x = or-right (eqb k LBrace || eqb k Less) (eqb k ColonColon) x
     go (bad r) x = x
 
 -- a name begins a type
@@ -78,26 +80,26 @@ angled (bmore b bs) z = 60 ∷ join line (bmore b bs) (62 ∷ z)
 pub round : (xs : List ℕ) (a : ℕ) (z : List ℕ) → (xs ++ (a ∷ [])) ++ z ≡ xs ++ (a ∷ z)
 round xs a z = append-assoc xs (a ∷ []) z
 
-type-line : (c : Build) (bs : Builds) (z : List ℕ) → line (made typeKind (bmore c bs)) ++ z ≡ line c ++ angled bs z
+type-line : (c : Build) (bs : Builds) (z : List ℕ) → line (made RecType (bmore c bs)) ++ z ≡ line c ++ angled bs z
 unfolding line shape firstLine later angles plain
 type-line c bnone z = append-assoc (line c) [] z
 type-line c (bmore b bs) z =
     append-assoc (line c) (60 ∷ (commas (plain (pieces (bmore b bs))) ++ (62 ∷ []))) z
     ∙ ap (λ (x : List ℕ). line c ++ (60 ∷ x)) (round (commas (plain (pieces (bmore b bs)))) 62 z ∙ commas-plain (bmore b bs) (62 ∷ z))
 
-tuple-line : (bs : Builds) (z : List ℕ) → line (made tupleKind bs) ++ z ≡ 40 ∷ join line bs (41 ∷ z)
+tuple-line : (bs : Builds) (z : List ℕ) → line (made RecTuple bs) ++ z ≡ 40 ∷ join line bs (41 ∷ z)
 unfolding line shape inBrackets
 tuple-line bs z = ap (_∷_ 40) (round (commas (plain (pieces bs))) 41 z ∙ commas-plain bs (41 ∷ z))
 
-unit-line : (z : List ℕ) → line (spelled unitKind []) ++ z ≡ 40 ∷ 41 ∷ z
+unit-line : (z : List ℕ) → line (spelled RecUnit []) ++ z ≡ 40 ∷ 41 ∷ z
 unfolding line
 unit-line z = refl
 
-ref-line : (b : Build) (z : List ℕ) → line (made refKind (bmore b bnone)) ++ z ≡ 38 ∷ 32 ∷ (line b ++ z)
+ref-line : (b : Build) (z : List ℕ) → line (made RecRef (bmore b bnone)) ++ z ≡ 38 ∷ 32 ∷ (line b ++ z)
 unfolding line shape firstLine
 ref-line b z = refl
 
-mut-line : (b : Build) (z : List ℕ) → line (made refMutKind (bmore b bnone)) ++ z ≡ bytes "&mut " ++ (line b ++ z)
+mut-line : (b : Build) (z : List ℕ) → line (made RecRefMut (bmore b bnone)) ++ z ≡ bytes "&mut " ++ (line b ++ z)
 unfolding line shape firstLine
 mut-line b z = refl
 
@@ -111,26 +113,26 @@ unfolding bars arguments pieces
 bars-line bnone y = refl
 bars-line (bmore b bs) y = ap (_∷_ 124) (round (commas (arguments (pieces (bmore b bs)))) 124 y ∙ commas-arguments (bmore b bs) (124 ∷ y))
 
-function-line : (bs : Builds) (r : Build) (z : List ℕ) → line (made functionKind (bbehind bs r)) ++ z ≡ barred bs (32 ∷ (line r ++ z))
+function-line : (bs : Builds) (r : Build) (z : List ℕ) → line (made RecFunction (bbehind bs r)) ++ z ≡ barred bs (32 ∷ (line r ++ z))
 unfolding line shape
 function-line bs r z =
     ap₂ (λ (x : List Piece) (y : List ℕ). (bars (arguments x) ++ (32 ∷ y)) ++ z) (initial-behind bs r) (final-behind bs r)
     ∙ append-assoc (bars (arguments (pieces bs))) (32 ∷ line r) z ∙ bars-line bs (32 ∷ (line r ++ z))
 
 -- as an argument of a function type: a function type in brackets, any other as it stands
-arg-plain : (b : Build) → eqb (kindOf b) functionKind ≡ false → argLine b ≡ line b
+arg-plain : (b : Build) → eqb (kindOf b) RecFunction ≡ false → argLine b ≡ line b
 unfolding argument
 arg-plain b h = rw h
 
-arg-function : (bs : Builds) (z : List ℕ) → argLine (made functionKind bs) ++ z ≡ 40 ∷ (line (made functionKind bs) ++ (41 ∷ z))
+arg-function : (bs : Builds) (z : List ℕ) → argLine (made RecFunction bs) ++ z ≡ 40 ∷ (line (made RecFunction bs) ++ (41 ∷ z))
 unfolding argument kindOf
-arg-function bs z = ap (_∷_ 40) (round (line (made functionKind bs)) 41 z)
+arg-function bs z = ap (_∷_ 40) (round (line (made RecFunction bs)) 41 z)
 
 -- brackets, of builds
 abbrev grouped : Builds → Build
-grouped bnone = spelled unitKind []
+grouped bnone = spelled RecUnit []
 grouped (bmore b bnone) = b
-grouped (bmore b (bmore c bs)) = made tupleKind (bmore b (bmore c bs))
+grouped (bmore b (bmore c bs)) = made RecTuple (bmore b (bmore c bs))
 
 respan-build : (s e : ℕ) (t : Tree) → build (respan s e t) ≡ build t
 unfolding respan build
@@ -168,28 +170,28 @@ angled-ends (bmore b bs) z d = ends-less colons refl refl refl refl _
 pub opens-angle : (m : ℕ) (b : Build) (bs : Builds) (z : List ℕ) → Stops (λ b. eqb b 61) z → All (Plain m) (bmore b bs) → Stops widens (join line (bmore b bs) (62 ∷ z))
 opens-angle m b bs z h a =
     no-wider beginsType refl refl refl refl refl refl refl (join line (bmore b bs) (62 ∷ z))
-    (list-first (readType m) beginsType line greaterTok apart-greater 0 (62 ∷ z) z (closed-greater z h) b bs a)
+    (list-first (readType m) beginsType line Greater apart-greater 0 (62 ∷ z) z (closed-greater z h) b bs a)
 
 module _ (m : ℕ) where
   -- the arguments of a type
   arguments-back : (bs : Builds) → All (Plain m) bs → (t : Tree) (st q : ℕ) (z : List ℕ) → Ends isStruct z
-      → Gives build (made typeKind (bmore (build t) bs)) z (withArguments (readType m) st t q (angled bs z))
+      → Gives build (made RecType (bmore (build t) bs)) z (withArguments (readType m) st t q (angled bs z))
   unfolding withArguments build
   arguments-back bnone a t st q z d =
       gives-look-by (After isStruct) _ _ (d .after q) (λ r x. x) λ k s e w r x.
-      gives-false _ _ _ (or-right (eqb k braceTok) (eqb k lessTok) (or-left (eqb k braceTok || eqb k lessTok) (eqb k colonsTok) x)) (gives _ _ refl)
+      gives-false _ _ _ (or-right (eqb k LBrace) (eqb k Less) (or-left (eqb k LBrace || eqb k Less) (eqb k ColonColon) x)) (gives _ _ refl)
   arguments-back (bmore b bs) a t st q z d =
       gives-look _ (lex-less q _ (opens-angle m b bs z (d .noEqual) a)) (gives-true _ _ _ refl
-      (gives-then _ (list-reads (readType m) beginsType line greaterTok apart-greater q (62 ∷ z) z (closed-greater z (d .noEqual)) (bmore b bs) a (q + 1)) λ ts q₃ e₃.
-      gives _ _ (ap (λ (x : Builds). made typeKind (bmore (build t) x)) e₃)))
+      (gives-then _ (list-reads (readType m) beginsType line Greater apart-greater q (62 ∷ z) z (closed-greater z (d .noEqual)) (bmore b bs) a (q + 1)) λ ts q₃ e₃.
+      gives _ _ (ap (λ (x : Builds). made RecType (bmore (build t) x)) e₃)))
 
-  type-back : (c : Build) (bs : Builds) → Chain c → All (Plain m) bs → Firm (suc m) (made typeKind (bmore c bs))
+  type-back : (c : Build) (bs : Builds) → Chain c → All (Plain m) bs → Firm (suc m) (made RecType (bmore c bs))
   unfolding readType typeOver named
   type-back c bs h a = record {
     first = λ p z d. rw (type-line c bs z) (name-begins (lex p (line c ++ angled bs z)) (h .first p (angled bs z) (angled-ends bs z d)));
     back = λ p z d. rw (type-line c bs z)
         (gives-look-by (First isFirst) _ _ (h .first p (angled bs z) (angled-ends bs z d)) (λ r x. x) λ k s e w r x.
-        gives-false _ _ _ (differs isFirst openTok k refl x) (gives-false _ _ _ (differs isFirst ampTok k refl x) (gives-false _ _ _ (differs isFirst ampMutTok k refl x) (gives-false _ _ _ (differs isFirst pipeTok k refl x)
+        gives-false _ _ _ (differs isFirst LParen k refl x) (gives-false _ _ _ (differs isFirst Amp k refl x) (gives-false _ _ _ (differs isFirst AmpMut k refl x) (gives-false _ _ _ (differs isFirst Pipe k refl x)
         (gives-then _ (h .back p (angled bs z) (angled-ends bs z d)) λ t q e₂. rw (← e₂) (arguments-back bs a t s q z d))))));
   }
 
@@ -199,59 +201,59 @@ module _ (m : ℕ) where
   group-back w bs l a = record {
     first = λ p z d. rw (l z, lex-open p (join line bs (41 ∷ z))) refl;
     back = λ p z d. rw (l z) (gives-look _ (lex-open p _) (gives-true _ _ _ refl
-        (gives-then _ (list-reads (readType m) beginsType line closeTok apart-close p (41 ∷ z) z (closed-close z) bs a (p + 1)) λ ts q e. gives _ _ (bracketed-build p q ts ∙ ap grouped e))));
+        (gives-then _ (list-reads (readType m) beginsType line RParen apart-close p (41 ∷ z) z (closed-close z) bs a (p + 1)) λ ts q e. gives _ _ (bracketed-build p q ts ∙ ap grouped e))));
   }
 
-  unit-back : Firm (suc m) (spelled unitKind [])
-  unit-back = group-back (line (spelled unitKind [])) bnone unit-line tt
+  unit-back : Firm (suc m) (spelled RecUnit [])
+  unit-back = group-back (line (spelled RecUnit [])) bnone unit-line tt
 
-  tuple-back : (b c : Build) (bs : Builds) → All (Plain m) (bmore b (bmore c bs)) → Firm (suc m) (made tupleKind (bmore b (bmore c bs)))
-  tuple-back b c bs a = group-back (line (made tupleKind (bmore b (bmore c bs)))) (bmore b (bmore c bs)) (tuple-line (bmore b (bmore c bs))) a
+  tuple-back : (b c : Build) (bs : Builds) → All (Plain m) (bmore b (bmore c bs)) → Firm (suc m) (made RecTuple (bmore b (bmore c bs)))
+  tuple-back b c bs a = group-back (line (made RecTuple (bmore b (bmore c bs)))) (bmore b (bmore c bs)) (tuple-line (bmore b (bmore c bs))) a
 
-  bracket-back : (bs : Builds) → Plain m (made functionKind bs) → InArg (suc m) (made functionKind bs)
-  bracket-back bs h = group-back (argLine (made functionKind bs)) (bmore (made functionKind bs) bnone) (arg-function bs) (h, tt)
+  bracket-back : (bs : Builds) → Plain m (made RecFunction bs) → InArg (suc m) (made RecFunction bs)
+  bracket-back bs h = group-back (argLine (made RecFunction bs)) (bmore (made RecFunction bs) bnone) (arg-function bs) (h, tt)
 
-  ref-back : (b : Build) → Plain m b → Firm (suc m) (made refKind (bmore b bnone))
+  ref-back : (b : Build) → Plain m b → Firm (suc m) (made RecRef (bmore b bnone))
   unfolding readType typeOver reference build
   ref-back b h = record {
     first = λ p z d. rw (ref-line b z, lex-amp p (line b ++ z)) refl;
     back = λ p z d. rw (ref-line b z) (gives-look _ (lex-amp p _) (gives-false _ _ _ refl (gives-true _ _ _ refl
-        (gives-then _ (rw (lex-blank (p + 1) (line b ++ z)) (h .back (suc (p + 1)) z d)) λ t q e. gives _ _ (ap (λ (x : Build). made refKind (bmore x bnone)) e)))));
+        (gives-then _ (rw (lex-blank (p + 1) (line b ++ z)) (h .back (suc (p + 1)) z d)) λ t q e. gives _ _ (ap (λ (x : Build). made RecRef (bmore x bnone)) e)))));
   }
 
-  mut-back : (b : Build) → Plain m b → Firm (suc m) (made refMutKind (bmore b bnone))
+  mut-back : (b : Build) → Plain m b → Firm (suc m) (made RecRefMut (bmore b bnone))
   unfolding readType typeOver reference build
   mut-back b h = record {
     first = λ p z d. rw (mut-line b z, lex-ampmut p (line b ++ z)) refl;
     back = λ p z d. rw (mut-line b z) (gives-look _ (lex-ampmut p _) (gives-false _ _ _ refl (gives-false _ _ _ refl (gives-true _ _ _ refl
-        (gives-then _ (h .back (p + 5) z d) λ t q e. gives _ _ (ap (λ (x : Build). made refMutKind (bmore x bnone)) e))))));
+        (gives-then _ (h .back (p + 5) z d) λ t q e. gives _ _ (ap (λ (x : Build). made RecRefMut (bmore x bnone)) e))))));
   }
 
   -- the result of a function type behind its arguments ts, whose builds are bs
   result-back : (bs : Builds) (r : Build) → Plain m r → (st : ℕ) (ts : Trees) → builds ts ≡ bs → (q : ℕ) (z : List ℕ) → Ends isStruct z
-      → Gives build (made functionKind (bbehind bs r)) z (then (readType m (lex q (32 ∷ (line r ++ z)))) λ t q₂ u₂. ok (node functionKind st q₂ (behind ts t)) q₂ u₂)
+      → Gives build (made RecFunction (bbehind bs r)) z (then (readType m (lex q (32 ∷ (line r ++ z)))) λ t q₂ u₂. ok (node RecFunction st q₂ (behind ts t)) q₂ u₂)
   unfolding build
   result-back bs r h st ts e q z d =
-      gives-then _ (rw (lex-blank q (line r ++ z)) (h .back (suc q) z d)) λ t q₂ e₂. gives _ _ (ap (made functionKind) (builds-behind ts t ∙ ap₂ bbehind e e₂))
+      gives-then _ (rw (lex-blank q (line r ++ z)) (h .back (suc q) z d)) λ t q₂ e₂. gives _ _ (ap (made RecFunction) (builds-behind ts t ∙ ap₂ bbehind e e₂))
 
   -- the first `|` before an argument
   opens-bar : (b : Build) (bs : Builds) (y : List ℕ) → All (InArg m) (bmore b bs) → Stops (λ a. eqb a 124) (join argLine (bmore b bs) (124 ∷ 32 ∷ y))
   opens-bar b bs y a =
       no-bar beginsArg refl refl (join argLine (bmore b bs) (124 ∷ 32 ∷ y))
-      (list-first (readType m) beginsArg argLine pipeTok apart-bar 0 (124 ∷ 32 ∷ y) (32 ∷ y) (closed-bar (32 ∷ y) refl) b bs a)
+      (list-first (readType m) beginsArg argLine Pipe apart-bar 0 (124 ∷ 32 ∷ y) (32 ∷ y) (closed-bar (32 ∷ y) refl) b bs a)
 
-  function-back : (bs : Builds) (r : Build) → All (InArg m) bs → Plain m r → Plain (suc m) (made functionKind (bbehind bs r))
+  function-back : (bs : Builds) (r : Build) → All (InArg m) bs → Plain m r → Plain (suc m) (made RecFunction (bbehind bs r))
   unfolding readType typeOver function
   function-back bnone r a h = record {
     first = λ p z d. rw (function-line bnone r z, lex-bar p (32 ∷ 124 ∷ 32 ∷ (line r ++ z)) refl) refl;
     back = λ p z d. rw (function-line bnone r z) (gives-look _ (lex-bar p _ refl) (gives-false _ _ _ refl (gives-false _ _ _ refl (gives-false _ _ _ refl (gives-true _ _ _ refl
-        (gives-then _ (list-reads-blank (readType m) beginsArg argLine pipeTok apart-bar p (124 ∷ 32 ∷ (line r ++ z)) (32 ∷ (line r ++ z)) (closed-bar (32 ∷ (line r ++ z)) refl) bnone tt (p + 1)) λ ts q e.
+        (gives-then _ (list-reads-blank (readType m) beginsArg argLine Pipe apart-bar p (124 ∷ 32 ∷ (line r ++ z)) (32 ∷ (line r ++ z)) (closed-bar (32 ∷ (line r ++ z)) refl) bnone tt (p + 1)) λ ts q e.
         result-back bnone r h p ts e q z d))))));
   }
   function-back (bmore b bs) r a h = record {
     first = λ p z d. rw (function-line (bmore b bs) r z, lex-bar p (join argLine (bmore b bs) (124 ∷ 32 ∷ (line r ++ z))) (opens-bar b bs (line r ++ z) a)) refl;
     back = λ p z d. rw (function-line (bmore b bs) r z) (gives-look _ (lex-bar p _ (opens-bar b bs (line r ++ z) a)) (gives-false _ _ _ refl (gives-false _ _ _ refl (gives-false _ _ _ refl (gives-true _ _ _ refl
-        (gives-then _ (list-reads (readType m) beginsArg argLine pipeTok apart-bar p (124 ∷ 32 ∷ (line r ++ z)) (32 ∷ (line r ++ z)) (closed-bar (32 ∷ (line r ++ z)) refl) (bmore b bs) a (p + 1)) λ ts q e.
+        (gives-then _ (list-reads (readType m) beginsArg argLine Pipe apart-bar p (124 ∷ 32 ∷ (line r ++ z)) (32 ∷ (line r ++ z)) (closed-bar (32 ∷ (line r ++ z)) refl) (bmore b bs) a (p + 1)) λ ts q e.
         result-back (bmore b bs) r h p ts e q z d))))));
   }
 
@@ -273,7 +275,7 @@ pub record Typed (n : ℕ) (b : Build) : Type 0 where
   pub noField : isField (kindOf b) ≡ false
 
 abbrev NotBar : Scanned → Type 0
-NotBar (tok k s e w r) = eqb k pipeTok ≡ false
+NotBar (tok k s e w r) = eqb k Pipe ≡ false
 NotBar (bad r) = Unit {0}
 
 -- what is read from a token that is no `|` reads back as an argument with as many levels
@@ -293,12 +295,12 @@ pub plains : (n m : ℕ) → n ≤ m → (bs : Builds) → All (Typed n) bs → 
 plains n m l bs a = all-from Plain n m l bs (all-map (Typed n) (From n Plain) (λ b h. h .plainly) bs a)
 
 -- what begins with no `|` as it stands
-from-firm : (n : ℕ) (l : Scanned) (b : Build) → isField (kindOf b) ≡ false → eqb (kindOf b) functionKind ≡ false → From n Firm b → Both n l b
+from-firm : (n : ℕ) (l : Scanned) (b : Build) → isField (kindOf b) ≡ false → eqb (kindOf b) RecFunction ≡ false → From n Firm b → Both n l b
 from-firm n l b f e h =
     let i : From n InArg b = λ m j. subst (λ (w : List ℕ). Reads (readType m) beginsArg w b) (sym (arg-plain b e)) (h m j) in
     record { typed = record { plainly = λ m j. weaken (h m j); argument = later-on InArg n b i; noField = f }; arg = λ x. i }
 
-type-both : (n : ℕ) (l : Scanned) (c : Build) (bs : Builds) → Chain c → All (Typed n) bs → Both (suc n) l (made typeKind (bmore c bs))
+type-both : (n : ℕ) (l : Scanned) (c : Build) (bs : Builds) → Chain c → All (Typed n) bs → Both (suc n) l (made RecType (bmore c bs))
 unfolding isField kindOf
 type-both n l c bs h a = from-firm (suc n) l _ refl refl (up Firm n _ λ m i. type-back m c bs h (plains n m i bs a))
 
@@ -311,55 +313,55 @@ group-both n l (bmore b bnone) a = record {
 }
 group-both n l (bmore b (bmore c bs)) a = from-firm (suc n) l _ refl refl (up Firm n _ λ m i. tuple-back m b c bs (plains n m i (bmore b (bmore c bs)) a))
 
-function-both : (n : ℕ) (l : Scanned) → (NotBar l → ⊥) → (bs : Builds) (r : Build) → All (From n InArg) bs → Typed n r → Both (suc n) l (made functionKind (bbehind bs r))
+function-both : (n : ℕ) (l : Scanned) → (NotBar l → ⊥) → (bs : Builds) (r : Build) → All (From n InArg) bs → Typed n r → Both (suc n) l (made RecFunction (bbehind bs r))
 unfolding isField kindOf
 function-both n l x bs r a h =
-    let f : From (suc n) Plain (made functionKind (bbehind bs r)) = up Plain n _ λ m i. function-back m bs r (all-from InArg n m i bs a) (h .plainly m i) in
+    let f : From (suc n) Plain (made RecFunction (bbehind bs r)) = up Plain n _ λ m i. function-back m bs r (all-from InArg n m i bs a) (h .plainly m i) in
     record { typed = record { plainly = f; argument = up InArg (suc n) _ λ m i. bracket-back m (bbehind bs r) (f m i); noField = refl }; arg = λ y. absurd (x y) }
 
 -- an item of a list that closes with `|` begins with none
-stays-bar : (l : Scanned) → Stays pipeTok l → NotBar l
+stays-bar : (l : Scanned) → Stays Pipe l → NotBar l
 unfolding closing when
-stays-bar (tok k s e w r) x = go (eqb k pipeTok) refl x
+stays-bar (tok k s e w r) x = go (eqb k Pipe) refl x
   where
-    go : (c : Bool) → eqb k pipeTok ≡ c → when c (λ _. closes e r) (λ _. when (eqb pipeTok greaterTok && eqb k 34) (λ _. closes (suc s) (62 ∷ r)) λ _. stays) ≡ stays → eqb k pipeTok ≡ false
+    go : (c : Bool) → eqb k Pipe ≡ c → when c (λ _. closes e r) (λ _. when (eqb Pipe Greater && eqb k 34) (λ _. closes (suc s) (62 ∷ r)) λ _. stays) ≡ stays → eqb k Pipe ≡ false
     go true h y = let z : _≡_ {A = ℕ} 0 1 = cc in absurd (omega arith)
     go false h y = h
 stays-bar (bad r) x = tt
 
-module _ (n : ℕ) (ih : (l : Scanned) → Good l → Sure (λ (t : Tree). Both n l (build t)) (readType n l)) where
-  typed-sure : (l : Scanned) → Good l → Sure (λ (t : Tree). Typed n (build t)) (readType n l)
-  typed-sure l g = sure-map (λ (t : Tree). Both n l (build t)) (λ (t : Tree). Typed n (build t)) (readType n l) (λ t h. h .typed) (ih l g)
+module _ (n : ℕ) (ih : (l : Scanned) → Good l → Every (λ (t : Tree). Both n l (build t)) (readType n l)) where
+  typed-sure : (l : Scanned) → Good l → Every (λ (t : Tree). Typed n (build t)) (readType n l)
+  typed-sure l g = map-every (λ (t : Tree). Both n l (build t)) (λ (t : Tree). Typed n (build t)) (readType n l) (λ t h. h .typed) (ih l g)
 
-  arg-sure : (l : Scanned) → Good l → Stays pipeTok l → Sure (λ (t : Tree). From n InArg (build t)) (readType n l)
-  arg-sure l g x = sure-map (λ (t : Tree). Both n l (build t)) (λ (t : Tree). From n InArg (build t)) (readType n l) (λ t h. h .arg (stays-bar l x)) (ih l g)
+  arg-sure : (l : Scanned) → Good l → Stays Pipe l → Every (λ (t : Tree). From n InArg (build t)) (readType n l)
+  arg-sure l g x = map-every (λ (t : Tree). Both n l (build t)) (λ (t : Tree). From n InArg (build t)) (readType n l) (λ t h. h .arg (stays-bar l x)) (ih l g)
 
-  list-typed : (close o e : ℕ) (r : List ℕ) → Sure (λ (ts : Trees). All (Typed n) (builds ts)) (listBehind (readType n) close o e r)
+  list-typed : (close o e : ℕ) (r : List ℕ) → Every (λ (ts : Trees). All (Typed n) (builds ts)) (listBehind (readType n) close o e r)
   list-typed close o e r = behind-sure (readType n) close o (Typed n) (λ l g x. typed-sure l g) e r
 
-  over-sure : (l : Scanned) → Good l → Sure (λ (t : Tree). Both (suc n) l (build t)) (typeOver (readType n) l)
+  over-sure : (l : Scanned) → Good l → Every (λ (t : Tree). Both (suc n) l (build t)) (typeOver (readType n) l)
   unfolding typeOver brackets reference function named withArguments build isField kindOf
   over-sure l g =
-      sure-look _ l _ λ k s e w r d.
-      sure-when _ _ _ _
-      (λ c. sure-then (λ (ts : Trees). All (Typed n) (builds ts)) _ _ _ (list-typed closeTok s e r) λ ts q u a. rw (bracketed-build s q ts) (group-both n l (builds ts) a)) λ c₁.
-      sure-when _ _ _ _
-      (λ c. sure-then (λ (t : Tree). Typed n (build t)) _ _ _ (typed-sure (lex e r) (lex-good e r)) λ t q u h. from-firm (suc n) l _ refl refl (up Firm n _ λ m i. ref-back m (build t) (h .plainly m i))) λ c₂.
-      sure-when _ _ _ _
-      (λ c. sure-then (λ (t : Tree). Typed n (build t)) _ _ _ (typed-sure (lex e r) (lex-good e r)) λ t q u h. from-firm (suc n) l _ refl refl (up Firm n _ λ m i. mut-back m (build t) (h .plainly m i))) λ c₃.
-      sure-when _ _ _ _
-      (λ c. sure-then (λ (ts : Trees). All (From n InArg) (builds ts)) _ _ _ (behind-sure (readType n) pipeTok s (From n InArg) arg-sure e r) λ ts q u a.
-      sure-then (λ (t : Tree). Typed n (build t)) _ _ _ (typed-sure (lex q u) (lex-good q u)) λ t q₂ u₂ h.
+      look-every _ l _ λ k s e w r d.
+      when-every _ _ _ _
+      (λ c. then-every (λ (ts : Trees). All (Typed n) (builds ts)) _ _ _ (list-typed RParen s e r) λ ts q u a. rw (bracketed-build s q ts) (group-both n l (builds ts) a)) λ c₁.
+      when-every _ _ _ _
+      (λ c. then-every (λ (t : Tree). Typed n (build t)) _ _ _ (typed-sure (lex e r) (lex-good e r)) λ t q u h. from-firm (suc n) l _ refl refl (up Firm n _ λ m i. ref-back m (build t) (h .plainly m i))) λ c₂.
+      when-every _ _ _ _
+      (λ c. then-every (λ (t : Tree). Typed n (build t)) _ _ _ (typed-sure (lex e r) (lex-good e r)) λ t q u h. from-firm (suc n) l _ refl refl (up Firm n _ λ m i. mut-back m (build t) (h .plainly m i))) λ c₃.
+      when-every _ _ _ _
+      (λ c. then-every (λ (ts : Trees). All (From n InArg) (builds ts)) _ _ _ (behind-sure (readType n) Pipe s (From n InArg) arg-sure e r) λ ts q u a.
+      then-every (λ (t : Tree). Typed n (build t)) _ _ _ (typed-sure (lex q u) (lex-good q u)) λ t q₂ u₂ h.
       rw (builds-behind ts t) (function-both n l (λ y. false-true _ (sym (subst NotBar d y) ∙ c)) (builds ts) (build t) a h)) λ c₄.
-      sure-then (λ (t : Tree). Chain (build t)) _ _ _ (chain-sure l g) λ c q u h.
-      sure-look _ (lex q u) _ λ k₂ s₂ e₂ w₂ r₂ d₂.
-      sure-when _ _ _ _ (λ y. sure-then (λ (ts : Trees). All (Typed n) (builds ts)) _ _ _ (list-typed greaterTok s₂ e₂ r₂) λ ts q₃ u₃ a. type-both n l (build c) (builds ts) h a)
+      then-every (λ (t : Tree). Chain (build t)) _ _ _ (chain-sure l g) λ c q u h.
+      look-every _ (lex q u) _ λ k₂ s₂ e₂ w₂ r₂ d₂.
+      when-every _ _ _ _ (λ y. then-every (λ (ts : Trees). All (Typed n) (builds ts)) _ _ _ (list-typed Greater s₂ e₂ r₂) λ ts q₃ u₃ a. type-both n l (build c) (builds ts) h a)
       λ y. type-both n l (build c) bnone h tt
 
-both-sure : (n : ℕ) (l : Scanned) → Good l → Sure (λ (t : Tree). Both n l (build t)) (readType n l)
+both-sure : (n : ℕ) (l : Scanned) → Good l → Every (λ (t : Tree). Both n l (build t)) (readType n l)
 unfolding readType
-both-sure zero l g = sure-look _ l _ λ k s e w r d. tt
+both-sure zero l g = look-every _ l _ λ k s e w r d. tt
 both-sure (suc n) l g = over-sure n (both-sure n) l g
 
-pub type-sure : (n : ℕ) (l : Scanned) → Good l → Sure (λ (t : Tree). Typed n (build t)) (readType n l)
+pub type-sure : (n : ℕ) (l : Scanned) → Good l → Every (λ (t : Tree). Typed n (build t)) (readType n l)
 type-sure n = typed-sure n (both-sure n)

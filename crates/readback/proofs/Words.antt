@@ -1,5 +1,4 @@
 -- Words in front of other bytes: a name, a keyword, a number or a string is the same token wherever what follows cannot go on with it.
--- Assumes nothing.
 use mathlib.Core.Path.{_≡_, refl, ap, sym, _∙_, subst}
 use mathlib.Core.Bool.{Bool, true, false, not, cond, _&&_, _||_}
 use mathlib.Core.List.{List, [], _∷_, _++_}
@@ -26,7 +25,7 @@ use Rattle.words.specs.declared.Quote.{Quote}
 use Rattle.words.specs.declared.Quote.the-variants.{Found, Missing}
 use Rattle.words.proofs.Quotes.{Within, within, quote-local}
 use Rattle.words.proofs.Marks.{mark-first}
-use Rattle.tokens.specs.Token.{Front, front, fault, decimal, hexLen, hexNumber, number, stringBy, string, opensString, stringRefusal, name, word, marked, findToken, Scanned, tok, bad, placed, behindGap, lex}
+use Rattle.tokens.specs.Token.{Front, front, fault, decimal, hexLen, hexNumber, number, stringBy, string, opensString, stringRefusal, name, word, mark, findToken, Scanned, tok, bad, placed, behindGap, lex}
 use Rattle.tokens.proofs.Fronts.{Takes, find-takes}
 use Rattle.tokens.proofs.Alone.{Alone, find-alone}
 
@@ -240,8 +239,8 @@ abbrev Unworded : Front → Type 0
 Unworded (front k n) = wordy k ≡ false
 Unworded (fault m i j) = Unit {0}
 
-mark-not : (s : List ℕ) → Unworded (marked (markOf s))
-unfolding marked
+mark-not : (s : List ℕ) → Unworded (mark (markOf s))
+unfolding mark
 mark-not s = go (eqb (markOf s .len) 0) (rw (mark-first s) (fit-not marks s marks-not))
   where
     go : (b : Bool) → wordy (markOf s .kind) ≡ false → Unworded (cond b (fault 5 0 0) (front (markOf s .kind) (markOf s .len)))

@@ -1,5 +1,4 @@
--- The words of demand 3, as document 01 has them, over the definitions that the contracts of the read and the display call cite.
--- Assumes nothing.
+-- The words of demand 3 (docs/PROMISES.md), over the definitions that the contracts of the read and the display call cite.
 use mathlib.Core.Path.{_≡_}
 use mathlib.Core.List.{List, [], _∷_, _++_}
 use Prim.Native.Nat.{ℕ}
@@ -7,11 +6,11 @@ use lib.ListN.{length, take, drop, getD}
 use Rattle.tokens.specs.Answers.{token}
 use Rattle.tokens.specs.declared.Token.{Token}
 use Rattle.records.specs.Tree.{Tree, build}
-use Rattle.names.specs.Reading.{eofTok}
+use Rattle.words.specs.Kinds.{EOF}
 use Rattle.reader.specs.Items.{Item, item, refused}
 use Rattle.records.specs.Stored.{stored}
-use Rattle.reader.specs.Calls.{read, readBuffer, readNumber, readValues}
-use Rattle.display.specs.Calls.{display, displayBuffer, displayNumber, displayValues}
+use Rattle.reader.specs.Calls.{answered, read, readBuffer, readNumber, readValues}
+use Rattle.display.specs.Calls.{displayed, display, displayBuffer, displayNumber, displayValues}
 
 -- an item is a text, a start offset and an item kind; with it come the buffers lent to its read and to its display
 pub record Lent : Type 0 where
@@ -41,10 +40,10 @@ pub record Accepted (i : Lent) (t : Tree) (n : Token) : Type 0 where
 
 -- the stored length that its read answers, and the line's length that its display answers
 abbrev pub treeLength : Lent → ℕ
-treeLength i = getD (readValues (readOf i)) 0 0
+treeLength i = getD (readValues (answered (readOf i))) 0 0
 
 abbrev pub lineLength : Lent → ℕ
-lineLength i = getD (displayValues (displayOf i)) 0 0
+lineLength i = getD (displayValues (displayed (displayOf i))) 0 0
 
 -- its line is the bytes that the display writes: so many of its buffer, from the first on
 abbrev pub lineOf : Lent → List ℕ
@@ -56,7 +55,7 @@ lineBack i out lineOut = record { text = lineOf i; at = 0; kind = i .kind; forTr
 
 -- EOF at (n,n)
 abbrev pub eofAt : ℕ → Token
-eofAt n = token eofTok n n
+eofAt n = token EOF n n
 
 -- the line of i, whose tree is t, is read back as j: accepted to its last byte, since the token that follows is EOF at (n,n), n being the
 -- line's length; with the same build and the same line, the tree's records in front of the buffer, and with as much room taken by both
@@ -71,8 +70,8 @@ pub record ReadBack (i : Lent) (t : Tree) (j : Lent) : Type 0 where
 
 -- the same as the calls answer it: numbers 0, the lengths of i, EOF at (n,n), and the line in front of the buffer, whose other bytes stay
 pub record AnsweredBack (i j : Lent) : Type 0 where
-  pub readNumberIs : readNumber (readOf j) ≡ 0
-  pub readValuesAre : readValues (readOf j) ≡ treeLength i ∷ eofTok ∷ lineLength i ∷ lineLength i ∷ 0 ∷ 0 ∷ []
-  pub displayNumberIs : displayNumber (displayOf j) ≡ 0
-  pub displayValuesAre : displayValues (displayOf j) ≡ lineLength i ∷ 0 ∷ 0 ∷ 0 ∷ 0 ∷ 0 ∷ []
+  pub readNumberIs : readNumber (answered (readOf j)) ≡ 0
+  pub readValuesAre : readValues (answered (readOf j)) ≡ treeLength i ∷ EOF ∷ lineLength i ∷ lineLength i ∷ 0 ∷ 0 ∷ []
+  pub displayNumberIs : displayNumber (displayed (displayOf j)) ≡ 0
+  pub displayValuesAre : displayValues (displayed (displayOf j)) ≡ lineLength i ∷ 0 ∷ 0 ∷ 0 ∷ 0 ∷ 0 ∷ []
   pub displayWrites : displayBuffer (j .kind) (j .text) (j .at) (j .forLine) ≡ lineOf i ++ drop (lineLength i) (j .forLine)

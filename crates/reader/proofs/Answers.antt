@@ -1,17 +1,16 @@
 -- What each return of the read call's code gives.
--- Assumes nothing.
 use mathlib.Core.Path.{_≡_, refl, ap, sym, _∙_, subst}
-use mathlib.Core.Bool.{Bool, true, false, _||_}
+use mathlib.Core.Bool.{Bool, true, false}
 use mathlib.Core.List.{List, [], _∷_, _++_}
 use Prim.Native.Nat.{ℕ, _<_, _≤_}
 use native.Mathlib.Omega.{arith}
 use native.Mathlib.Nat.{not-suc-le-zero, le-of-suc-le-suc}
 use borrow.Author.Tests.{le-leb, lt-leb, leb-true, lt-ltb, le-ltb, eq-eqb, ne-eqb, ltb-false}
-use lib.Dec.{eqb, ltb, leb}
+use lib.Dec.{leb}
 use lib.ListN.{length, take, drop}
 use lib.Seq.{sets, take-append-le, take-all}
 use Rattle.classes.proofs.Bools.{false-true, or-left}
-use Rattle.tokens.specs.Answers.{refusal, places}
+use Rattle.tokens.specs.Answers.{refusal}
 use Rattle.tokens.specs.Token.{Scanned, tok, bad, lex}
 use Rattle.tokens.specs.Calls.{textLimit, admitted, lexed}
 use Rattle.tokens.specs.declared.Refusal.{Refusal}
@@ -34,8 +33,8 @@ use Rattle.types.specs.Types.{levels, readType}
 use Rattle.binds.specs.Binds.{readBindList, readLambdaList}
 use Rattle.reader.specs.declared.Answer.{Answer}
 use Rattle.reader.specs.declared.Answer.the-variants.{Item as Accepted, Refused as Rejected}
-use Rattle.reader.specs.Items.{Item, item, refused, readKind, followed, finished, readItem}
-use Rattle.reader.specs.Calls.{answerLimit, copied, roomed, written, answered, readNumber, readValues, read, readBuffer}
+use Rattle.reader.specs.Items.{item, refused, noKind, readKind, followed, finished, readItem}
+use Rattle.reader.specs.Calls.{tooLong, copied, roomed, written, answered, read, readBuffer}
 
 -- an item by its kind: which reader reads it
 module _ (kind : ℕ) (text : List ℕ) (at : ℕ) where
@@ -85,7 +84,7 @@ module _ (kind : ℕ) (text : List ℕ) (at : ℕ) where
     unfolding readItem when
     item-offset g = rw (le-ltb textLimit (length text) h, lt-ltb (length text) at g)
 
-    pub item-kind : at ≤ length text → (b : Bool) → b ≡ (eqb kind 0 || ltb 5 kind) → b ≡ true → readItem kind text at ≡ refused (refusal 3 0 0)
+    pub item-kind : at ≤ length text → (b : Bool) → b ≡ noKind kind → b ≡ true → readItem kind text at ≡ refused (refusal 3 0 0)
     unfolding readItem when
     item-kind g b z k = rw (le-ltb textLimit (length text) h, le-ltb (length text) at g, sym z ∙ k)
 
@@ -98,7 +97,7 @@ module _ (kind : ℕ) (text : List ℕ) (at : ℕ) (l : List ℕ) (a : Answer) w
     call-offset g e = call-by kind text at l a (refusal 2 0 0) (item-offset kind text at h g) e
 
     module _ (g : at ≤ length text) where
-      pub call-kind : (b : Bool) → b ≡ (eqb kind 0 || ltb 5 kind) → b ≡ true → a ≡ Rejected (refusal 3 0 0) → Call kind text at l l a
+      pub call-kind : (b : Bool) → b ≡ noKind kind → b ≡ true → a ≡ Rejected (refusal 3 0 0) → Call kind text at l l a
       call-kind b z k e = call-by kind text at l a (refusal 3 0 0) (item-kind kind text at h g b z k) e
 
 -- the item by what the readers' code answers
@@ -128,7 +127,7 @@ sets-whole (x ∷ xs) [] h = absurd (not-suc-le-zero h)
 sets-whole (x ∷ xs) (a ∷ l) h = sets-front xs x l 0 ∙ ap (λ (y : List ℕ). x ∷ y) (sets-whole xs l (le-of-suc-le-suc h))
 
 -- where the three refusals do not apply
-module _ (kind : ℕ) (text : List ℕ) (at : ℕ) (h : length text ≤ textLimit) (g : at ≤ length text) (k : (eqb kind 0 || ltb 5 kind) ≡ false) where
+module _ (kind : ℕ) (text : List ℕ) (at : ℕ) (h : length text ≤ textLimit) (g : at ≤ length text) (k : noKind kind ≡ false) where
   abbrev found : Ans Tree
   found = admittedPart (readKind kind) text at
 
@@ -139,7 +138,7 @@ module _ (kind : ℕ) (text : List ℕ) (at : ℕ) (h : length text ≤ textLimi
   pub call-refused : (l : List ℕ) (r : Refusal) → Refused r ≡ given stored found → Call kind text at l l (Rejected r)
   call-refused l r e = call-by kind text at l (Rejected r) r (goes ∙ finished-refused found r e) refl
 
-  module _ (l : List ℕ) (p : Part) (e : Read p ≡ given stored found) (b : Bool) (z : b ≡ (ltb (length l) (p .len) || ltb 65535 (p .len))) where
+  module _ (l : List ℕ) (p : Part) (e : Read p ≡ given stored found) (b : Bool) (z : b ≡ tooLong (length l) (p .len)) where
     tree : Opened stored found p
     tree = opened stored found p e
 
@@ -149,42 +148,16 @@ module _ (kind : ℕ) (text : List ℕ) (at : ℕ) (h : length text ≤ textLimi
     pub call-long : (a : Answer) → b ≡ true → a ≡ Rejected (refusal 4 0 0) → Call kind text at l l a
     unfolding read readBuffer roomed written answered when
     call-long a y f =
-        let x : ltb (length l) (length (stored (tree .what))) || ltb answerLimit (length (stored (tree .what))) ≡ true = rw (← tree .len) (sym z ∙ y) in
+        let x : tooLong (length l) (length (stored (tree .what))) ≡ true = rw (← tree .len) (sym z ∙ y) in
         rw (is-item, x, f) (refl, refl)
 
     pub call-done : (m : List ℕ) (q : Parsed) → b ≡ false → Gives stored found 0 l m q → Call kind text at l m (Accepted (p .len) (p .next))
     unfolding read readBuffer roomed written answered when
     call-done m q y g =
-        let x : ltb (length l) (length (stored (tree .what))) || ltb answerLimit (length (stored (tree .what))) ≡ false = rw (← tree .len) (sym z ∙ y) in
+        let x : tooLong (length l) (length (stored (tree .what))) ≡ false = rw (← tree .len) (sym z ∙ y) in
         let i : length (stored (tree .what)) ≤ length l = ltb-false (length l) (length (stored (tree .what))) (or-left _ _ x) in
         let w : m ≡ sets l 0 (stored (tree .what)) = wrote stored found 0 l m p tree (rw (g .0 ∙ sym e) at (g .1)) in
         rw (is-item, x) (ap (λ (n : ℕ). Accepted n (p .next)) (tree .len), w ∙ sets-whole (stored (tree .what)) l i)
-
--- the numbers of an answer
-isItem : Answer → Bool
-isItem (Accepted n t) = true
-isItem (Rejected r) = false
-
-itemIn : ℕ → Token → Answer → ℕ × Token
-itemIn d e (Accepted n t) = (n, t)
-itemIn d e (Rejected r) = (d, e)
-
-rejectedIn : Refusal → Answer → Refusal
-rejectedIn d (Rejected r) = r
-rejectedIn d (Accepted n t) = d
-
-abbrev listed : ℕ × Token → List ℕ
-listed a = a .0 ∷ a .1 .kind ∷ a .1 .start ∷ a .1 .end ∷ 0 ∷ 0 ∷ []
-
-pub item-numbers : (i : Item) (n : ℕ) (t : Token) → Accepted n t ≡ answered i → (0 ≡ readNumber i) × (n ∷ t .kind ∷ t .start ∷ t .end ∷ 0 ∷ 0 ∷ [] ≡ readValues i)
-unfolding answered readNumber readValues isItem itemIn
-item-numbers (item x u) n t e = (refl, ap listed (ap (itemIn n t) e))
-item-numbers (refused r) n t e = false-true _ (ap isItem (sym e))
-
-pub refused-numbers : (i : Item) (r : Refusal) → Rejected r ≡ answered i → (r .number ≡ readNumber i) × (places r ≡ readValues i)
-unfolding answered readNumber readValues isItem rejectedIn
-refused-numbers (item x u) r e = false-true _ (ap isItem e)
-refused-numbers (refused q) r e = (ap (λ (x : Refusal). x .number) (ap (rejectedIn r) e), ap places (ap (rejectedIn r) e))
 
 -- what was read into a buffer of its own
 pub made-in : (xs z made : List ℕ) (n : ℕ) → made ≡ sets z 0 xs → n ≡ length xs → length made ≡ length z → n ≤ length made → take n made ≡ xs
@@ -215,7 +188,7 @@ module _ (found : Ans Tree) (l m : List ℕ) where
             (e, rw (← e, y) at h ∙ ap (sets l 0) (made-in (stored (d .what)) z made (p .len) (wrote stored found 0 z made p d (g .1)) (d .len) f (leb-true (p .len) (length made) y)) ∙ sym (put-as d))
         go false y = (e, rw (← e, y) at h)
 
-module _ (kind : ℕ) (text : List ℕ) (at : ℕ) (h : length text ≤ textLimit) (g : at ≤ length text) (k : (eqb kind 0 || ltb 5 kind) ≡ false) (l : List ℕ) (p : Part) (e : Read p ≡ given stored (admittedPart (readKind kind) text at)) (b : Bool) (z : b ≡ (ltb (length l) (p .len) || ltb 65535 (p .len))) (y : b ≡ false) where
+module _ (kind : ℕ) (text : List ℕ) (at : ℕ) (h : length text ≤ textLimit) (g : at ≤ length text) (k : noKind kind ≡ false) (l : List ℕ) (p : Part) (e : Read p ≡ given stored (admittedPart (readKind kind) text at)) (b : Bool) (z : b ≡ tooLong (length l) (p .len)) (y : b ≡ false) where
   pub made-done : (m blank made : List ℕ) → Gives stored (admittedPart (readKind kind) text at) 0 blank made (Read p) → length made ≡ length blank
       → kept (given stored (admittedPart (readKind kind) text at)) m ≡ kept (given stored (admittedPart (readKind kind) text at)) (copied (p .len) made (put stored 0 (admittedPart (readKind kind) text at) l) l)
       → Call kind text at l m (Accepted (p .len) (p .next))

@@ -1,5 +1,4 @@
 -- The room lent: what is accepted fits into it, and more of it changes nothing.
--- Assumes nothing.
 use mathlib.Core.Path.{_≡_, refl, sym, subst}
 use mathlib.Core.Bool.{Bool, true, false, _||_}
 use mathlib.Core.List.{List}

@@ -1,13 +1,11 @@
 -- Reading an item from s is reading the text from s, all places raised by s.
--- Assumes nothing.
 use mathlib.Core.Path.{_≡_, refl, ap, sym, _∙_}
-use mathlib.Core.Bool.{false, _||_}
+use mathlib.Core.Bool.{false}
 use mathlib.Core.List.{List}
 use Prim.Native.Nat.{ℕ, _≤_}
 use native.Mathlib.Omega.{arith}
 use native.Mathlib.Nat.{add-zero}
 use borrow.Author.Tests.{le-ltb}
-use lib.Dec.{eqb, ltb}
 use lib.ListN.{length, drop, length-drop}
 use Rattle.tokens.specs.Raise.{raiseScanned}
 use Rattle.tokens.specs.Token.{Scanned, tok, bad, lex}
@@ -17,21 +15,14 @@ use Rattle.records.specs.Tree.{Tree}
 use Rattle.records.specs.Raise.{raiseTree}
 use Rattle.names.specs.Reading.{Ans, ok, no, when}
 use Rattle.names.specs.Raise.{raiseAns}
-use Rattle.names.proofs.Shift.{RaisedReader, when-up, chain-up, value-up}
-use Rattle.types.proofs.Shift.{type-up}
-use Rattle.types.specs.Types.{levels}
-use Rattle.binds.proofs.Shift.{bind-list-up, lambda-list-up}
-use Rattle.reader.specs.Items.{readKind, followed, finished, readItem}
+use Rattle.law.proofs.Raised.{RaisedReader, raised-reader}
+use Rattle.reader.proofs.Alike.{kind-rel}
+use Rattle.reader.specs.Items.{noKind, readKind, followed, finished, readItem}
 use Rattle.reader.specs.Raise.{raiseItem}
 
 module _ (k : ℕ) where
   kind-up : (kind : ℕ) → RaisedReader k (readKind kind)
-  unfolding readKind
-  kind-up kind l =
-      when-up k raiseTree (eqb kind 1) _ _ _ _ (chain-up k l)
-      (when-up k raiseTree (eqb kind 2) _ _ _ _ (value-up k l)
-      (when-up k raiseTree (eqb kind 3) _ _ _ _ (type-up k levels l)
-      (when-up k raiseTree (eqb kind 4) _ _ _ _ (bind-list-up k l) (lambda-list-up k l))))
+  kind-up kind = raised-reader k (readKind kind) (kind-rel kind)
 
   followed-up : (t : Tree) (l : Scanned) → followed (raiseTree k t) (raiseScanned k l) ≡ raiseItem k (followed t l)
   unfolding followed raiseItem
@@ -44,7 +35,7 @@ module _ (k : ℕ) where
   finished-up (no r) = refl
 
 -- for a text that is not too long, an offset in it and one of the five kinds; the caller's refusals have the place (0,0)
-pub item-from : (kind : ℕ) (text : List ℕ) (at : ℕ) → length text ≤ textLimit → at ≤ length text → (eqb kind 0 || ltb 5 kind) ≡ false
+pub item-from : (kind : ℕ) (text : List ℕ) (at : ℕ) → length text ≤ textLimit → at ≤ length text → noKind kind ≡ false
     → readItem kind text at ≡ raiseItem at (readItem kind (drop at text) 0)
 unfolding readItem when
 item-from kind text at h g f =

@@ -1,6 +1,4 @@
 -- Items: what holds of every answer of a read, for every text, offset, kind and room.
--- Assumes nothing.
-use mathlib.Core.Bool.{_||_}
 use mathlib.Core.List.{List}
 use Prim.Native.Nat.{ℕ, _*_, _<_, _≤_}
 use native.Mathlib.Omega.{arith}
@@ -19,7 +17,7 @@ use Rattle.names.proofs.Parts.{chain-sure, value-sure}
 use Rattle.types.proofs.Sure.{read-type-sure}
 use Rattle.types.specs.Types.{levels}
 use Rattle.binds.proofs.Sure.{bind-list-sure, lambda-list-sure}
-use Rattle.reader.specs.Items.{Item, item, refused, readKind, followed, finished, readItem}
+use Rattle.reader.specs.Items.{Item, item, refused, noKind, readKind, followed, finished, readItem}
 
 module _ (text : List ℕ) where
   pub kind-sure : (kind : ℕ) → Reader text (readKind kind)
@@ -78,5 +76,5 @@ module _ (text : List ℕ) where
       let P : Item → Type 0 = Held at in
       when-sure text P (ltb textLimit (length text)) _ _ (λ _. nowhere 1)
       (λ _. when-sure text P (ltb (length text) at) _ _ (λ _. nowhere 2)
-      (λ b. when-sure text P (eqb kind 0 || ltb 5 kind) _ _ (λ _. nowhere 3)
+      (λ b. when-sure text P (noKind kind) _ _ (λ _. nowhere 3)
       (λ _. finished-held at (readKind kind (lex at (drop at text))) (kind-sure kind at (ltb-false (length text) at b)))))

@@ -1,10 +1,10 @@
 -- The five kinds of items, read at an offset of a text.
--- Assumes nothing.
 use Prim.Native.Nat.{ℕ}
-use mathlib.Core.Bool.{_||_}
+use mathlib.Core.Bool.{Bool, _||_}
 use mathlib.Core.List.{List}
 use lib.Dec.{eqb, ltb}
 use lib.ListN.{length, drop}
+use Rattle.tokens.specs.Refusals.{TextTooLong, StartPastEnd, NoSuchKind}
 use Rattle.tokens.specs.Answers.{refusal, token}
 use Rattle.tokens.specs.Token.{Scanned, tok, bad, lex}
 use Rattle.tokens.specs.Calls.{textLimit}
@@ -21,6 +21,10 @@ use Rattle.binds.specs.Binds.{readBindList, readLambdaList}
 pub data Item : Type 0 where
   item : Tree → Token → Item
   refused : Refusal → Item
+
+-- a number that is no kind of item
+abbrev pub noKind : ℕ → Bool
+noKind kind = eqb kind 0 || ltb 5 kind
 
 -- 1 name, 2 value, 3 type, 4 binding list, 5 lambda binding list
 unfoldable pub readKind : ℕ → Scanned → Ans Tree
@@ -42,7 +46,7 @@ finished (no r) = refused r
 -- refusals 1, 2 and 3, in this order; then what the text says
 unfoldable pub readItem : ℕ → List ℕ → ℕ → Item
 readItem kind text at =
-    when (ltb textLimit (length text)) (λ _. refused (refusal 1 0 0)) λ _.
-    when (ltb (length text) at) (λ _. refused (refusal 2 0 0)) λ _.
-    when (eqb kind 0 || ltb 5 kind) (λ _. refused (refusal 3 0 0)) λ _.
+    when (ltb textLimit (length text)) (λ _. refused (refusal TextTooLong 0 0)) λ _.
+    when (ltb (length text) at) (λ _. refused (refusal StartPastEnd 0 0)) λ _.
+    when (noKind kind) (λ _. refused (refusal NoSuchKind 0 0)) λ _.
     finished (readKind kind (lex at (drop at text)))

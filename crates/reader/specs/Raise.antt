@@ -1,5 +1,4 @@
 -- Items with all places raised by k.
--- Assumes nothing.
 use Prim.Native.Nat.{ℕ, _+_}
 use Rattle.tokens.specs.Answers.{token}
 use Rattle.tokens.specs.Raise.{raiseRefusal}

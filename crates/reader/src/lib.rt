@@ -1,26 +1,32 @@
 // The read call: an item of a text as its stored tree in a lent buffer.
 ghost use mathlib.Core.Path.{_≡_};
-ghost use mathlib.Core.Bool.{false, _||_};
+ghost use mathlib.Core.Bool.{false};
 ghost use Prim.Native.Nat.{_≤_};
-ghost use lib.Dec.{eqb, ltb};
 ghost use lib.ListN.{length};
+ghost use Rattle.tokens.specs.Calls.{textLimit};
 ghost use Rattle.records.specs.Stored.{stored};
 ghost use Rattle.names.specs.Parsed.{given, kept, put, admittedPart};
-ghost use Rattle.reader.specs.Items.{readKind};
-ghost use Rattle.reader.specs.Calls.{copied, answered, readBuffer};
+ghost use Rattle.reader.specs.Items.{noKind, readKind};
+ghost use Rattle.reader.specs.Calls.{tooLong, copied, answered, readBuffer};
 use names::Parsed;
 use tokens::Refusal;
 use tokens::TEXT_LIMIT;
 use tokens::Token;
+use tokens::refusals::NO_ROOM;
+use tokens::refusals::NO_SUCH_KIND;
+use tokens::refusals::START_PAST_END;
+use tokens::refusals::TEXT_TOO_LONG;
 
 // The kinds of items.
-const NAME: u64 = 1;
+pub const NAME: u64 = 1;
 
-const VALUE: u64 = 2;
+pub const VALUE: u64 = 2;
 
-const TYPE: u64 = 3;
+pub const TYPE: u64 = 3;
 
-const BIND_LIST: u64 = 4;
+pub const BIND_LIST: u64 = 4;
+
+pub const LAMBDA_BIND_LIST: u64 = 5;
 
 // The longest answer.
 const ANSWER_LIMIT: usize = 65535;
@@ -53,17 +59,17 @@ fn read_kind(kind: u64, text: &[u8], at: usize, out: &mut [u8]) -> Parsed
 
 // Whether the number is no kind of item.
 pub fn no_kind(kind: u64) -> bool
-    ensures { λ r. ⌜ r ≡ (eqb kind 0 || ltb 5 kind) ⌝ }
+    ensures { λ r. ⌜ r ≡ noKind kind ⌝ }
 {
     if kind == 0 {
         return true;
     }
-    5 < kind
+    LAMBDA_BIND_LIST < kind
 }
 
 // Whether an answer of n bytes is too long for the room or the limit.
 pub fn too_long(room: usize, n: usize) -> bool
-    ensures { λ r. ⌜ r ≡ (ltb room n || ltb 65535 n) ⌝ }
+    ensures { λ r. ⌜ r ≡ tooLong room n ⌝ }
 {
     if room < n {
         return true;
@@ -93,9 +99,9 @@ fn write_item(kind: u64, text: &[u8], at: usize, made: &[u8], n: usize, out: &mu
 // Reads the item of the kind from `at` on into `made`, and writes it into the lent buffer where the answer
 // is accepted: a refused call writes no byte.
 fn read_over(kind: u64, text: &[u8], at: usize, made: &mut [u8], out: &mut [u8]) -> Answer
-    requires { ⌜ length (now text) ≤ 65535 ⌝ }
+    requires { ⌜ length (now text) ≤ textLimit ⌝ }
     requires { ⌜ at ≤ length (now text) ⌝ }
-    requires { ⌜ (eqb kind 0 || ltb 5 kind) ≡ false ⌝ }
+    requires { ⌜ noKind kind ≡ false ⌝ }
     ensures answer { λ r. ⌜ r ≡ answered (Rattle.reader.specs.Calls.read kind (now (text .entry)) at (length (now (out .entry)))) ⌝ }
     ensures buffer { λ r. ⌜ now (out .exit) ≡ readBuffer kind (now (text .entry)) at (now (out .entry)) ⌝ }
 {
@@ -105,7 +111,7 @@ fn read_over(kind: u64, text: &[u8], at: usize, made: &mut [u8], out: &mut [u8])
         Parsed::Read(p) => {
             let n = p.next;
             if too_long(out.len(), p.len) {
-                return refused(4);
+                return refused(NO_ROOM);
             }
             write_item(kind, text, at, made, p.len, out);
             Answer::Item(p.len, n)
@@ -116,9 +122,9 @@ fn read_over(kind: u64, text: &[u8], at: usize, made: &mut [u8], out: &mut [u8])
 // Reads the item of the kind from `at` on, over a buffer of its own: most items are short enough to be read
 // once. Short texts may be deeply nested and have longer trees for their bytes.
 fn read_admitted(kind: u64, text: &[u8], at: usize, out: &mut [u8]) -> Answer
-    requires { ⌜ length (now text) ≤ 65535 ⌝ }
+    requires { ⌜ length (now text) ≤ textLimit ⌝ }
     requires { ⌜ at ≤ length (now text) ⌝ }
-    requires { ⌜ (eqb kind 0 || ltb 5 kind) ≡ false ⌝ }
+    requires { ⌜ noKind kind ≡ false ⌝ }
     ensures answer { λ r. ⌜ r ≡ answered (Rattle.reader.specs.Calls.read kind (now (text .entry)) at (length (now (out .entry)))) ⌝ }
     ensures buffer { λ r. ⌜ now (out .exit) ≡ readBuffer kind (now (text .entry)) at (now (out .entry)) ⌝ }
 {
@@ -136,13 +142,13 @@ pub fn read(kind: u64, text: &[u8], at: usize, out: &mut [u8]) -> Answer
     ensures buffer { λ r. ⌜ now (out .exit) ≡ readBuffer kind (now (text .entry)) at (now (out .entry)) ⌝ }
 {
     if TEXT_LIMIT < text.len() {
-        return refused(1);
+        return refused(TEXT_TOO_LONG);
     }
     if text.len() < at {
-        return refused(2);
+        return refused(START_PAST_END);
     }
     if no_kind(kind) {
-        return refused(3);
+        return refused(NO_SUCH_KIND);
     }
     read_admitted(kind, text, at, out)
 }

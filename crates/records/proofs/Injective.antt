@@ -1,5 +1,4 @@
 -- The stored form tells a tree from every other, but for its words.
--- Assumes nothing.
 use mathlib.Core.Path.{_≡_, refl, ap, sym, _∙_}
 use mathlib.Core.List.{List, [], _∷_, _++_, append-nil, append-assoc}
 use Prim.Native.Nat.{ℕ, _+_, _/_, _%_, _<_, _≤_}

@@ -1,5 +1,4 @@
 -- Spans in their parents' spans.
--- Assumes nothing.
 use Prim.Native.Nat.{ℕ, _≤_}
 use native.Mathlib.Omega.{arith}
 use Rattle.records.specs.Tree.{Tree, leaf, node, Trees, none, more, startOf, endOf, Nested, Within}

@@ -1,5 +1,4 @@
 -- Bytes moved up to make room for a head: what is left to move at each turn, and what a record holds that is written so.
--- Assumes nothing.
 use mathlib.Core.Path.{_≡_, refl, ap, sym, _∙_}
 use mathlib.Core.List.{List, [], _∷_, _++_, append-assoc}
 use Prim.Native.Nat.{ℕ, zero, suc, _+_, _-_, _<_, _≤_, min}

@@ -1,5 +1,4 @@
 -- A tree whose spans are nested and whose stored form and end have two bytes has two bytes for each number.
--- Assumes nothing.
 use Prim.Native.Nat.{ℕ, _<_}
 use native.Mathlib.Omega.{arith}
 use Rattle.records.specs.Tree.{Tree, leaf, node, Trees, none, more, startOf, endOf, Nested, Within}

@@ -1,5 +1,4 @@
 -- Trees with all places raised by k.
--- Assumes nothing.
 use Prim.Native.Nat.{ℕ, _+_}
 use Rattle.records.specs.Tree.{Tree, leaf, node, Trees, none, more}
 

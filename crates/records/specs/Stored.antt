@@ -1,5 +1,4 @@
 -- The stored form of a tree: length, kind, start and end of each record in two bytes each, the low one first, then its children.
--- Assumes nothing.
 use Prim.Native.Nat.{ℕ, _+_, _/_, _%_, _<_}
 use mathlib.Core.List.{List, [], _∷_, _++_}
 use lib.ListN.{length}

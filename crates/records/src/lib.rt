@@ -5,6 +5,8 @@ ghost use lib.ListN.{take, drop};
 ghost use lib.Seq.{sets};
 ghost use Rattle.records.specs.Stored.{two, span, header};
 
+pub mod kinds;
+
 // Writes a number in two bytes, the low one first.
 pub fn put_two(out: &mut [u8], pos: usize, v: usize)
     ensures { λ _. ⌜ now (out .exit) ≡ sets (now (out .entry)) pos (two v) ⌝ }

@@ -1,5 +1,4 @@
 -- What each return of the code of bindings gives, from what its callees gave.
--- Assumes nothing.
 use mathlib.Core.Path.{_≡_, refl, ap, sym, _∙_, subst}
 use mathlib.Core.Bool.{Bool, true, false}
 use mathlib.Core.List.{List, [], _∷_, _++_}
@@ -15,11 +14,13 @@ use Rattle.tokens.specs.Calls.{nextToken}
 use Rattle.tokens.specs.declared.Refusal.{Refusal}
 use Rattle.tokens.specs.declared.Token.{Token}
 use Rattle.tokens.specs.declared.Lexed.the-variants.{Found, Refused as Bad}
-use Rattle.records.specs.Tree.{nameKind, variableKind, structKind, structWithKind, fieldKind, bindListKind, lambdaListKind, Tree, leaf, node, Trees, none, more, joined, build}
-use Rattle.names.specs.Reading.{Ans, ok, no, then, look, when, braceTok, listBehind}
+use Rattle.records.specs.Kinds.{RecName, RecVariable, RecStruct, RecStructTyped, RecField, RecBindList, RecLambdaBindList}
+use Rattle.records.specs.Tree.{Tree, leaf, node, Trees, none, more, joined, build}
+use Rattle.words.specs.Kinds.{LBrace}
+use Rattle.names.specs.Reading.{Ans, ok, no, then, look, when, listBehind}
 use Rattle.names.specs.Names.{chain}
 use Rattle.names.specs.Parsed.{Stands, wordOf, scanned, admittedPart}
-use Rattle.names.proofs.Kinded.{Every, when-every}
+use Rattle.names.proofs.Every.{Every, when-every}
 use Rattle.names.proofs.Steps.{found-token, refused-token}
 use Rattle.names.proofs.Opening.{here}
 use Rattle.names.specs.Values.{value}
@@ -40,23 +41,23 @@ use Rattle.shows.proofs.Lines.{AllTrees, NoField, IsField, behind-all, 
 use Rattle.shows.proofs.Returns.{chain-on, scans-on, items-on, found-shown}
 
 -- what a record tells
-struct-tells : (s q : ℕ) (ts : Trees) → isFunction (node structKind s q ts) ≡ false
+struct-tells : (s q : ℕ) (ts : Trees) → isFunction (node RecStruct s q ts) ≡ false
 unfolding isFunction build kindOf
 struct-tells s q ts = refl
 
-with-tells : (s q : ℕ) (ts : Trees) → isFunction (node structWithKind s q ts) ≡ false
+with-tells : (s q : ℕ) (ts : Trees) → isFunction (node RecStructTyped s q ts) ≡ false
 unfolding isFunction build kindOf
 with-tells s q ts = refl
 
-field-tells : (s q : ℕ) (ts : Trees) → isFunction (node fieldKind s q ts) ≡ false
+field-tells : (s q : ℕ) (ts : Trees) → isFunction (node RecField s q ts) ≡ false
 unfolding isFunction build kindOf
 field-tells s q ts = refl
 
-variable-tells : (s q : ℕ) (w : List ℕ) → isFunction (leaf variableKind s q w) ≡ false
+variable-tells : (s q : ℕ) (w : List ℕ) → isFunction (leaf RecVariable s q w) ≡ false
 unfolding isFunction build kindOf
 variable-tells s q w = refl
 
-variable-line : (s q : ℕ) (w : List ℕ) → shown (leaf variableKind s q w) ≡ w
+variable-line : (s q : ℕ) (w : List ℕ) → shown (leaf RecVariable s q w) ≡ w
 unfolding shown build line
 variable-line s q w = refl
 
@@ -104,10 +105,10 @@ module _ (text : List ℕ) (left : ℕ) (a : Token) (h : Stands text a) (k : a .
     unfolding bindOver look when
     variable-shown e y w =
         let d = here text a h in
-        let is : nameHere ≡ ok (leaf variableKind (a .start) (a .end) (wordOf text a)) (a .end) (drop (a .end) text) = rw (eq-eqb (a .kind) 4 k, found-token text (d .fits) (a .end) (d .standing .2) n f .0, sym z ∙ y) in
-        shows-line shown isFunction nameHere (leaf variableKind (a .start) (a .end) (wordOf text a)) (a .end) (drop (a .end) text) pos l m (drawn e false n) is (sym (variable-tells (a .start) (a .end) (wordOf text a)))
+        let is : nameHere ≡ ok (leaf RecVariable (a .start) (a .end) (wordOf text a)) (a .end) (drop (a .end) text) = rw (eq-eqb (a .kind) 4 k, found-token text (d .fits) (a .end) (d .standing .2) n f .0, sym z ∙ y) in
+        shows-line shown isFunction nameHere (leaf RecVariable (a .start) (a .end) (wordOf text a)) (a .end) (drop (a .end) text) pos l m (drawn e false n) is (sym (variable-tells (a .start) (a .end) (wordOf text a)))
         (found-shown text (d .fits) (a .end) n (d .standing .2) f)
-        (placed-as l m (wordOf text a) (shown (leaf variableKind (a .start) (a .end) (wordOf text a))) pos e (sym (variable-line (a .start) (a .end) (wordOf text a))) w)
+        (placed-as l m (wordOf text a) (shown (leaf RecVariable (a .start) (a .end) (wordOf text a))) pos e (sym (variable-line (a .start) (a .end) (wordOf text a))) w)
 
 -- fields in braces
 module _ (text : List ℕ) (left : ℕ) (b : Token) (pos : ℕ) (l : List ℕ) where
@@ -167,10 +168,10 @@ module _ (text : List ℕ) (left : ℕ) (a : Token) (h : Stands text a) (pos : �
     unfolding structOver look when
     unpack-plain n s k y =
         let x : Ans Trees = fieldsOf (d .next) in
-        let is : unpackHere ≡ then x (λ fs q u. ok (node structKind (a .start) q (more (name .what) fs)) q u) =
+        let is : unpackHere ≡ then x (λ fs q u. ok (node RecStruct (a .start) q (more (name .what) fs)) q u) =
         with-name ∙ rw (name-scans, ne-eqb (d .next .kind) 25 k) in
-        shows-as shown isFunction unpackHere (then x λ fs q u. ok (node structKind (a .start) q (more (name .what) fs)) q u) pos l n s is
-        (shows-made (λ fs. shown (name .what) ++ bracesOf fs) never x pos l n shown isFunction (λ fs q. node structKind (a .start) q (more (name .what) fs))
+        shows-as shown isFunction unpackHere (then x λ fs q u. ok (node RecStruct (a .start) q (more (name .what) fs)) q u) pos l n s is
+        (shows-made (λ fs. shown (name .what) ++ bracesOf fs) never x pos l n shown isFunction (λ fs q. node RecStruct (a .start) q (more (name .what) fs))
         (λ fs q. struct-line (a .start) q (name .what) fs) (λ fs q. struct-tells (a .start) q (more (name .what) fs)) s
         (shows-behind bracesOf never x (d .pos) m n pos l (shown (name .what)) f (name .placed) s y))
 
@@ -179,7 +180,7 @@ module _ (text : List ℕ) (left : ℕ) (a : Token) (h : Stands text a) (pos : �
       types = listBehind (itemOf Plain left) 32 (d .next .start) (d .next .end) (drop (d .next .end) text)
 
       abbrev thenFields : Trees → ℕ → List ℕ → Ans Tree
-      thenFields ts q u = then (fields (readType left) (readField left (readBind left)) (lex q u)) λ fs q₂ u₂. ok (node structWithKind (a .start) q₂ (more (name .what) (joined ts fs))) q₂ u₂
+      thenFields ts q u = then (fields (readType left) (readField left (readBind left)) (lex q u)) λ fs q₂ u₂. ok (node RecStructTyped (a .start) q₂ (more (name .what) (joined ts fs))) q₂ u₂
 
       with-types : unpackHere ≡ then types thenFields
       unfolding structOver look when itemOf
@@ -218,7 +219,7 @@ module _ (text : List ℕ) (left : ℕ) (a : Token) (h : Stands text a) (pos : �
         rest = fieldsOf (i .next)
 
         abbrev whole : Trees → ℕ → List ℕ → Ans Tree
-        whole fs q₂ u₂ = ok (node structWithKind (a .start) q₂ (more (name .what) (joined (args .what) fs))) q₂ u₂
+        whole fs q₂ u₂ = ok (node RecStructTyped (a .start) q₂ (more (name .what) (joined (args .what) fs))) q₂ u₂
 
         unpack-is : unpackHere ≡ then rest whole
         unfolding then
@@ -227,17 +228,17 @@ module _ (text : List ℕ) (left : ℕ) (a : Token) (h : Stands text a) (pos : �
         all-fields : Every (AllTrees IsField) rest
         unfolding fields look
         all-fields =
-            when-every (AllTrees IsField) (eqb (i .next .kind) braceTok) _ _
-            (behind-all IsField (readField left (readBind left)) (field-is-field left (readBind left)) 61 (i .next .start) (i .next .end) (drop (i .next .end) text)) tt
+            when-every (AllTrees IsField) (eqb (i .next .kind) LBrace) _ _
+            (λ _. behind-all IsField (readField left (readBind left)) (field-is-field left (readBind left)) 61 (i .next .start) (i .next .end) (drop (i .next .end) text)) (λ _. tt)
 
         pub unpack-shown : (j : List ℕ) (s : Shown) → Shows bracesOf never rest q t j s → Shows shown isFunction unpackHere pos l j s
         unfolding then
         unpack-shown j (Refused r) z =
             shows-fails shown isFunction unpackHere pos l j r
-            (fails-as unpackHere (then rest whole) r unpack-is (fails-then whole rest r (fails bracesOf never rest q t j r z) (λ fs q₂ u₂ e. late (node structWithKind (a .start) q₂ (more (name .what) (joined (args .what) fs))) q₂ u₂ r e)))
+            (fails-as unpackHere (then rest whole) r unpack-is (fails-then whole rest r (fails bracesOf never rest q t j r z) (λ fs q₂ u₂ e. late (node RecStructTyped (a .start) q₂ (more (name .what) (joined (args .what) fs))) q₂ u₂ r e)))
         unpack-shown j (Line x) z =
             let b = drew bracesOf never rest q t j x z in
-            let u : Tree = node structWithKind (a .start) (b .at) (more (name .what) (joined (args .what) (b .what))) in
+            let u : Tree = node RecStructTyped (a .start) (b .at) (more (name .what) (joined (args .what) (b .what))) in
             let e : AllTrees IsField (b .what) = subst (Every (AllTrees IsField)) (b .is) all-fields in
             shows-line shown isFunction unpackHere u (b .at) (b .rest) pos l j x (unpack-is ∙ ap (λ (v : Ans Trees). then v whole) (b .is)) (b .tells ∙ sym (with-tells (a .start) (b .at) (more (name .what) (joined (args .what) (b .what))))) (b .next)
             (placed-as l j (pre ++ bracesOf (b .what)) (shown u) pos (x .pos) (sym (with-line (a .start) (b .at) (name .what) (args .what) (b .what) no-fields e))
@@ -279,15 +280,15 @@ module _ (text : List ℕ) (a : Token) (left pos : ℕ) (l : List ℕ) where
         label = placed-both l k₁ k₂ (wordOf text a) (bytes ": ") pos p q i w c
 
         abbrev named : Tree → ℕ → Tree
-        named t q₂ = node fieldKind (a .start) q₂ (more (leaf nameKind (a .start) (a .end) (wordOf text a)) (more t none))
+        named t q₂ = node RecField (a .start) q₂ (more (leaf RecName (a .start) (a .end) (wordOf text a)) (more t none))
 
         pub field-short : (m : List ℕ) (e : ℕ) → (n .kind ≡ 22 → ⊥) → Placed k₂ q (wordOf text a) e m → Shows shown isFunction fieldHere pos l m (Line (drawn e false n))
         unfolding fieldOver look when
         field-short m e x y =
             let d = here text a h in
-            let t : Tree = leaf variableKind (a .start) (a .end) (wordOf text a) in
+            let t : Tree = leaf RecVariable (a .start) (a .end) (wordOf text a) in
             let is : fieldHere ≡ ok (named t (a .end)) (a .end) (drop (a .end) text) = field-over ∙ rw (eq-eqb (a .kind) 4 k, found-token text (d .fits) (a .end) (d .standing .2) n f .0, ne-eqb (n .kind) 22 x) in
-            shows-line shown isFunction fieldHere (named t (a .end)) (a .end) (drop (a .end) text) pos l m (drawn e false n) is (sym (field-tells (a .start) (a .end) (more (leaf nameKind (a .start) (a .end) (wordOf text a)) (more t none))))
+            shows-line shown isFunction fieldHere (named t (a .end)) (a .end) (drop (a .end) text) pos l m (drawn e false n) is (sym (field-tells (a .start) (a .end) (more (leaf RecName (a .start) (a .end) (wordOf text a)) (more t none))))
             (found-shown text (d .fits) (a .end) n (d .standing .2) f)
             (placed-as l m ((wordOf text a ++ bytes ": ") ++ wordOf text a) (shown (named t (a .end))) pos e
             (sym (field-line (a .start) (a .end) (a .start) (a .end) (wordOf text a) t ∙ ap (λ (x : List ℕ). (wordOf text a ++ bytes ": ") ++ x) (variable-line (a .start) (a .end) (wordOf text a))))
@@ -313,7 +314,7 @@ module _ (text : List ℕ) (a : Token) (left pos : ℕ) (l : List ℕ) where
               shows-as shown isFunction fieldHere (then v λ t q₂ u₂. ok (named t q₂) q₂ u₂) pos l m (flagged false s)
               (field-bind ∙ ap (λ (j : Scanned). then (readBind left j) λ t q₂ u₂. ok (named t q₂) q₂ u₂) (found-token text (d .fits) (n .end) (g .1 .2) b e .0))
               (shows-made (λ t. (wordOf text a ++ bytes ": ") ++ shown t) (λ _. false) v pos l m shown isFunction (λ t q₂. named t q₂)
-              (λ t q₂. field-line (a .start) q₂ (a .start) (a .end) (wordOf text a) t) (λ t q₂. field-tells (a .start) q₂ (more (leaf nameKind (a .start) (a .end) (wordOf text a)) (more t none))) (flagged false s)
+              (λ t q₂. field-line (a .start) q₂ (a .start) (a .end) (wordOf text a) t) (λ t q₂. field-tells (a .start) q₂ (more (leaf RecName (a .start) (a .end) (wordOf text a)) (more t none))) (flagged false s)
               (shows-flag (λ t. (wordOf text a ++ bytes ": ") ++ shown t) isFunction v pos l m false s
               (shows-behind shown isFunction v q k₂ m pos l (wordOf text a ++ bytes ": ") i label s y)))
 
@@ -329,8 +330,8 @@ module _ (text : List ℕ) (a : Token) (pos p : ℕ) (l k m n : List ℕ) (s x :
       let y : Ans Trees = listBehind (itemOf Binding levels) 12 (a .start) (a .end) (drop (a .end) text) in
       let lk : length k ≤ last = omega (arith, placed-long l k (40 ∷ []) pos p w) in
       rw e
-      (shows-as shown never listHere (then y λ ts q u. ok (node bindListKind (a .start) q ts) q u) pos l n (marked s) (rw (eq-eqb (a .kind) 11 c))
-      (shows-made (λ ts. bytes "(" ++ (itemsOf Binding ts ++ (41 ∷ []))) never y pos l n shown never (λ ts q. node bindListKind (a .start) q ts) (λ ts q. list-line (a .start) q ts) (λ ts q. refl) (marked s)
+      (shows-as shown never listHere (then y λ ts q u. ok (node RecBindList (a .start) q ts) q u) pos l n (marked s) (rw (eq-eqb (a .kind) 11 c))
+      (shows-made (λ ts. bytes "(" ++ (itemsOf Binding ts ++ (41 ∷ []))) never y pos l n shown never (λ ts q. node RecBindList (a .start) q ts) (λ ts q. list-line (a .start) q ts) (λ ts q. refl) (marked s)
       (shows-behind (λ ts. itemsOf Binding ts ++ (41 ∷ [])) never y p k n pos l (bytes "(") i w (marked s) (shows-mark (itemsOf Binding) isNone y p k m 41 n lk s g z))))
 
   pub list-alone : (a .kind ≡ 11 → ⊥) → Placed l pos (40 ∷ []) p k → Shows shown isFunction (readBind levels (scanned text a)) p k m s → x ≡ marked s → n ≡ putMark 41 s m → Shows shown never listHere pos l n x
@@ -339,8 +340,8 @@ module _ (text : List ℕ) (a : Token) (pos p : ℕ) (l k m n : List ℕ) (s x :
       let y : Ans Tree = readBind levels (scanned text a) in
       let lk : length k ≤ last = omega (arith, placed-long l k (40 ∷ []) pos p w) in
       rw e
-      (shows-as shown never listHere (then y λ t q u. ok (node bindListKind (a .start) q (more t none)) q u) pos l n (marked s) (rw (ne-eqb (a .kind) 11 c))
-      (shows-made (λ t. bytes "(" ++ (shown t ++ (41 ∷ []))) never y pos l n shown never (λ t q. node bindListKind (a .start) q (more t none)) (λ t q. one-line (a .start) q t) (λ t q. refl) (marked s)
+      (shows-as shown never listHere (then y λ t q u. ok (node RecBindList (a .start) q (more t none)) q u) pos l n (marked s) (rw (ne-eqb (a .kind) 11 c))
+      (shows-made (λ t. bytes "(" ++ (shown t ++ (41 ∷ []))) never y pos l n shown never (λ t q. node RecBindList (a .start) q (more t none)) (λ t q. one-line (a .start) q t) (λ t q. refl) (marked s)
       (shows-behind (λ t. shown t ++ (41 ∷ [])) never y p k n pos l (bytes "(") i w (marked s) (shows-mark shown isFunction y p k m 41 n lk s g z))))
 
   abbrev lambdaHere : Ans Tree
@@ -353,8 +354,8 @@ module _ (text : List ℕ) (a : Token) (pos p : ℕ) (l k m n : List ℕ) (s x :
       let y : Ans Trees = listBehind (itemOf Binding levels) 59 (a .start) (a .end) (drop (a .end) text) in
       let lk : length k ≤ last = omega (arith, placed-long l k (124 ∷ []) pos p w) in
       rw e
-      (shows-as shown never lambdaHere (then y λ ts q u. ok (node lambdaListKind (a .start) q ts) q u) pos l n (barred s) (rw (eq-eqb (a .kind) 59 c))
-      (shows-made (λ ts. bytes "|" ++ (itemsOf Binding ts ++ barsEnd (isNone ts))) never y pos l n shown never (λ ts q. node lambdaListKind (a .start) q ts) (λ ts q. lambda-line (a .start) q ts) (λ ts q. refl) (barred s)
+      (shows-as shown never lambdaHere (then y λ ts q u. ok (node RecLambdaBindList (a .start) q ts) q u) pos l n (barred s) (rw (eq-eqb (a .kind) 59 c))
+      (shows-made (λ ts. bytes "|" ++ (itemsOf Binding ts ++ barsEnd (isNone ts))) never y pos l n shown never (λ ts q. node RecLambdaBindList (a .start) q ts) (λ ts q. lambda-line (a .start) q ts) (λ ts q. refl) (barred s)
       (shows-behind (λ ts. itemsOf Binding ts ++ barsEnd (isNone ts)) never y p k n pos l (bytes "|") i w (barred s) (shows-bar (itemsOf Binding) isNone y p k m n lk s g z))))
 
 pub lambda-other : (text : List ℕ) (a : Token) (pos : ℕ) (l m : List ℕ) (s : Shown) → (a .kind ≡ 59 → ⊥) → s ≡ refusedAt 10 a → Shows shown never (readLambdaList (scanned text a)) pos l m s

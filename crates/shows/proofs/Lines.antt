@@ -1,5 +1,4 @@
 -- The lines of records by those of their parts, as the code writes them.
--- Assumes nothing.
 use mathlib.Core.Path.{_≡_, refl, ap, ap₂, sym, _∙_}
 use mathlib.Core.Bool.{Bool, true, false, cond}
 use mathlib.Core.List.{List, _∷_, _++_, append-nil, append-assoc}
@@ -8,10 +7,12 @@ use lib.Dec.{eqb}
 use lib.ListN.{length}
 use Rattle.classes.specs.Bytes.{bytes}
 use Rattle.tokens.specs.Token.{Scanned, lex}
-use Rattle.records.specs.Tree.{typeKind, refKind, refMutKind, functionKind, tupleKind, structKind, structWithKind, fieldKind, bindListKind, lambdaListKind, Tree, leaf, node, Trees, none, more, behind, joined, respan, Build, Builds, build, builds}
-use Rattle.names.specs.Reading.{Ans, ok, no, commaTok, lessTok, ampTok, ampMutTok, openTok, closeTok, greaterTok, pipeTok, colonTok, identifierTok, closing, afterItem, list, listBehind}
+use Rattle.records.specs.Kinds.{RecType, RecRef, RecRefMut, RecFunction, RecTuple, RecStruct, RecStructTyped, RecField, RecBindList, RecLambdaBindList}
+use Rattle.records.specs.Tree.{Tree, leaf, node, Trees, none, more, behind, joined, respan, Build, Builds, build, builds}
+use Rattle.words.specs.Kinds.{Comma, Less, Amp, AmpMut, LParen, RParen, Greater, Pipe, Colon, Identifier}
+use Rattle.names.specs.Reading.{Ans, no, closing, afterItem, list, listBehind}
 use Rattle.names.specs.Names.{chain}
-use Rattle.names.proofs.Kinded.{Every, look-every, when-every, then-every, closed-every}
+use Rattle.names.proofs.Every.{Every, any-every, look-every, when-every, then-every, closed-every}
 use Rattle.types.specs.Types.{bracketed, withArguments, named, brackets, reference, function, typeOver, readType}
 use Rattle.binds.specs.Binds.{fieldOver, readField}
 use Rattle.lines.specs.Line.{Piece, plain, argument, arguments, others, commas, bars, angles, brackets as bracketsLine, braces, first, later, initial, final, select, isField, isType, shape, kindOf, line, pieces, shown}
@@ -66,7 +67,7 @@ bars-bindings none = ap (λ (x : List ℕ). 124 ∷ (x ++ bytes " |")) (commas-b
 bars-bindings (more t ts) = ap (λ (x : List ℕ). 124 ∷ (x ++ bytes "|")) (commas-bindings (more t ts))
 
 -- a function type: its arguments and its result
-pub function-line : (s q : ℕ) (ts : Trees) (t : Tree) → shown (node functionKind s q (behind ts t)) ≡ (bytes "|" ++ (itemsOf Argument ts ++ barsEnd (isNone ts))) ++ (bytes " " ++ shown t)
+pub function-line : (s q : ℕ) (ts : Trees) (t : Tree) → shown (node RecFunction s q (behind ts t)) ≡ (bytes "|" ++ (itemsOf Argument ts ++ barsEnd (isNone ts))) ++ (bytes " " ++ shown t)
 unfolding shown build line shape
 function-line s q ts t =
     ap (λ (bs : Builds). bars (arguments (initial (pieces bs))) ++ (bytes " " ++ final (pieces bs))) (builds-behind ts t)
@@ -75,20 +76,20 @@ function-line s q ts t =
     ∙ ap (λ (x : List ℕ). x ++ (bytes " " ++ line (build t))) (bars-arguments ts)
 
 -- types by their names
-pub named-line : (s q : ℕ) (c : Tree) → shown (node typeKind s q (more c none)) ≡ shown c
+pub named-line : (s q : ℕ) (c : Tree) → shown (node RecType s q (more c none)) ≡ shown c
 unfolding shown build builds line pieces shape first later plain angles
 named-line s q c = append-nil (line (build c))
 
-pub applied-line : (s q : ℕ) (c t : Tree) (ts : Trees) → shown (node typeKind s q (more c (more t ts))) ≡ shown c ++ (bytes "<" ++ (itemsOf Plain (more t ts) ++ bytes ">"))
+pub applied-line : (s q : ℕ) (c t : Tree) (ts : Trees) → shown (node RecType s q (more c (more t ts))) ≡ shown c ++ (bytes "<" ++ (itemsOf Plain (more t ts) ++ bytes ">"))
 unfolding shown build builds line pieces shape first later plain angles
 applied-line s q c t ts = ap (λ (x : List ℕ). line (build c) ++ (60 ∷ (x ++ bytes ">"))) (commas-types (more t ts))
 
-pub reference-line : (b : Bool) (s q : ℕ) (t : Tree) → shown (node (cond b refMutKind refKind) s q (more t none)) ≡ cond b (bytes "&mut ") (bytes "& ") ++ shown t
+pub reference-line : (b : Bool) (s q : ℕ) (t : Tree) → shown (node (cond b RecRefMut RecRef) s q (more t none)) ≡ cond b (bytes "&mut ") (bytes "& ") ++ shown t
 unfolding shown build builds line pieces shape first
 reference-line true s q t = refl
 reference-line false s q t = refl
 
-pub reference-plain : (b : Bool) (s q : ℕ) (t : Tree) → isFunction (node (cond b refMutKind refKind) s q (more t none)) ≡ false
+pub reference-plain : (b : Bool) (s q : ℕ) (t : Tree) → isFunction (node (cond b RecRefMut RecRef) s q (more t none)) ≡ false
 unfolding isFunction build kindOf
 reference-plain true s q t = refl
 reference-plain false s q t = refl
@@ -104,7 +105,7 @@ unfolding isFunction respan build kindOf
 respan-function s q (leaf k s₀ e₀ w) = refl
 respan-function s q (node k s₀ e₀ ts) = refl
 
-pub tuple-line : (s q : ℕ) (t : Tree) (ts : Trees) → shown (node tupleKind s q (more t ts)) ≡ (bytes "(" ++ shown t) ++ (restOf Plain ts ++ bytes ")")
+pub tuple-line : (s q : ℕ) (t : Tree) (ts : Trees) → shown (node RecTuple s q (more t ts)) ≡ (bytes "(" ++ shown t) ++ (restOf Plain ts ++ bytes ")")
 unfolding shown build line shape bracketsLine itemsOf formOf shownIn
 tuple-line s q t ts = ap (λ (x : List ℕ). 40 ∷ (x ++ bytes ")")) (commas-types (more t ts)) ∙ ap (_∷_ 40) (append-assoc (line (build t)) (restOf Plain ts) (bytes ")"))
 
@@ -113,23 +114,23 @@ unfolding shownIn argument isFunction
 argument-line t = refl
 
 -- bindings
-pub list-line : (s q : ℕ) (ts : Trees) → shown (node bindListKind s q ts) ≡ bytes "(" ++ (itemsOf Binding ts ++ bytes ")")
+pub list-line : (s q : ℕ) (ts : Trees) → shown (node RecBindList s q ts) ≡ bytes "(" ++ (itemsOf Binding ts ++ bytes ")")
 unfolding shown build line shape bracketsLine
 list-line s q ts = ap (λ (x : List ℕ). 40 ∷ (x ++ bytes ")")) (commas-bindings ts)
 
-pub one-line : (s q : ℕ) (t : Tree) → shown (node bindListKind s q (more t none)) ≡ bytes "(" ++ (shown t ++ bytes ")")
+pub one-line : (s q : ℕ) (t : Tree) → shown (node RecBindList s q (more t none)) ≡ bytes "(" ++ (shown t ++ bytes ")")
 unfolding itemsOf formOf shownIn restOf
 one-line s q t = list-line s q (more t none) ∙ ap (λ (x : List ℕ). 40 ∷ (x ++ bytes ")")) (append-nil (shown t))
 
-pub lambda-line : (s q : ℕ) (ts : Trees) → shown (node lambdaListKind s q ts) ≡ bytes "|" ++ (itemsOf Binding ts ++ barsEnd (isNone ts))
+pub lambda-line : (s q : ℕ) (ts : Trees) → shown (node RecLambdaBindList s q ts) ≡ bytes "|" ++ (itemsOf Binding ts ++ barsEnd (isNone ts))
 unfolding shown build line shape
 lambda-line s q ts = bars-bindings ts
 
-pub struct-line : (s q : ℕ) (c : Tree) (fs : Trees) → shown (node structKind s q (more c fs)) ≡ shown c ++ bracesOf fs
+pub struct-line : (s q : ℕ) (c : Tree) (fs : Trees) → shown (node RecStruct s q (more c fs)) ≡ shown c ++ bracesOf fs
 unfolding shown build builds line pieces shape first later braces bracesOf
 struct-line s q c fs = ap (λ (x : List ℕ). line (build c) ++ (32 ∷ 123 ∷ (x ++ bytes "}"))) (commas-fields fs)
 
-pub field-line : (s q s₂ e₂ : ℕ) (w : List ℕ) (t : Tree) → shown (node fieldKind s q (more (leaf 1 s₂ e₂ w) (more t none))) ≡ (w ++ bytes ": ") ++ shown t
+pub field-line : (s q s₂ e₂ : ℕ) (w : List ℕ) (t : Tree) → shown (node RecField s q (more (leaf 1 s₂ e₂ w) (more t none))) ≡ (w ++ bytes ": ") ++ shown t
 unfolding shown build builds line pieces shape first later
 field-line s q s₂ e₂ w t = sym (append-assoc w (bytes ": ") (line (build t)))
 
@@ -150,7 +151,7 @@ all-builds P none a = tt
 all-builds P (more t ts) a = (a .0, all-builds P ts (a .1))
 
 pub with-line : (s q : ℕ) (c : Tree) (ts fs : Trees) → AllTrees NoField ts → AllTrees IsField fs
-    → shown (node structWithKind s q (more c (joined ts fs))) ≡ ((shown c ++ bytes "<") ++ (itemsOf Plain ts ++ bytes ">")) ++ bracesOf fs
+    → shown (node RecStructTyped s q (more c (joined ts fs))) ≡ ((shown c ++ bytes "<") ++ (itemsOf Plain ts ++ bytes ">")) ++ bracesOf fs
 unfolding shown build builds line pieces shape first later braces bracesOf
 with-line s q c ts fs a b =
     let x : All (Is false) (builds ts) = all-builds (Is false) ts a in
@@ -168,15 +169,15 @@ module _ (P : Tree → Type 0) (item : Scanned → Ans Tree) (each : (l : Scanne
   unfolding list afterItem
   list-all zero l = tt
   list-all (suc f) l =
-      look-every (AllTrees P) l _ λ k s e w r.
-      closed-every (AllTrees P) (closing close k s e r) _ _ (λ q u. tt)
-      (when-every (AllTrees P) (eqb k commaTok) _ _ tt
-      (then-every P (AllTrees P) (item l) _ (each l) λ t q u h.
-      look-every (AllTrees P) (lex q u) _ λ k₂ s₂ e₂ w₂ r₂.
-      closed-every (AllTrees P) (closing close k₂ s₂ e₂ r₂) _ _ (λ q₂ u₂. (h, tt))
-      (when-every (AllTrees P) (eqb k₂ commaTok) _ _
-      (then-every (AllTrees P) (AllTrees P) (list item close o f (lex e₂ r₂)) _ (list-all f (lex e₂ r₂)) λ ts q₂ u₂ g. (h, g))
-      tt)))
+      look-every (AllTrees P) l _ λ k s e w r _.
+      closed-every (AllTrees P) (closing close k s e r) _ _ (λ q u. tt) λ _.
+      when-every (AllTrees P) (eqb k Comma) _ _ (λ _. tt) λ _.
+      then-every P (AllTrees P) (item l) _ (each l) λ t q u h.
+      look-every (AllTrees P) (lex q u) _ λ k₂ s₂ e₂ w₂ r₂ _.
+      closed-every (AllTrees P) (closing close k₂ s₂ e₂ r₂) _ _ (λ q₂ u₂. (h, tt)) λ _.
+      when-every (AllTrees P) (eqb k₂ Comma) _ _
+      (λ _. then-every (AllTrees P) (AllTrees P) (list item close o f (lex e₂ r₂)) _ (list-all f (lex e₂ r₂)) λ ts q₂ u₂ g. (h, g))
+      λ _. tt
 
   pub behind-all : (e : ℕ) (r : List ℕ) → Every (AllTrees P) (listBehind item close o e r)
   unfolding listBehind
@@ -191,36 +192,28 @@ bracketed-no-field s e (more t (more u ts)) a = refl
 
 pub type-no-field : (n : ℕ) (l : Scanned) → Every NoField (readType n l)
 unfolding readType typeOver brackets reference function named withArguments build kindOf isField
-type-no-field zero l = look-every NoField l _ λ k s e w r. tt
+type-no-field zero l = look-every NoField l _ λ k s e w r _. tt
 type-no-field (suc n) l =
-    look-every NoField l _ λ k s e w r.
-    when-every NoField (eqb k openTok) _ _
-    (then-every (AllTrees NoField) NoField (listBehind (readType n) closeTok s e r) _ (behind-all NoField (readType n) (type-no-field n) closeTok s e r) λ ts q u h. bracketed-no-field s q ts h)
-    (when-every NoField (eqb k ampTok) _ _ (then-every NoField NoField (readType n (lex e r)) _ (type-no-field n (lex e r)) λ t q u h. refl)
-    (when-every NoField (eqb k ampMutTok) _ _ (then-every NoField NoField (readType n (lex e r)) _ (type-no-field n (lex e r)) λ t q u h. refl)
-    (when-every NoField (eqb k pipeTok) _ _
-    (then-every (AllTrees NoField) NoField (listBehind (readType n) pipeTok s e r) _ (behind-all NoField (readType n) (type-no-field n) pipeTok s e r) λ ts q u h.
-    then-every NoField NoField (readType n (lex q u)) _ (type-no-field n (lex q u)) λ t q₂ u₂ g. refl)
-    (then-every (λ (t : Tree). Unit {0}) NoField (chain l) _ (any (chain l)) λ c q u h.
-    look-every NoField (lex q u) _ λ k₂ s₂ e₂ w₂ r₂.
-    when-every NoField (eqb k₂ lessTok) _ _
-    (then-every (AllTrees NoField) NoField (listBehind (readType n) greaterTok s₂ e₂ r₂) _ (behind-all NoField (readType n) (type-no-field n) greaterTok s₂ e₂ r₂) λ ts q₃ u₃ g. refl)
-    refl))))
-  where
-    any : (a : Ans Tree) → Every (λ (t : Tree). Unit {0}) a
-    any (ok t q u) = tt
-    any (no r) = tt
+    look-every NoField l _ λ k s e w r _.
+    when-every NoField (eqb k LParen) _ _
+    (λ _. then-every (AllTrees NoField) NoField (listBehind (readType n) RParen s e r) _ (behind-all NoField (readType n) (type-no-field n) RParen s e r) λ ts q u h. bracketed-no-field s q ts h) λ _.
+    when-every NoField (eqb k Amp) _ _ (λ _. then-every NoField NoField (readType n (lex e r)) _ (type-no-field n (lex e r)) λ t q u h. refl) λ _.
+    when-every NoField (eqb k AmpMut) _ _ (λ _. then-every NoField NoField (readType n (lex e r)) _ (type-no-field n (lex e r)) λ t q u h. refl) λ _.
+    when-every NoField (eqb k Pipe) _ _
+    (λ _. then-every (AllTrees NoField) NoField (listBehind (readType n) Pipe s e r) _ (behind-all NoField (readType n) (type-no-field n) Pipe s e r) λ ts q u h.
+    then-every NoField NoField (readType n (lex q u)) _ (type-no-field n (lex q u)) λ t q₂ u₂ g. refl) λ _.
+    then-every (λ (t : Tree). Unit {0}) NoField (chain l) _ (any-every (chain l)) λ c q u h.
+    look-every NoField (lex q u) _ λ k₂ s₂ e₂ w₂ r₂ _.
+    when-every NoField (eqb k₂ Less) _ _
+    (λ _. then-every (AllTrees NoField) NoField (listBehind (readType n) Greater s₂ e₂ r₂) _ (behind-all NoField (readType n) (type-no-field n) Greater s₂ e₂ r₂) λ ts q₃ u₃ g. refl)
+    λ _. refl
 
 pub field-is-field : (n : ℕ) (bind : Scanned → Ans Tree) (l : Scanned) → Every IsField (readField n bind l)
 unfolding readField fieldOver build kindOf isField
-field-is-field zero bind l = look-every IsField l _ λ k s e w r. tt
+field-is-field zero bind l = look-every IsField l _ λ k s e w r _. tt
 field-is-field (suc n) bind l =
-    look-every IsField l _ λ k s e w r.
-    when-every IsField (eqb k identifierTok) _ _
-    (look-every IsField (lex e r) _ λ k₂ s₂ e₂ w₂ r₂.
-    when-every IsField (eqb k₂ colonTok) _ _ (then-every (λ (t : Tree). Unit {0}) IsField (bind (lex e₂ r₂)) _ (any (bind (lex e₂ r₂))) λ t q u h. refl) refl)
-    tt
-  where
-    any : (a : Ans Tree) → Every (λ (t : Tree). Unit {0}) a
-    any (ok t q u) = tt
-    any (no r) = tt
+    look-every IsField l _ λ k s e w r _.
+    when-every IsField (eqb k Identifier) _ _
+    (λ _. look-every IsField (lex e r) _ λ k₂ s₂ e₂ w₂ r₂ _.
+    when-every IsField (eqb k₂ Colon) _ _ (λ _. then-every (λ (t : Tree). Unit {0}) IsField (bind (lex e₂ r₂)) _ (any-every (bind (lex e₂ r₂))) λ t q u h. refl) λ _. refl)
+    λ _. tt

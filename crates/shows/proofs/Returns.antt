@@ -1,5 +1,4 @@
 -- What each return of the code of the display gives, from what its callees gave.
--- Assumes nothing.
 use mathlib.Core.Path.{_≡_, refl, ap, sym, _∙_, subst}
 use mathlib.Core.Bool.{Bool, true, false, cond}
 use mathlib.Core.List.{List, [], _∷_, _++_, append-assoc}
@@ -19,9 +18,11 @@ use Rattle.tokens.specs.declared.Token.{Token}
 use Rattle.tokens.specs.declared.Lexed.the-variants.{Found, Refused as Bad}
 use Rattle.tokens.proofs.Again.{admitted-in, found-again}
 use Rattle.tokens.proofs.Lexing.{Good, Sound, lex-sound}
-use Rattle.records.specs.Tree.{typeKind, functionKind, unitKind, tupleKind, Tree, leaf, node, Trees, none, more, behind, respan, build}
+use Rattle.records.specs.Kinds.{RecType, RecFunction, RecUnit, RecTuple}
+use Rattle.records.specs.Tree.{Tree, leaf, node, Trees, none, more, behind, respan, build}
 use Rattle.records.specs.Stored.{stored}
-use Rattle.names.specs.Reading.{Ans, ok, no, refusal₂, then, look, when, commaTok, stays, closing, closed, afterItem, list, listBehind}
+use Rattle.words.specs.Kinds.{Comma}
+use Rattle.names.specs.Reading.{Ans, ok, no, refusal₂, then, look, when, stays, closing, closed, afterItem, list, listBehind}
 use Rattle.names.specs.Lists.{Passed, listStep, closesList, closeEnd, itemStep}
 use Rattle.names.specs.declared.Step.{Step}
 use Rattle.names.specs.declared.Step.the-variants.{Item as StepItem, Last, Refused as StepRefused}
@@ -33,7 +34,7 @@ use Rattle.names.specs.declared.Part.{Part}
 use Rattle.names.specs.declared.Parsed.the-variants.{Read as Parsed-read, Refused as Parsed-refused}
 use Rattle.names.proofs.Sure.{On, Sure, SureAll, behind-sure}
 use Rattle.names.proofs.Parts.{chain-from}
-use Rattle.names.proofs.Kinded.{Every, look-every, when-every, then-every, closed-every}
+use Rattle.names.proofs.Every.{Every, any-every, look-every, when-every, then-every, closed-every}
 use Rattle.names.proofs.Steps.{found-token, refused-token}
 use Rattle.names.proofs.Entries.{on-token}
 use Rattle.names.proofs.Listing.{opened}
@@ -159,23 +160,23 @@ pub token-refused : (a : Ans Tree) (n pos : ℕ) (l m : List ℕ) (t : Token) (s
 token-refused a n pos l m t s e z = rw e (shows-fails shown isFunction a pos l m (refusal n (t .start) (t .end)) (fails-no a (refusal n (t .start) (t .end)) (refusal n (t .start) (t .end)) z refl))
 
 -- what a record tells
-fun-true : (s q : ℕ) (ts : Trees) → isFunction (node functionKind s q ts) ≡ true
+fun-true : (s q : ℕ) (ts : Trees) → isFunction (node RecFunction s q ts) ≡ true
 unfolding isFunction build kindOf
 fun-true s q ts = refl
 
-type-tells : (s q : ℕ) (ts : Trees) → isFunction (node typeKind s q ts) ≡ false
+type-tells : (s q : ℕ) (ts : Trees) → isFunction (node RecType s q ts) ≡ false
 unfolding isFunction build kindOf
 type-tells s q ts = refl
 
-tuple-tells : (s q : ℕ) (ts : Trees) → isFunction (node tupleKind s q ts) ≡ false
+tuple-tells : (s q : ℕ) (ts : Trees) → isFunction (node RecTuple s q ts) ≡ false
 unfolding isFunction build kindOf
 tuple-tells s q ts = refl
 
-unit-tells : (s q : ℕ) → isFunction (leaf unitKind s q []) ≡ false
+unit-tells : (s q : ℕ) → isFunction (leaf RecUnit s q []) ≡ false
 unfolding isFunction build kindOf
 unit-tells s q = refl
 
-unit-line : (s q : ℕ) → shown (leaf unitKind s q []) ≡ bytes "()"
+unit-line : (s q : ℕ) → shown (leaf RecUnit s q []) ≡ bytes "()"
 unfolding shown build line
 unit-line s q = refl
 
@@ -211,7 +212,7 @@ module _ (text : List ℕ) (left : ℕ) (a : Token) (h : Stands text a) (pos : �
   funHere = function (readType left) (a .start) (a .end) (drop (a .end) text)
 
   abbrev result : Trees → ℕ → List ℕ → Ans Tree
-  result ts q u = then (readType left (lex q u)) λ t q₂ u₂. ok (node functionKind (a .start) q₂ (behind ts t)) q₂ u₂
+  result ts q u = then (readType left (lex q u)) λ t q₂ u₂. ok (node RecFunction (a .start) q₂ (behind ts t)) q₂ u₂
 
   fun-is : funHere ≡ then argsHere result
   unfolding function itemOf
@@ -239,11 +240,11 @@ module _ (text : List ℕ) (left : ℕ) (a : Token) (h : Stands text a) (pos : �
       let w₂ : Placed l pos pre z o =
       placed-both l n o (124 ∷ (itemsOf Argument ts ++ barsEnd (isNone ts))) (bytes " ") pos q z f
       (placed-both l k n (124 ∷ []) (itemsOf Argument ts ++ barsEnd (isNone ts)) pos p q f w (placed-both k m n (itemsOf Argument ts) (barsEnd (isNone ts)) p (i .pos) q lk (d .placed) c)) y in
-      let is : funHere ≡ then t (λ t q₂ u₂. ok (node functionKind (a .start) q₂ (behind ts t)) q₂ u₂) =
-      fun-is ∙ ap (λ (j : Ans Trees). then j result) (d .is) ∙ ap (λ (j : Scanned). then (readType left j) λ t q₂ u₂. ok (node functionKind (a .start) q₂ (behind ts t)) q₂ u₂)
+      let is : funHere ≡ then t (λ t q₂ u₂. ok (node RecFunction (a .start) q₂ (behind ts t)) q₂ u₂) =
+      fun-is ∙ ap (λ (j : Ans Trees). then j result) (d .is) ∙ ap (λ (j : Scanned). then (readType left j) λ t q₂ u₂. ok (node RecFunction (a .start) q₂ (behind ts t)) q₂ u₂)
       (scans-on text (a .end) (d .at) (d .rest) (i .next) (here text a h .fits) e (d .next)) in
-      shows-as shown isFunction funHere (then t λ t q₂ u₂. ok (node functionKind (a .start) q₂ (behind ts t)) q₂ u₂) pos l v (flagged true s) is
-      (shows-made (λ t. pre ++ shown t) (λ _. true) t pos l v shown isFunction (λ t q. node functionKind (a .start) q (behind ts t))
+      shows-as shown isFunction funHere (then t λ t q₂ u₂. ok (node RecFunction (a .start) q₂ (behind ts t)) q₂ u₂) pos l v (flagged true s) is
+      (shows-made (λ t. pre ++ shown t) (λ _. true) t pos l v shown isFunction (λ t q. node RecFunction (a .start) q (behind ts t))
       (λ t q. function-line (a .start) q ts t ∙ sym (append-assoc (124 ∷ (itemsOf Argument ts ++ barsEnd (isNone ts))) (bytes " ") (shown t))) (λ t q. fun-true (a .start) q (behind ts t)) (flagged true s)
       (shows-flag (λ t. pre ++ shown t) isFunction t pos l v true s (shows-behind shown isFunction t z o v pos l pre f w₂ s b)))
 
@@ -281,16 +282,16 @@ module _ (text : List ℕ) (left : ℕ) (a : Token) (h : Stands text a) (pos : �
     pub named-plain : (d .next .kind ≡ 25 → ⊥) → Shows shown isFunction namedHere pos l m (Line d)
     unfolding withArguments look when
     named-plain k =
-        let is : namedHere ≡ ok (node typeKind (a .start) (name .at) (more (name .what) none)) (name .at) (name .rest) = with-name ∙ rw (name-scans, ne-eqb (d .next .kind) 25 k) in
-        shows-line shown isFunction namedHere (node typeKind (a .start) (name .at) (more (name .what) none)) (name .at) (name .rest) pos l m d is (name .tells ∙ sym (type-tells (a .start) (name .at) (more (name .what) none))) (name .next)
-        (placed-as l m (shown (name .what)) (shown (node typeKind (a .start) (name .at) (more (name .what) none))) pos (d .pos) (sym (named-line (a .start) (name .at) (name .what))) (name .placed))
+        let is : namedHere ≡ ok (node RecType (a .start) (name .at) (more (name .what) none)) (name .at) (name .rest) = with-name ∙ rw (name-scans, ne-eqb (d .next .kind) 25 k) in
+        shows-line shown isFunction namedHere (node RecType (a .start) (name .at) (more (name .what) none)) (name .at) (name .rest) pos l m d is (name .tells ∙ sym (type-tells (a .start) (name .at) (more (name .what) none))) (name .next)
+        (placed-as l m (shown (name .what)) (shown (node RecType (a .start) (name .at) (more (name .what) none))) pos (d .pos) (sym (named-line (a .start) (name .at) (name .what))) (name .placed))
 
     module _ (k : d .next .kind ≡ 25) (p : ℕ) (i : p ≡ cap (d .pos + 1)) (f : length l ≤ last) where
       abbrev targs : Ans Trees
       targs = listBehind (itemOf Plain left) 32 (d .next .start) (d .next .end) (drop (d .next .end) text)
 
       abbrev applied : Trees → ℕ → List ℕ → Ans Tree
-      applied ts q u = ok (node typeKind (a .start) q (more (name .what) ts)) q u
+      applied ts q u = ok (node RecType (a .start) q (more (name .what) ts)) q u
 
       with-args : namedHere ≡ then targs applied
       unfolding withArguments look when itemOf
@@ -300,23 +301,23 @@ module _ (text : List ℕ) (left : ℕ) (a : Token) (h : Stands text a) (pos : �
           → Shows shown isFunction namedHere pos l o (Line (drawn (cond b (d .pos) (cap (j .pos + 1))) false (j .next)))
       unfolding then isNone itemsOf
       by-args n o j w none e true z y =
-          let is : namedHere ≡ ok (node typeKind (a .start) (w .at) (more (name .what) none)) (w .at) (w .rest) = with-args ∙ ap (λ (x : Ans Trees). then x applied) (w .is ∙ ap (λ (ts : Trees). ok ts (w .at) (w .rest)) e) in
+          let is : namedHere ≡ ok (node RecType (a .start) (w .at) (more (name .what) none)) (w .at) (w .rest) = with-args ∙ ap (λ (x : Ans Trees). then x applied) (w .is ∙ ap (λ (ts : Trees). ok ts (w .at) (w .rest)) e) in
           let same : n ≡ m = w .placed .holds ∙ ap (λ (ts : Trees). sets m p (itemsOf Plain ts)) e in
-          shows-line shown isFunction namedHere (node typeKind (a .start) (w .at) (more (name .what) none)) (w .at) (w .rest) pos l o (drawn (d .pos) false (j .next)) is (sym (type-tells (a .start) (w .at) (more (name .what) none))) (w .next)
-          (placed-as l o (shown (name .what)) (shown (node typeKind (a .start) (w .at) (more (name .what) none))) pos (d .pos) (sym (named-line (a .start) (w .at) (name .what)))
+          shows-line shown isFunction namedHere (node RecType (a .start) (w .at) (more (name .what) none)) (w .at) (w .rest) pos l o (drawn (d .pos) false (j .next)) is (sym (type-tells (a .start) (w .at) (more (name .what) none))) (w .next)
+          (placed-as l o (shown (name .what)) (shown (node RecType (a .start) (w .at) (more (name .what) none))) pos (d .pos) (sym (named-line (a .start) (w .at) (name .what)))
           (subst (λ (x : List ℕ). Placed l pos (shown (name .what)) (d .pos) x) (sym (y ∙ same)) (name .placed)))
       by-args n o j w none e false z y = false-true _ (sym z ∙ w .tells ∙ ap isNone e)
       by-args n o j w (more t ts) e true z y = false-true _ (sym (sym z ∙ w .tells ∙ ap isNone e))
       by-args n o j w (more t ts) e false z y =
-          let is : namedHere ≡ ok (node typeKind (a .start) (w .at) (more (name .what) (more t ts))) (w .at) (w .rest) = with-args ∙ ap (λ (x : Ans Trees). then x applied) (w .is ∙ ap (λ (ts : Trees). ok ts (w .at) (w .rest)) e) in
+          let is : namedHere ≡ ok (node RecType (a .start) (w .at) (more (name .what) (more t ts))) (w .at) (w .rest) = with-args ∙ ap (λ (x : Ans Trees). then x applied) (w .is ∙ ap (λ (ts : Trees). ok ts (w .at) (w .rest)) e) in
           let lm : length m ≤ last = omega (arith, placed-long l m (shown (name .what)) pos (d .pos) (name .placed)) in
           let xs : List ℕ = itemsOf Plain (more t ts) in
           let v : Placed m (cap (d .pos + 1)) xs (j .pos) n = subst (λ (x : ℕ). Placed m x xs (j .pos) n) i (subst (λ (us : Trees). Placed m p (itemsOf Plain us) (j .pos) n) e (w .placed)) in
           let u : Placed m (d .pos) (60 ∷ (xs ++ bytes ">")) (cap (j .pos + 1)) o =
           placed-both m (sets n (d .pos) (60 ∷ [])) o (60 ∷ xs) (bytes ">") (d .pos) (j .pos) (cap (j .pos + 1)) lm (placed-before m n (sets n (d .pos) (60 ∷ [])) xs (d .pos) (j .pos) 60 lm v refl) (record { ends = refl; holds = y }) in
-          shows-line shown isFunction namedHere (node typeKind (a .start) (w .at) (more (name .what) (more t ts))) (w .at) (w .rest) pos l o (drawn (cap (j .pos + 1)) false (j .next)) is
+          shows-line shown isFunction namedHere (node RecType (a .start) (w .at) (more (name .what) (more t ts))) (w .at) (w .rest) pos l o (drawn (cap (j .pos + 1)) false (j .next)) is
           (sym (type-tells (a .start) (w .at) (more (name .what) (more t ts)))) (w .next)
-          (placed-as l o (shown (name .what) ++ (60 ∷ (xs ++ bytes ">"))) (shown (node typeKind (a .start) (w .at) (more (name .what) (more t ts)))) pos (cap (j .pos + 1)) (sym (applied-line (a .start) (w .at) (name .what) t ts))
+          (placed-as l o (shown (name .what) ++ (60 ∷ (xs ++ bytes ">"))) (shown (node RecType (a .start) (w .at) (more (name .what) (more t ts)))) pos (cap (j .pos + 1)) (sym (applied-line (a .start) (w .at) (name .what) t ts))
           (placed-both l m o (shown (name .what)) (60 ∷ (xs ++ bytes ">")) pos (d .pos) (cap (j .pos + 1)) f (name .placed) u))
 
       pub named-applied : (n o : List ℕ) (s x : Shown) → Shows (itemsOf Plain) isNone targs p m n s → x ≡ angled (d .pos) s → o ≡ putAngles (d .pos) s n → Shows shown isFunction namedHere pos l o x
@@ -325,7 +326,7 @@ module _ (text : List ℕ) (left : ℕ) (a : Token) (h : Stands text a) (pos : �
       named-applied n o (Refused r) x y e z =
           rw e
           (shows-fails shown isFunction namedHere pos l o r
-          (fails-as namedHere (then targs applied) r with-args (fails-then applied targs r (fails (itemsOf Plain) isNone targs p m n r y) (λ ts q u v. late (node typeKind (a .start) q (more (name .what) ts)) q u r v))))
+          (fails-as namedHere (then targs applied) r with-args (fails-then applied targs r (fails (itemsOf Plain) isNone targs p m n r y) (λ ts q u v. late (node RecType (a .start) q (more (name .what) ts)) q u r v))))
 
 -- an argument of a function type
 pub argument-shown : (a : Ans Tree) (pos : ℕ) (l m o : List ℕ) (s x : Shown) → length l ≤ last → Shows shown isFunction a pos l m s → x ≡ enclosed s → o ≡ putBrackets pos s m → Shows (shownIn Argument) isFunction a pos l o x
@@ -355,16 +356,12 @@ argument-shown a pos l m o (Line d) x i g e z = rw e (by (d .flag) refl z)
 abbrev Some : Trees → Type 0
 Some ts = isNone ts ≡ false
 
-any : {A : Type 0} (x : Ans A) → Every (λ (t : A). Unit {0}) x
-any (ok t q u) = tt
-any (no r) = tt
-
 after-some : (again : Scanned → Ans Trees) (close o : ℕ) (t : Tree) (q : ℕ) (u : List ℕ) → Every Some (afterItem again close o t q u)
 unfolding afterItem isNone
 after-some again close o t q u =
-    look-every Some (lex q u) _ λ k s e w r.
-    closed-every Some (closing close k s e r) _ _ (λ q₂ u₂. refl)
-    (when-every Some (eqb k commaTok) _ _ (then-every (λ (ts : Trees). Unit {0}) Some (again (lex e r)) _ (any (again (lex e r))) λ ts q₂ u₂ _. refl) tt)
+    look-every Some (lex q u) _ λ k s e w r _.
+    closed-every Some (closing close k s e r) _ _ (λ q₂ u₂. refl) λ _.
+    when-every Some (eqb k Comma) _ _ (λ _. then-every (λ (ts : Trees). Unit {0}) Some (again (lex e r)) _ (any-every (again (lex e r))) λ ts q₂ u₂ _. refl) λ _. tt
 
 -- round brackets
 module _ (text : List ℕ) (left : ℕ) (a : Token) (h : Stands text a) (pos : ℕ) (l m : List ℕ) where
@@ -397,8 +394,8 @@ module _ (text : List ℕ) (left : ℕ) (a : Token) (h : Stands text a) (pos : �
   unfolding then bracketed
   round-empty o q p x g w e =
       let b = list-empty text fits Plain left 12 (a .start) (omega arith) true (a .end) (here text a h .standing .2) pos l m q g in
-      shows-finish shown isFunction text fits roundHere (leaf unitKind (a .start) q []) q pos p false l o x (b .on .inside) (round-is ∙ ap (λ (y : Ans Trees). then y boxed) (b .is)) (sym (unit-tells (a .start) q))
-      (placed-as l o (bytes "()") (shown (leaf unitKind (a .start) q [])) pos p (sym (unit-line (a .start) q)) (subst (λ (v : List ℕ). Placed v pos (bytes "()") p o) (b .same) w)) e
+      shows-finish shown isFunction text fits roundHere (leaf RecUnit (a .start) q []) q pos p false l o x (b .on .inside) (round-is ∙ ap (λ (y : Ans Trees). then y boxed) (b .is)) (sym (unit-tells (a .start) q))
+      (placed-as l o (bytes "()") (shown (leaf RecUnit (a .start) q [])) pos p (sym (unit-line (a .start) q)) (subst (λ (v : List ℕ). Placed v pos (bytes "()") p o) (b .same) w)) e
 
   pub round-single : (f : Passing) (x : Shown) → Steps (formOf true Plain) firstStep pos l m (Ended f) → x ≡ lined (f .pos) (f .flag) (nextToken text (f .at)) → Shows shown isFunction roundHere pos l m x
   unfolding then bracketed formOf shownIn
@@ -461,8 +458,8 @@ module _ (text : List ℕ) (left : ℕ) (a : Token) (h : Stands text a) (pos : �
       some-inside =
           let d = found-token text fits (f .at) round-inside b e in
           rw (d .0, stays-open)
-          (when-every Some (eqb (b .kind) commaTok) _ _ tt
-          (then-every (λ (t : Tree). Unit {0}) Some (itemOf Plain left (scanned text b)) _ (any (itemOf Plain left (scanned text b))) λ t q u _. after-some _ 12 (a .start) t q u))
+          (when-every Some (eqb (b .kind) Comma) _ _ (λ _. tt)
+          (λ _. then-every (λ (t : Tree). Unit {0}) Some (itemOf Plain left (scanned text b)) _ (any-every (itemOf Plain left (scanned text b))) λ t q u _. after-some _ 12 (a .start) t q u))
 
       tuple-by : (o n v : List ℕ) (p : ℕ) (d : Drawn) → length l ≤ last → Placed l pos (40 ∷ shown (item₁ .tree)) p o → (w : Drew (restOf Plain) never (inside (f .at)) p o n d) (ts : Trees) → w .what ≡ ts → isNone ts ≡ false
           → v ≡ sets n (d .pos) (41 ∷ []) → Shows shown isFunction roundHere pos l v (Line (drawn (cap (d .pos + 1)) false (d .next)))
@@ -470,12 +467,12 @@ module _ (text : List ℕ) (left : ℕ) (a : Token) (h : Stands text a) (pos : �
       tuple-by o n v p d i y w none z c x = false-true _ (sym c)
       tuple-by o n v p d i y w (more t ts) z c x =
           let us : Trees = more (item₁ .tree) (more t ts) in
-          let is : roundHere ≡ ok (node tupleKind (a .start) (w .at) us) (w .at) (w .rest) = round-made ∙ ap (λ (j : Ans Trees). then j made) (w .is ∙ ap (λ (vs : Trees). ok vs (w .at) (w .rest)) z) in
+          let is : roundHere ≡ ok (node RecTuple (a .start) (w .at) us) (w .at) (w .rest) = round-made ∙ ap (λ (j : Ans Trees). then j made) (w .is ∙ ap (λ (vs : Trees). ok vs (w .at) (w .rest)) z) in
           let r : List ℕ = restOf Plain (more t ts) in
           let q : Placed o p r (d .pos) n = subst (λ (vs : Trees). Placed o p (restOf Plain vs) (d .pos) n) z (w .placed) in
           let lo : length o ≤ last = omega (arith, placed-long l o (40 ∷ shown (item₁ .tree)) pos p y) in
-          shows-line shown isFunction roundHere (node tupleKind (a .start) (w .at) us) (w .at) (w .rest) pos l v (drawn (cap (d .pos + 1)) false (d .next)) is (sym (tuple-tells (a .start) (w .at) us)) (w .next)
-          (placed-as l v ((40 ∷ shown (item₁ .tree)) ++ (r ++ bytes ")")) (shown (node tupleKind (a .start) (w .at) us)) pos (cap (d .pos + 1)) (sym (tuple-line (a .start) (w .at) (item₁ .tree) (more t ts)))
+          shows-line shown isFunction roundHere (node RecTuple (a .start) (w .at) us) (w .at) (w .rest) pos l v (drawn (cap (d .pos + 1)) false (d .next)) is (sym (tuple-tells (a .start) (w .at) us)) (w .next)
+          (placed-as l v ((40 ∷ shown (item₁ .tree)) ++ (r ++ bytes ")")) (shown (node RecTuple (a .start) (w .at) us)) pos (cap (d .pos + 1)) (sym (tuple-line (a .start) (w .at) (item₁ .tree) (more t ts)))
           (placed-both l o v (40 ∷ shown (item₁ .tree)) (r ++ bytes ")") pos p (cap (d .pos + 1)) i y
           (placed-both o n v r (bytes ")") p (d .pos) (cap (d .pos + 1)) lo q (record { ends = refl; holds = x }))))
 
@@ -501,7 +498,7 @@ module _ (close o : ℕ) (d : Drawn) where
 
   pub after-refused : (r : Refusal) → Stepping (StepRefused r) (Stopped r)
   unfolding itemStep passAfter
-  after-refused r e = by (closesList close (d .next .kind)) (eqb (d .next .kind) commaTok) e
+  after-refused r e = by (closesList close (d .next .kind)) (eqb (d .next .kind) Comma) e
     where
       by : (x y : Bool) → cond x (Last (d .pos) (closeEnd close (d .next))) (cond y (StepItem (d .pos) (d .next .end)) (StepRefused (refusal₂ 12 (d .next .start) (d .next .start) o o))) ≡ StepRefused r
           → Stopped r ≡ cond x (Ended (passing (d .pos) (closeEnd close (d .next)) (d .flag))) (cond y (Onward (passing (d .pos) (d .next .end) (d .flag))) (Stopped (refusal₂ 12 (d .next .start) (d .next .start) o o)))
@@ -511,7 +508,7 @@ module _ (close o : ℕ) (d : Drawn) where
 
   pub after-last : (p q : ℕ) → Stepping (Last p q) (Ended (passing p q (d .flag)))
   unfolding itemStep passAfter
-  after-last p q e = by (closesList close (d .next .kind)) (eqb (d .next .kind) commaTok) e
+  after-last p q e = by (closesList close (d .next .kind)) (eqb (d .next .kind) Comma) e
     where
       by : (x y : Bool) → cond x (Last (d .pos) (closeEnd close (d .next))) (cond y (StepItem (d .pos) (d .next .end)) (StepRefused (refusal₂ 12 (d .next .start) (d .next .start) o o))) ≡ Last p q
           → Ended (passing p q (d .flag)) ≡ cond x (Ended (passing (d .pos) (closeEnd close (d .next)) (d .flag))) (cond y (Onward (passing (d .pos) (d .next .end) (d .flag))) (Stopped (refusal₂ 12 (d .next .start) (d .next .start) o o)))
@@ -521,7 +518,7 @@ module _ (close o : ℕ) (d : Drawn) where
 
   pub after-comma : (p q : ℕ) → Stepping (StepItem p q) (Onward (passing p q (d .flag)))
   unfolding itemStep passAfter
-  after-comma p q e = by (closesList close (d .next .kind)) (eqb (d .next .kind) commaTok) e
+  after-comma p q e = by (closesList close (d .next .kind)) (eqb (d .next .kind) Comma) e
     where
       by : (x y : Bool) → cond x (Last (d .pos) (closeEnd close (d .next))) (cond y (StepItem (d .pos) (d .next .end)) (StepRefused (refusal₂ 12 (d .next .start) (d .next .start) o o))) ≡ StepItem p q
           → Onward (passing p q (d .flag)) ≡ cond x (Ended (passing (d .pos) (closeEnd close (d .next)) (d .flag))) (cond y (Onward (passing (d .pos) (d .next .end) (d .flag))) (Stopped (refusal₂ 12 (d .next .start) (d .next .start) o o)))

@@ -1,5 +1,4 @@
 -- What the code answers and writes for what a reader reads, and how such answers are put together.
--- Assumes nothing.
 use mathlib.Core.Path.{_≡_, refl, ap, sym, _∙_, subst}
 use mathlib.Core.Bool.{Bool, true, false}
 use mathlib.Core.List.{List, [], _∷_, _++_}

@@ -1,5 +1,4 @@
 -- Names and values are shown by their tokens, one behind the other.
--- Assumes nothing.
 use mathlib.Core.Path.{_≡_, refl, ap, sym, _∙_, subst}
 use mathlib.Core.Bool.{Bool, true, false, cond, _&&_, _||_}
 use mathlib.Core.List.{List, [], _++_, append-nil, append-assoc}
@@ -20,10 +19,12 @@ use Rattle.tokens.specs.declared.Lexed.the-variants.{Found, Refused as Bad}
 use Rattle.tokens.proofs.Again.{admitted-in}
 use Rattle.tokens.proofs.Lexing.{Good}
 use Rattle.tokens.proofs.Spelled.{markKind, spelling, SpeltToken, lex-spelt}
-use Rattle.records.specs.Tree.{nameKind, addressKind, twoKind, threeKind, pairKind, Tree, leaf, node, none, more, spelled, build, builds}
+use Rattle.records.specs.Kinds.{RecName, RecAddress, RecTwoPart, RecThreePart, RecPair}
+use Rattle.records.specs.Tree.{Tree, leaf, node, none, more, spelled, build, builds}
 use Rattle.lines.specs.Line.{first, later, shape, line, pieces, shown}
 use Rattle.lines.specs.Words.{isPast, wordsOn, words}
-use Rattle.names.specs.Reading.{Ans, ok, no, look, identifierTok, numTok, colonsTok, atTok, typedTok, stringTok, trueTok, falseTok}
+use Rattle.words.specs.Kinds.{Identifier, NumValue, ColonColon, AtSign, NumTypedValue, ByteStringValue, True, False}
+use Rattle.names.specs.Reading.{Ans, ok, no, look}
 use Rattle.names.specs.Names.{isFirst, firstPart, lastPart, thirdPart, secondPart, chain}
 use Rattle.names.specs.Values.{leafKind, leafValue, addressValue, value}
 use Rattle.names.specs.Parsed.{wordOf, scanned}
@@ -88,14 +89,14 @@ unfolding spelling marks longMarks doubleMarks singleMarks
 at-spelling = refl
 
 -- a leaf that is no unit is shown as it is spelled
-first-shown : (b : Bool) (w : List ℕ) → line (spelled (cond b nameKind addressKind) w) ≡ w
+first-shown : (b : Bool) (w : List ℕ) → line (spelled (cond b RecName RecAddress) w) ≡ w
 unfolding line
 first-shown true w = refl
 first-shown false w = refl
 
 value-shown : (k b : ℕ) (w : List ℕ) → line (spelled (leafKind k b) w) ≡ w
 unfolding line leafKind
-value-shown k b w = by (eqb k trueTok) (eqb k falseTok) (eqb k numTok || eqb k typedTok) (eqb k stringTok) (eqb b 120)
+value-shown k b w = by (eqb k True) (eqb k False) (eqb k NumValue || eqb k NumTypedValue) (eqb k ByteStringValue) (eqb b 120)
   where
     by : (x y z u v : Bool) → line (spelled (cond x 32 (cond y 33 (cond z 31 (cond u (cond v 34 35) 0)))) w) ≡ w
     by true y z u v = refl
@@ -127,16 +128,16 @@ module _ (text : List ℕ) (a : Token) (h : Here text a) (stands : nextToken tex
 
   -- names of two and three parts
   two-shown : (s₃ e₃ : ℕ) (w₃ : List ℕ)
-      → shown (node twoKind (a .start) e₃ (more (firstPart (a .kind) (a .start) (a .end) (wordOf text a)) (more (leaf nameKind s₃ e₃ w₃) none))) ≡ wordOf text a ++ (bytes "::" ++ w₃)
+      → shown (node RecTwoPart (a .start) e₃ (more (firstPart (a .kind) (a .start) (a .end) (wordOf text a)) (more (leaf RecName s₃ e₃ w₃) none))) ≡ wordOf text a ++ (bytes "::" ++ w₃)
   unfolding shown build builds line pieces shape first later
-  two-shown s₃ e₃ w₃ = ap (λ (x : List ℕ). x ++ (bytes "::" ++ w₃)) (first-shown (eqb (a .kind) identifierTok) (wordOf text a))
+  two-shown s₃ e₃ w₃ = ap (λ (x : List ℕ). x ++ (bytes "::" ++ w₃)) (first-shown (eqb (a .kind) Identifier) (wordOf text a))
 
   three-shown : (s₃ e₃ : ℕ) (w₃ : List ℕ) (s₅ e₅ : ℕ) (w₅ : List ℕ)
-      → shown (node threeKind (a .start) e₅ (more (node pairKind (a .start) e₃ (more (firstPart (a .kind) (a .start) (a .end) (wordOf text a)) (more (leaf nameKind s₃ e₃ w₃) none))) (more (leaf nameKind s₅ e₅ w₅) none)))
+      → shown (node RecThreePart (a .start) e₅ (more (node RecPair (a .start) e₃ (more (firstPart (a .kind) (a .start) (a .end) (wordOf text a)) (more (leaf RecName s₃ e₃ w₃) none))) (more (leaf RecName s₅ e₅ w₅) none)))
       ≡ wordOf text a ++ (bytes "::" ++ (w₃ ++ (bytes "::" ++ w₅)))
   unfolding shown build builds line pieces shape first later
   three-shown s₃ e₃ w₃ s₅ e₅ w₅ =
-      ap (λ (x : List ℕ). (x ++ (bytes "::" ++ w₃)) ++ (bytes "::" ++ w₅)) (first-shown (eqb (a .kind) identifierTok) (wordOf text a))
+      ap (λ (x : List ℕ). (x ++ (bytes "::" ++ w₃)) ++ (bytes "::" ++ w₅)) (first-shown (eqb (a .kind) Identifier) (wordOf text a))
       ∙ append-assoc (wordOf text a) (bytes "::" ++ w₃) (bytes "::" ++ w₅)
 
   -- behind the first `::`, which is the token k₂ s₂ e₂
@@ -154,20 +155,20 @@ module _ (text : List ℕ) (a : Token) (h : Here text a) (stands : nextToken tex
     second-says =
         rw (g₂ .behind)
         (look-sure text SaysAll _ e₂ (g₂ .within) (λ r n. tt) λ k₃ s₃ e₃ w₃ r₃ l₃ g₃.
-        when-sure text SaysAll (eqb k₃ identifierTok) _ _
+        when-sure text SaysAll (eqb k₃ Identifier) _ _
         (λ b₃.
         let z₃ : k₃ ≡ 4 = eqb-true k₃ 4 b₃ in
         let f₃ = found-lex text (h .fits) e₂ k₃ s₃ e₃ w₃ r₃ (g₂ .within) l₃ in
         rw (g₃ .behind)
         (look-sure text SaysAll _ e₃ (g₃ .within) (λ r n. tt) λ k₄ s₄ e₄ w₄ r₄ l₄ g₄.
-        when-sure text SaysAll (eqb k₄ colonsTok) _ _
+        when-sure text SaysAll (eqb k₄ ColonColon) _ _
         (λ b₄.
         let z₄ : k₄ ≡ 23 = eqb-true k₄ 23 b₄ in
         let f₄ = found-lex text (h .fits) e₃ k₄ s₄ e₄ w₄ r₄ (g₃ .within) l₄ in
         let c₄ : w₄ ≡ bytes "::" = subst SpeltToken (l₄ ∙ ap (λ (x : ℕ). tok x s₄ e₄ w₄ r₄) z₄) (lex-spelt e₃ (drop e₃ text)) colons-kind ∙ colons-spelling in
         rw (g₄ .behind)
         (look-sure text SaysAll _ e₄ (g₄ .within) (λ r n. tt) λ k₅ s₅ e₅ w₅ r₅ l₅ g₅.
-        when-sure text SaysAll (eqb k₅ identifierTok) _ _
+        when-sure text SaysAll (eqb k₅ Identifier) _ _
         (λ b₅.
         let z₅ : k₅ ≡ 4 = eqb-true k₅ 4 b₅ in
         let f₅ = found-lex text (h .fits) e₄ k₅ s₅ e₅ w₅ r₅ (g₄ .within) l₅ in
@@ -200,21 +201,21 @@ module _ (text : List ℕ) (a : Token) (h : Here text a) (stands : nextToken tex
       when-sure text SaysAll (isFirst (a .kind)) _ _
       (λ b.
       look-sure text SaysAll _ (a .end) (h .standing .2) (λ r n. tt) λ k₂ s₂ e₂ w₂ r₂ l₂ g₂.
-      when-sure text SaysAll (eqb k₂ colonsTok) _ _
+      when-sure text SaysAll (eqb k₂ ColonColon) _ _
       (λ b₂.
       let z₂ : k₂ ≡ 23 = eqb-true k₂ 23 b₂ in
       second-says (first-kind b) s₂ e₂ w₂ r₂ (l₂ ∙ ap (λ (x : ℕ). tok x s₂ e₂ w₂ r₂) z₂) (subst (λ (x : ℕ). Good text (a .end) x s₂ e₂ w₂ r₂) z₂ g₂))
-      (λ _. when-sure text SaysAll (eqb (a .kind) identifierTok) _ _ (λ _. sym (alone (first-kind b))) (λ _. tt)))
+      (λ _. when-sure text SaysAll (eqb (a .kind) Identifier) _ _ (λ _. sym (alone (first-kind b))) (λ _. tt)))
       (λ _. tt)
 
   address-shown : (k₂ s₂ e₂ : ℕ) (w₂ : List ℕ) → shown (node 30 (a .start) e₂ (more (firstPart k₂ s₂ e₂ w₂) none)) ≡ bytes "@" ++ w₂
   unfolding shown build builds line pieces shape first
-  address-shown k₂ s₂ e₂ w₂ = ap (_++_ (bytes "@")) (first-shown (eqb k₂ identifierTok) w₂)
+  address-shown k₂ s₂ e₂ w₂ = ap (_++_ (bytes "@")) (first-shown (eqb k₂ Identifier) w₂)
 
   pub value-says : SaysAll (value (scanned text a))
   unfolding value look addressValue leafValue shown build
   value-says =
-      when-sure text SaysAll (eqb (a .kind) atTok) _ _
+      when-sure text SaysAll (eqb (a .kind) AtSign) _ _
       (λ b.
       let z : a .kind ≡ 67 = eqb-true (a .kind) 67 b in
       let c : wordOf text a ≡ bytes "@" = subst SpeltToken (h .lexes ∙ ap (λ (x : ℕ). tok x (a .start) (a .end) (wordOf text a) (drop (a .end) text)) z) (lex-spelt (a .start) (drop (a .start) text)) at-kind ∙ at-spelling in
@@ -231,7 +232,7 @@ module _ (text : List ℕ) (a : Token) (h : Here text a) (stands : nextToken tex
       (λ _. when-sure text SaysAll (eqb (leafKind (a .kind) (getD (wordOf text a) 0 0)) 0) _ _ (λ _. tt)
       (λ b.
       look-sure text SaysAll _ (a .end) (h .standing .2) (λ r n. tt) λ k₂ s₂ e₂ w₂ r₂ l₂ g₂.
-      when-sure text SaysAll (eqb (a .kind) numTok && eqb k₂ colonsTok) _ _ (λ _. tt)
+      when-sure text SaysAll (eqb (a .kind) NumValue && eqb k₂ ColonColon) _ _ (λ _. tt)
       (λ _. value-shown (a .kind) (getD (wordOf text a) 0 0) (wordOf text a) ∙ sym (alone (positive (a .kind) (λ e. kinds e b))))))
     where
       kinds : a .kind ≡ 0 → eqb (leafKind (a .kind) (getD (wordOf text a) 0 0)) 0 ≡ false → ⊥

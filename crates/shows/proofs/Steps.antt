@@ -1,5 +1,4 @@
 -- Lists by their steps, as the code shows them.
--- Assumes nothing.
 use mathlib.Core.Path.{_≡_, refl, ap, sym, _∙_, subst}
 use mathlib.Core.Bool.{Bool, true, false, cond}
 use mathlib.Core.List.{List, [], _++_, append-nil}
@@ -16,7 +15,8 @@ use Rattle.tokens.specs.declared.Token.{Token}
 use Rattle.tokens.specs.declared.Lexed.the-variants.{Found, Refused as Bad}
 use Rattle.tokens.proofs.Again.{admitted-in}
 use Rattle.records.specs.Tree.{Tree, Trees, none, more}
-use Rattle.names.specs.Reading.{Ans, ok, no, refusal₂, then, look, when, commaTok, listBehind}
+use Rattle.words.specs.Kinds.{Comma}
+use Rattle.names.specs.Reading.{Ans, ok, no, refusal₂, then, look, when, listBehind}
 use Rattle.names.specs.Parsed.{scanned, put}
 use Rattle.names.specs.Lists.{Passed, empty, ended, onward, stepAfter, listStep, goOn, closesList, closeEnd, beforeItem}
 use Rattle.names.specs.declared.Turn.{Turn}
@@ -178,7 +178,7 @@ module _ (text : List ℕ) (fits : length text ≤ textLimit) (s : Sort) (left c
         unfolding formOf
         whole = placed-both l k m (cond first [] (bytes ", ")) (shownIn s (view .what)) pos p (d .pos) h w (view .placed)
 
-        by-next : (x y : Bool) → closesList close (d .next .kind) ≡ x → eqb (d .next .kind) commaTok ≡ y
+        by-next : (x y : Bool) → closesList close (d .next .kind) ≡ x → eqb (d .next .kind) Comma ≡ y
             → Steps (formOf first s) (step at) pos l m
             (cond x (Ended (passing (d .pos) (closeEnd close (d .next)) (d .flag))) (cond y (Onward (passing (d .pos) (d .next .end) (d .flag))) (Stopped (refusal₂ 12 (d .next .start) (d .next .start) o o))))
         unfolding stepAfter look when
@@ -197,7 +197,7 @@ module _ (text : List ℕ) (fits : length text ≤ textLimit) (s : Sort) (left c
 
         pub step-item : (x : Pass) → x ≡ passAfter close o d → Steps (formOf first s) (step at) pos l m x
         unfolding passAfter
-        step-item x y = rw y (by-next (closesList close (d .next .kind)) (eqb (d .next .kind) commaTok) refl refl)
+        step-item x y = rw y (by-next (closesList close (d .next .kind)) (eqb (d .next .kind) Comma) refl refl)
 
   -- a list by its step
   module _ (first : Bool) (at : ℕ) (i : at ≤ length text) (pos : ℕ) (l m : List ℕ) where

@@ -1,11 +1,11 @@
 -- What the code of the display answers for what a reader reads, with the token that follows already read, and what it writes.
--- Assumes nothing.
 use Prim.Native.Nat.{ℕ, _+_, _<_, _≤_}
 use mathlib.Core.Bool.{Bool, true, false, cond}
 use mathlib.Core.List.{List, [], _∷_, _++_}
 use lib.Dec.{eqb}
 use lib.ListN.{length}
 use lib.Seq.{sets}
+use Rattle.tokens.specs.Refusals.{ListNotClosed}
 use Rattle.classes.specs.Bytes.{bytes}
 use Rattle.tokens.specs.Answers.{refusal}
 use Rattle.tokens.specs.Token.{Scanned, lex}
@@ -13,9 +13,11 @@ use Rattle.tokens.specs.Calls.{textLimit, lexed}
 use Rattle.tokens.specs.declared.Token.{Token}
 use Rattle.tokens.specs.declared.Lexed.{Lexed}
 use Rattle.tokens.specs.declared.Lexed.the-variants.{Found, Refused as Bad}
-use Rattle.records.specs.Tree.{functionKind, Tree, Trees, none, more, build}
+use Rattle.records.specs.Kinds.{RecFunction}
+use Rattle.records.specs.Tree.{Tree, Trees, none, more, build}
 use Rattle.lines.specs.Placed.{cap, opened}
-use Rattle.names.specs.Reading.{Ans, ok, no, refusal₂, commaTok}
+use Rattle.words.specs.Kinds.{Comma}
+use Rattle.names.specs.Reading.{Ans, ok, no, refusal₂}
 use Rattle.names.specs.Lists.{Passed, empty, ended, onward, closesList, closeEnd}
 use Rattle.types.specs.Types.{readType}
 use Rattle.binds.specs.Binds.{readField, readBind}
@@ -37,7 +39,7 @@ itemOf Field n = readField n (readBind n)
 itemOf Binding n = readBind n
 
 unfoldable pub isFunction : Tree → Bool
-isFunction t = eqb (kindOf (build t)) functionKind
+isFunction t = eqb (kindOf (build t)) RecFunction
 
 abbrev pub pieceOf : Tree → Piece
 pieceOf t = record { kind = kindOf (build t); text = shown t }
@@ -116,8 +118,8 @@ putPass one pos (no r) out = out
 unfoldable pub passAfter : ℕ → ℕ → Drawn → Pass
 passAfter close o d =
     cond (closesList close (d .next .kind)) (Ended (passing (d .pos) (closeEnd close (d .next)) (d .flag)))
-    (cond (eqb (d .next .kind) commaTok) (Onward (passing (d .pos) (d .next .end) (d .flag)))
-    (Stopped (refusal₂ 12 (d .next .start) (d .next .start) o o)))
+    (cond (eqb (d .next .kind) Comma) (Onward (passing (d .pos) (d .next .end) (d .flag)))
+    (Stopped (refusal₂ ListNotClosed (d .next .start) (d .next .start) o o)))
 
 -- the refusal of a token
 abbrev pub refusedAt : ℕ → Token → Shown

@@ -26,30 +26,20 @@ use tokens::Lexed;
 use tokens::Refusal;
 use tokens::TEXT_LIMIT;
 use tokens::Token;
-
-const LEVELS: usize = 64;
-
-const IDENTIFIER: u8 = 4;
-
-const AMP: u8 = 8;
-
-const AMP_MUT: u8 = 10;
-
-const OPEN: u8 = 11;
-
-const CLOSE: u8 = 12;
-
-const COLON: u8 = 22;
-
-const LESS: u8 = 25;
-
-const GREATER: u8 = 32;
-
-const L_BRACE: u8 = 58;
-
-const PIPE: u8 = 59;
-
-const R_BRACE: u8 = 61;
+use tokens::refusals::TOO_DEEP;
+use tokens::refusals::UNEXPECTED_TOKEN;
+use types::LEVELS;
+use words::kinds::AMP;
+use words::kinds::AMP_MUT;
+use words::kinds::COLON;
+use words::kinds::GREATER;
+use words::kinds::IDENTIFIER;
+use words::kinds::L_BRACE;
+use words::kinds::L_PAREN;
+use words::kinds::LESS;
+use words::kinds::PIPE;
+use words::kinds::R_BRACE;
+use words::kinds::R_PAREN;
 
 // What was shown: where the line goes on, and the token that follows. The flag tells of a type whether it
 // is a function type, and of a list whether it has no item.
@@ -294,9 +284,9 @@ fn show_type(text: &[u8], a: Token, left: usize, out: &mut [u8], pos: usize) -> 
     ensures bytes { λ r. ⌜ keptLine r (now (out .exit)) ≡ keptLine r (put shown pos (readType left (scanned (now (text .entry)) a)) (now (out .entry))) ⌝ }
 {
     if left == 0 {
-        return refused_at(14, a);
+        return refused_at(TOO_DEEP, a);
     }
-    if a.kind == OPEN {
+    if a.kind == L_PAREN {
         return show_round(text, a, left - 1, out, pos);
     }
     if a.kind == AMP {
@@ -343,7 +333,7 @@ fn show_round(text: &[u8], a: Token, left: usize, out: &mut [u8], pos: usize) ->
         text,
         a.start,
         a.end,
-        CLOSE,
+        R_PAREN,
         Sort::Plain,
         true,
         left,
@@ -362,11 +352,11 @@ fn show_round(text: &[u8], a: Token, left: usize, out: &mut [u8], pos: usize) ->
             match l {
                 Lexed::Refused(r) => Shown::Refused(r),
                 Lexed::Found(b) => {
-                    if b.kind == CLOSE {
+                    if b.kind == R_PAREN {
                         return finish(text, b.end, f.pos, f.flag);
                     }
                     let p = lines::open_bracket(out, pos, f.pos);
-                    let t = show_rest(text, a.start, f.at, CLOSE, Sort::Plain, left, out, p);
+                    let t = show_rest(text, a.start, f.at, R_PAREN, Sort::Plain, left, out, p);
                     mark_behind(t, 41, out)
                 }
             }
@@ -427,7 +417,7 @@ fn show_bind(text: &[u8], a: Token, left: usize, out: &mut [u8], pos: usize) -> 
     ensures bytes { λ r. ⌜ keptLine r (now (out .exit)) ≡ keptLine r (put shown pos (readBind left (scanned (now (text .entry)) a)) (now (out .entry))) ⌝ }
 {
     if left == 0 {
-        return refused_at(14, a);
+        return refused_at(TOO_DEEP, a);
     }
     if a.kind == IDENTIFIER {
         return show_variable(text, a, left - 1, out, pos);
@@ -494,7 +484,7 @@ fn show_fields(text: &[u8], b: Token, left: usize, out: &mut [u8], pos: usize) -
     ensures bytes { λ r. ⌜ keptLine r (now (out .exit)) ≡ keptLine r (put bracesOf pos (fields (readType left) (readField left (readBind left)) (scanned (now (text .entry)) b)) (now (out .entry))) ⌝ }
 {
     if b.kind != L_BRACE {
-        return refused_at(10, b);
+        return refused_at(UNEXPECTED_TOKEN, b);
     }
     let p = lines::put_marks(out, pos, 32, 123);
     let l = show_items(text, b.start, b.end, R_BRACE, Sort::Field, left, out, p);
@@ -509,10 +499,10 @@ fn show_field(text: &[u8], a: Token, left: usize, out: &mut [u8], pos: usize) ->
     ensures bytes { λ r. ⌜ keptLine r (now (out .exit)) ≡ keptLine r (put shown pos (readField left (readBind left) (scanned (now (text .entry)) a)) (now (out .entry))) ⌝ }
 {
     if left == 0 {
-        return refused_at(14, a);
+        return refused_at(TOO_DEEP, a);
     }
     if a.kind != IDENTIFIER {
-        return refused_at(10, a);
+        return refused_at(UNEXPECTED_TOKEN, a);
     }
     let l = tokens::next_token(text, a.end);
     match l {
@@ -670,8 +660,8 @@ fn show_bind_list(text: &[u8], a: Token, out: &mut [u8]) -> Shown
     ensures bytes { λ r. ⌜ keptLine r (now (out .exit)) ≡ keptLine r (put shown 0 (readBindList (scanned (now (text .entry)) a)) (now (out .entry))) ⌝ }
 {
     let p = lines::put_mark(out, 0, 40);
-    if a.kind == OPEN {
-        let f = show_items(text, a.start, a.end, CLOSE, Sort::Binding, LEVELS, out, p);
+    if a.kind == L_PAREN {
+        let f = show_items(text, a.start, a.end, R_PAREN, Sort::Binding, LEVELS, out, p);
         return mark_behind(f, 41, out);
     }
     let f = show_bind(text, a, LEVELS, out, p);
@@ -685,7 +675,7 @@ fn show_lambda_list(text: &[u8], a: Token, out: &mut [u8]) -> Shown
     ensures bytes { λ r. ⌜ keptLine r (now (out .exit)) ≡ keptLine r (put shown 0 (readLambdaList (scanned (now (text .entry)) a)) (now (out .entry))) ⌝ }
 {
     if a.kind != PIPE {
-        return refused_at(10, a);
+        return refused_at(UNEXPECTED_TOKEN, a);
     }
     let p = lines::put_mark(out, 0, 124);
     let f = show_items(text, a.start, a.end, PIPE, Sort::Binding, LEVELS, out, p);

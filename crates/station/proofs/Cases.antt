@@ -1,5 +1,4 @@
 -- The number and the values of each case of an answer.
--- Assumes nothing.
 use mathlib.Core.Path.{_≡_, refl}
 use mathlib.Core.List.{List, [], _∷_}
 use Prim.Native.Nat.{ℕ}
@@ -11,6 +10,12 @@ use Rattle.tokens.specs.declared.Lexed.{Lexed}
 use Rattle.tokens.specs.declared.Lexed.the-variants.{Found, Refused}
 use Rattle.tokens.specs.declared.DocComment.{DocComment}
 use Rattle.tokens.specs.declared.DocComment.the-variants.{Doc, Nothing, Broken}
+use Rattle.reader.specs.Calls.{readNumber, readValues}
+use Rattle.reader.specs.declared.Answer.{Answer}
+use Rattle.reader.specs.declared.Answer.the-variants.{Item, Refused as Rejected}
+use Rattle.display.specs.Calls.{displayNumber, displayValues}
+use Rattle.display.specs.declared.Displayed.{Displayed}
+use Rattle.display.specs.declared.Displayed.the-variants.{Line, Refused as Undisplayed}
 
 module _ (a : Lexed) where
   pub found : (t : Token) → a ≡ Found t → (0 ≡ tokenNumber a) × (t .kind ∷ t .start ∷ t .end ∷ 0 ∷ 0 ∷ 0 ∷ [] ≡ tokenValues a)
@@ -33,3 +38,21 @@ module _ (a : DocComment) where
   pub broken : (r : Refusal) → a ≡ Broken r → (v : List ℕ) → v ≡ places r → (r .number ≡ commentNumber a) × (v ≡ commentValues a)
   unfolding commentNumber commentValues
   broken r e v f = rw e (refl, f)
+
+module _ (a : Answer) where
+  pub item : (n : ℕ) (t : Token) → a ≡ Item n t → (0 ≡ readNumber a) × (n ∷ t .kind ∷ t .start ∷ t .end ∷ 0 ∷ 0 ∷ [] ≡ readValues a)
+  unfolding readNumber readValues
+  item n t e = rw e (refl, refl)
+
+  pub rejected : (r : Refusal) → a ≡ Rejected r → (v : List ℕ) → v ≡ places r → (r .number ≡ readNumber a) × (v ≡ readValues a)
+  unfolding readNumber readValues
+  rejected r e v f = rw e (refl, f)
+
+module _ (a : Displayed) where
+  pub line : (n : ℕ) → a ≡ Line n → (0 ≡ displayNumber a) × (n ∷ 0 ∷ 0 ∷ 0 ∷ 0 ∷ 0 ∷ [] ≡ displayValues a)
+  unfolding displayNumber displayValues
+  line n e = rw e (refl, refl)
+
+  pub undisplayed : (r : Refusal) → a ≡ Undisplayed r → (v : List ℕ) → v ≡ places r → (r .number ≡ displayNumber a) × (v ≡ displayValues a)
+  unfolding displayNumber displayValues
+  undisplayed r e v f = rw e (refl, f)

@@ -4,8 +4,8 @@ ghost use mathlib.Core.Path.{_≡_};
 ghost use Rattle.tokens.specs.Answers.{places, tokenNumber, tokenValues, commentNumber, commentValues};
 ghost use Rattle.tokens.specs.Calls.{nextToken, nextComment};
 ghost use lib.ListN.{length};
-ghost use Rattle.reader.specs.Calls.{readNumber, readValues, read, readBuffer};
-ghost use Rattle.display.specs.Calls.{displayNumber, displayValues, display, displayBuffer};
+ghost use Rattle.reader.specs.Calls.{answered, readNumber, readValues, read, readBuffer};
+ghost use Rattle.display.specs.Calls.{displayed, displayNumber, displayValues, display, displayBuffer};
 use display::Displayed;
 use reader::Answer;
 use tokens::DocComment;
@@ -84,8 +84,8 @@ pub extern "C" fn movesig_read(
     out: &mut [u8],
     answer: &mut [u64; 6],
 ) -> u32
-    ensures number { λ r. ⌜ r ≡ readNumber (read kind (now (text .entry)) at (length (now (out .entry)))) ⌝ }
-    ensures values { λ r. ⌜ now (answer .exit) ≡ readValues (read kind (now (text .entry)) at (length (now (out .entry)))) ⌝ }
+    ensures number { λ r. ⌜ r ≡ readNumber (answered (read kind (now (text .entry)) at (length (now (out .entry))))) ⌝ }
+    ensures values { λ r. ⌜ now (answer .exit) ≡ readValues (answered (read kind (now (text .entry)) at (length (now (out .entry))))) ⌝ }
     ensures buffer { λ r. ⌜ now (out .exit) ≡ readBuffer kind (now (text .entry)) at (now (out .entry)) ⌝ }
 {
     let a = reader::read(kind, text, at, out);
@@ -110,8 +110,8 @@ pub extern "C" fn movesig_display(
     line: &mut [u8],
     answer: &mut [u64; 6],
 ) -> u32
-    ensures number { λ r. ⌜ r ≡ displayNumber (display kind (now (text .entry)) at (length (now (line .entry)))) ⌝ }
-    ensures values { λ r. ⌜ now (answer .exit) ≡ displayValues (display kind (now (text .entry)) at (length (now (line .entry)))) ⌝ }
+    ensures number { λ r. ⌜ r ≡ displayNumber (displayed (display kind (now (text .entry)) at (length (now (line .entry))))) ⌝ }
+    ensures values { λ r. ⌜ now (answer .exit) ≡ displayValues (displayed (display kind (now (text .entry)) at (length (now (line .entry))))) ⌝ }
     ensures buffer { λ r. ⌜ now (line .exit) ≡ displayBuffer kind (now (text .entry)) at (now (line .entry)) ⌝ }
 {
     let d = display::display(kind, text, at, line);

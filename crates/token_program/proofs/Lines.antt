@@ -1,5 +1,4 @@
 -- What is written, piece by piece, is the definition's line.
--- Assumes nothing.
 use mathlib.Core.Path.{_≡_}
 use mathlib.Core.List.{List, [], _∷_}
 use Prim.Native.Nat.{ℕ, _+_, _/_, _%_, _<_, _≤_}
@@ -10,7 +9,7 @@ use lib.Seq.{take-suc, take-all}
 use native.Mathlib.Nat.{add-assoc, add-zero}
 use Rattle.buffer.specs.Written.{Written}
 use Rattle.buffer.proofs.Sets.{written-none, written-one, written-both}
-use Rattle.token_program.specs.Printed.{digit, decimal, threeLine}
+use Rattle.token_program.specs.Printed.{digit, inDecimal, threeLine}
 
 pub digit-shown : (l m : List ℕ) (i n u b : ℕ) → u ≤ n → b ≡ 48 + n / u % 10 → m ≡ set l i b → Written l i (digit u n) (i + 1) m
 unfolding digit
@@ -22,13 +21,13 @@ digit-left-out l i n u h = rw (lt-leb u n h) (written-none l i)
 
 pub decimal-written : (n : ℕ) {l₀ l₁ l₂ l₃ l₄ l₅ : List ℕ} {i a b c d e x : ℕ}
     → Written l₀ i (digit 10000 n) a l₁ → Written l₁ a (digit 1000 n) b l₂ → Written l₂ b (digit 100 n) c l₃ → Written l₃ c (digit 10 n) d l₄
-    → x ≡ 48 + n % 10 → Written l₄ d (x ∷ []) e l₅ → Written l₀ i (decimal n) e l₅
-unfolding decimal
+    → x ≡ 48 + n % 10 → Written l₄ d (x ∷ []) e l₅ → Written l₀ i (inDecimal n) e l₅
+unfolding inDecimal
 decimal-written n f g h k q m =
     written-both _ _ _ _ _ _ _ _ f (written-both _ _ _ _ _ _ _ _ g (written-both _ _ _ _ _ _ _ _ h (written-both _ _ _ _ _ _ _ _ k (rw q at m))))
 
 pub three-written : (a b c : ℕ) {l₀ l₁ l₂ l₃ l₄ l₅ l₆ : List ℕ} {i j k l m n o : ℕ}
-    → Written l₀ i (decimal a) j l₁ → Written l₁ j (32 ∷ []) k l₂ → Written l₂ k (decimal b) l l₃ → Written l₃ l (32 ∷ []) m l₄ → Written l₄ m (decimal c) n l₅
+    → Written l₀ i (inDecimal a) j l₁ → Written l₁ j (32 ∷ []) k l₂ → Written l₂ k (inDecimal b) l l₃ → Written l₃ l (32 ∷ []) m l₄ → Written l₄ m (inDecimal c) n l₅
     → Written l₅ n (10 ∷ []) o l₆ → Written l₀ i (threeLine a b c) o l₆
 unfolding threeLine
 three-written a b c f g h k q m =

@@ -1,5 +1,4 @@
 -- What the token program prints: a line for each token, EOF last, or a refusal's line behind the tokens before it.
--- Assumes nothing.
 use Prim.Native.Nat.{ℕ, _+_, _/_, _%_}
 use mathlib.Core.Bool.{cond}
 use mathlib.Core.List.{List, [], _∷_, _++_}
@@ -14,12 +13,12 @@ unfoldable pub digit : ℕ → ℕ → List ℕ
 digit u n = cond (leb u n) ((48 + n / u % 10) ∷ []) []
 
 -- a number below 100,000 in decimal
-unfoldable pub decimal : ℕ → List ℕ
-decimal n = digit 10000 n ++ (digit 1000 n ++ (digit 100 n ++ (digit 10 n ++ ((48 + n % 10) ∷ []))))
+unfoldable pub inDecimal : ℕ → List ℕ
+inDecimal n = digit 10000 n ++ (digit 1000 n ++ (digit 100 n ++ (digit 10 n ++ ((48 + n % 10) ∷ []))))
 
 -- three numbers with single blanks, and LF
 unfoldable pub threeLine : ℕ → ℕ → ℕ → List ℕ
-threeLine a b c = decimal a ++ ((32 ∷ []) ++ (decimal b ++ ((32 ∷ []) ++ (decimal c ++ (10 ∷ [])))))
+threeLine a b c = inDecimal a ++ ((32 ∷ []) ++ (inDecimal b ++ ((32 ∷ []) ++ (inDecimal c ++ (10 ∷ [])))))
 
 unfoldable pub tokenLine : Token → List ℕ
 tokenLine t = threeLine (t .kind) (t .start) (t .end)

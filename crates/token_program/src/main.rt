@@ -5,13 +5,14 @@ ghost use lib.ListN.{length};
 ghost use mathlib.Core.List.{[], _∷_};
 ghost use Rattle.classes.specs.Bytes.{bytes};
 ghost use Rattle.buffer.specs.Written.{Written};
-ghost use Rattle.token_program.specs.Printed.{digit, decimal, threeLine, tokenLine, refusedLine, printed};
+ghost use Rattle.token_program.specs.Printed.{digit, inDecimal, threeLine, tokenLine, refusedLine, printed};
 ghost use Rattle.tokens.specs.Walk.{tokensOf};
 use libc::STDIN_FILENO;
 use libc::STDOUT_FILENO;
 use tokens::Lexed;
 use tokens::Refusal;
 use tokens::Token;
+use words::kinds::EOF;
 
 // Writes the digit of n that counts u's, where n reaches it, and answers where it ends.
 fn put_digit(out: &mut [u8], pos: usize, n: usize, u: usize) -> usize
@@ -20,7 +21,7 @@ fn put_digit(out: &mut [u8], pos: usize, n: usize, u: usize) -> usize
     ensures { λ r. ⌜ r ≤ pos + 1 ⌝ }
 {
     if u <= n {
-        buffer::put(out, pos, 48 + (n / u % 10) as u8);
+        buffer::put(out, pos, b'0' + (n / u % 10) as u8);
         return pos + 1;
     }
     pos
@@ -39,28 +40,28 @@ fn put_byte(out: &mut [u8], pos: usize, b: u8) -> usize
 // Writes n in decimal, and answers where it ends.
 fn put_decimal(out: &mut [u8], pos: usize, n: usize) -> usize
     requires { ⌜ pos < 1999995 ⌝ }
-    ensures { λ r. ⌜ Written (now (out .entry)) pos (decimal n) r (now (out .exit)) ⌝ }
+    ensures { λ r. ⌜ Written (now (out .entry)) pos (inDecimal n) r (now (out .exit)) ⌝ }
     ensures { λ r. ⌜ r ≤ pos + 5 ⌝ }
 {
     let a = put_digit(out, pos, n, 10000);
     let b = put_digit(out, a, n, 1000);
     let c = put_digit(out, b, n, 100);
     let d = put_digit(out, c, n, 10);
-    put_byte(out, d, 48 + (n % 10) as u8)
+    put_byte(out, d, b'0' + (n % 10) as u8)
 }
 
 // Writes three numbers with single blanks, and LF.
-fn put_three(out: &mut [u8], pos: usize, a: usize, b: usize, c: usize) -> usize
+fn put_line(out: &mut [u8], pos: usize, a: usize, b: usize, c: usize) -> usize
     requires { ⌜ pos < 1999970 ⌝ }
     ensures { λ r. ⌜ Written (now (out .entry)) pos (threeLine a b c) r (now (out .exit)) ⌝ }
     ensures { λ r. ⌜ r ≤ pos + 18 ⌝ }
 {
     let i = put_decimal(out, pos, a);
-    let j = put_byte(out, i, 32);
+    let j = put_byte(out, i, b' ');
     let k = put_decimal(out, j, b);
-    let l = put_byte(out, k, 32);
+    let l = put_byte(out, k, b' ');
     let m = put_decimal(out, l, c);
-    put_byte(out, m, 10)
+    put_byte(out, m, b'\n')
 }
 
 // Writes a token's line.
@@ -69,7 +70,7 @@ fn put_token(out: &mut [u8], pos: usize, t: Token) -> usize
     ensures { λ r. ⌜ Written (now (out .entry)) pos (tokenLine t) r (now (out .exit)) ⌝ }
     ensures { λ r. ⌜ r ≤ pos + 18 ⌝ }
 {
-    put_three(out, pos, t.kind as usize, t.start, t.end)
+    put_line(out, pos, t.kind as usize, t.start, t.end)
 }
 
 // Writes the bytes of src, and answers where they end.
@@ -92,7 +93,7 @@ fn put_refusal(out: &mut [u8], pos: usize, r: Refusal) -> usize
     ensures { λ e. ⌜ e ≤ pos + 26 ⌝ }
 {
     let i = put_all(out, pos, b"refused ");
-    put_three(out, i, r.number as usize, r.place.start, r.place.end)
+    put_line(out, i, r.number as usize, r.place.start, r.place.end)
 }
 
 // Writes the lines of all tokens of the text, EOF last, or of a refusal behind those before it, and
@@ -111,7 +112,7 @@ fn list_tokens(text: &[u8], out: &mut [u8]) -> usize
             }
             Lexed::Found(k) => {
                 pos = put_token(out, pos, k);
-                if k.kind == 0 {
+                if k.kind == EOF {
                     return pos;
                 }
                 at = k.end;

@@ -1,5 +1,4 @@
 -- A token read again from its own first byte is the same token, since no gap stands before it there.
--- Assumes nothing.
 use mathlib.Core.Path.{_≡_, refl, ap, sym, _∙_, subst}
 use mathlib.Core.Bool.{Bool, true, false, cond}
 use mathlib.Core.List.{List, [], _∷_}

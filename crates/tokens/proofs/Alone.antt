@@ -1,5 +1,4 @@
 -- The bytes of a token alone are that token again.
--- Assumes nothing.
 use mathlib.Core.Path.{_≡_, refl, ap, sym, _∙_, subst}
 use mathlib.Core.Bool.{Bool, true, false, cond, _||_}
 use mathlib.Core.List.{List, [], _∷_, append-nil}
@@ -12,7 +11,7 @@ use lib.ListN.{length, getD, take, drop, drop-of-length-le}
 use lib.Seq.{take-take, length-take-le}
 use Rattle.gap.specs.Comments.{partAt}
 use Rattle.gap.specs.Gap.{End, clear, broken, gap}
-use Rattle.gap.specs.declared.Part.the-variants.{Other}
+use Rattle.gap.specs.declared.GapPart.the-variants.{Other}
 use Rattle.gap.proofs.Stops.{gap-stops, gap-none}
 use Rattle.classes.specs.Bytes.{bytes, begins}
 use Rattle.classes.specs.Class.{inRange, isDigit, isHex, isLetter, isName, isAscii}
@@ -26,7 +25,7 @@ use Rattle.words.specs.declared.Quote.the-variants.{Found, Missing}
 use Rattle.words.proofs.Suffix.{suffix-alone}
 use Rattle.words.proofs.Quotes.{Within, within, quote-local}
 use Rattle.words.proofs.Marks.{mark-alone}
-use Rattle.tokens.specs.Token.{Front, front, fault, typed, decimal, hexTyped, hexLen, hexNumber, number, stringBy, string, opensString, stringRefusal, name, word, marked, findToken, Scanned, tok, bad, placed, behindGap, lex}
+use Rattle.tokens.specs.Token.{Front, front, fault, typed, decimal, hexTyped, hexLen, hexNumber, number, stringBy, string, opensString, stringRefusal, name, word, mark, findToken, Scanned, tok, bad, placed, behindGap, lex}
 use Rattle.tokens.proofs.Fronts.{Takes, run-takes, letter-in-name, find-takes}
 
 -- the front of the bytes s, cut to its length, is the same; f is what it is computed by
@@ -191,10 +190,10 @@ as-found f a s m (fault k i j) g t h = tt
 as-found f a s m (front k zero) g t h = absurd (not-suc-le-zero (t .1))
 as-found f a s m (front k (suc n)) g t h = g n ∙ h
 
-marks-alone : (s : List ℕ) → Alone (λ s. marked (markOf s)) s (marked (markOf s))
-unfolding marked
+marks-alone : (s : List ℕ) → Alone (λ s. mark (markOf s)) s (mark (markOf s))
+unfolding mark
 marks-alone s =
-    alone-cond (λ s. marked (markOf s)) s (eqb (markOf s .len) 0) (fault 5 0 0) (front (markOf s .kind) (markOf s .len)) (λ _. tt)
+    alone-cond (λ s. mark (markOf s)) s (eqb (markOf s .len) 0) (fault 5 0 0) (front (markOf s .kind) (markOf s .len)) (λ _. tt)
     (λ e. rw (mark-alone s, e))
 
 by-first : (a : ℕ) (s : List ℕ) (b c : Bool) → isDigit a ≡ b → isLetter a ≡ c → Takes (length (a ∷ s)) (findToken (a ∷ s)) → Alone findToken (a ∷ s) (findToken (a ∷ s))
@@ -204,7 +203,7 @@ by-first a s true c e f t =
 by-first a s false true e f t =
     rw (e, f) (as-found word a s (length (a ∷ s)) (word (a ∷ s)) (λ n. rw (e, f)) (rw (e, f) at t) (word-alone a s f))
 by-first a s false false e f t =
-    rw (e, f) (as-found (λ s. marked (markOf s)) a s (length (a ∷ s)) (marked (markOf (a ∷ s))) (λ n. rw (e, f)) (rw (e, f) at t) (marks-alone (a ∷ s)))
+    rw (e, f) (as-found (λ s. mark (markOf s)) a s (length (a ∷ s)) (mark (markOf (a ∷ s))) (λ n. rw (e, f)) (rw (e, f) at t) (marks-alone (a ∷ s)))
 
 pub find-alone : (a : ℕ) (s : List ℕ) → Alone findToken (a ∷ s) (findToken (a ∷ s))
 find-alone a s = by-first a s (isDigit a) (isLetter a) refl refl (find-takes a s)

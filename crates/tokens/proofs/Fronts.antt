@@ -1,5 +1,4 @@
 -- What stands at the front of the bytes lies in them: a token but EOF takes a byte, and EOF stands only where none is left.
--- Assumes nothing.
 use mathlib.Core.Path.{_≡_, refl, subst}
 use mathlib.Core.Bool.{Bool, true, false, cond, _||_}
 use mathlib.Core.List.{List, [], _∷_}
@@ -22,7 +21,7 @@ use Rattle.words.proofs.Suffix.{suffix-short}
 use Rattle.words.proofs.Quotes.{Within, within}
 use Rattle.words.proofs.Positive.{name-positive, mark-positive}
 use Rattle.words.proofs.Marks.{mark-short}
-use Rattle.tokens.specs.Token.{Front, front, fault, typed, decimal, hexTyped, hexLen, hexNumber, number, stringBy, string, opensString, stringRefusal, name, word, marked, findToken}
+use Rattle.tokens.specs.Token.{Front, front, fault, typed, decimal, hexTyped, hexLen, hexNumber, number, stringBy, string, opensString, stringRefusal, name, word, mark, findToken}
 
 -- in n bytes, of which a token takes one, and its kind is not EOF's
 abbrev pub Takes : ℕ → Front → Type 0
@@ -110,8 +109,8 @@ unfolding word
 word-takes a s e =
     takes-cond (length (a ∷ s)) (opensString a (getD s 0 0)) (string (stringRefusal a) (a ∷ s)) (name (a ∷ s)) (opened-takes a s) (λ _. name-takes a s e)
 
-mark-takes : (s : List ℕ) → Takes (length s) (marked (markOf s))
-unfolding marked
+mark-takes : (s : List ℕ) → Takes (length s) (mark (markOf s))
+unfolding mark
 mark-takes s =
     takes-cond (length s) (eqb (markOf s .len) 0) (fault 5 0 0) (front (markOf s .kind) (markOf s .len))
     (λ _. (omega arith, omega arith))

@@ -1,6 +1,5 @@
 -- What the next token of a text is made of: its places are in order and in the text, its word is the bytes of its span, the
 -- rest is the text from its end on, and every token but EOF takes a byte. A refusal's places are in the text too.
--- Assumes nothing.
 use mathlib.Core.Path.{_≡_, refl, ap, sym, _∙_, subst}
 use mathlib.Core.List.{List, [], _∷_}
 use Prim.Native.Nat.{ℕ, suc, _+_, _-_, _<_, _≤_}

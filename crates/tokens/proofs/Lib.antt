@@ -6,3 +6,4 @@ pub mod Shift
 pub mod Alone
 pub mod Spelled
 pub mod Again
+pub mod RefusalSets

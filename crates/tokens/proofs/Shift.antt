@@ -1,12 +1,11 @@
 -- Reading from an offset is reading the text from there on, with all places raised by the offset.
--- Assumes nothing.
 use mathlib.Core.Path.{_≡_, refl, ap, sym, _∙_}
 use mathlib.Core.List.{List, [], _∷_, map}
 use Prim.Native.Nat.{ℕ, _+_, _≤_}
 use native.Mathlib.Omega.{arith}
 use native.Mathlib.Nat.{add-zero, add-assoc}
 use lib.ListN.{length, drop, length-drop}
-use Rattle.gap.specs.Gap.{End, clear, broken, Gap, gap, firstOf, docOf}
+use Rattle.gap.specs.Gap.{End, clear, broken, Gap, gap, firstDoc, docOf}
 use Rattle.gap.specs.Raise.{raiseComment, raiseEnd}
 use Rattle.gap.specs.declared.Comment.{Comment}
 use Rattle.gap.proofs.Shift.{gap-up}
@@ -37,8 +36,8 @@ module _ (k : ℕ) where
   lexed-up (tok d s e w r) = refl
   lexed-up (bad r) = refl
 
-  doc-up : (cs : List Comment) (e : End) → commentOf (firstOf (map (raiseComment k) cs) (raiseEnd k e)) ≡ raiseDoc k (commentOf (firstOf cs e))
-  unfolding firstOf commentOf
+  doc-up : (cs : List Comment) (e : End) → commentOf (firstDoc (map (raiseComment k) cs) (raiseEnd k e)) ≡ raiseDoc k (commentOf (firstDoc cs e))
+  unfolding firstDoc commentOf
   doc-up (c ∷ cs) e = refl
   doc-up [] (clear p s) = refl
   doc-up [] (broken o q) = refl

@@ -1,5 +1,4 @@
 -- A token of a mark's kind is spelled as that mark is.
--- Assumes nothing.
 use mathlib.Core.Path.{_≡_, refl, ap, sym, _∙_, subst}
 use mathlib.Core.Bool.{Bool, true, false, cond, not, _&&_, _||_}
 use mathlib.Core.List.{List, [], _∷_}
@@ -22,7 +21,7 @@ use Rattle.words.specs.Quote.{quoteFrom}
 use Rattle.words.specs.declared.Quote.{Quote}
 use Rattle.words.specs.declared.Quote.the-variants.{Found, Missing}
 use Rattle.words.proofs.Marks.{mark-first}
-use Rattle.tokens.specs.Token.{Front, front, fault, typed, decimal, hexTyped, hexLen, hexNumber, number, stringBy, string, opensString, stringRefusal, name, word, marked, findToken, Scanned, tok, bad, placed, behindGap, lex}
+use Rattle.tokens.specs.Token.{Front, front, fault, typed, decimal, hexTyped, hexLen, hexNumber, number, stringBy, string, opensString, stringRefusal, name, word, mark, findToken, Scanned, tok, bad, placed, behindGap, lex}
 
 -- whether some mark has the kind, and the spelling of the first that has
 abbrev pub isMark : List Entry → ℕ → Bool
@@ -142,8 +141,8 @@ fits (e ∷ es) s h g = go (begins (e .word) s) refl (fits es s (and-right (same
 positive : (n : ℕ) → (n ≡ 0 → ⊥) → 0 < n
 positive n h = omega arith
 
-mark-spelt : (s : List ℕ) → Spelt s (marked (markOf s))
-unfolding marked
+mark-spelt : (s : List ℕ) → Spelt s (mark (markOf s))
+unfolding mark
 mark-spelt s = go (eqb (markOf s .len) 0) refl
   where
     go : (b : Bool) → eqb (markOf s .len) 0 ≡ b → Spelt s (cond b (fault 5 0 0) (front (markOf s .kind) (markOf s .len)))

@@ -1,5 +1,4 @@
 -- The token at a place of a text, by the tests and the callees' answers that lead to each case of the code.
--- Assumes nothing.
 use mathlib.Core.Path.{_≡_, refl, ap, sym, _∙_, subst}
 use mathlib.Core.Bool.{Bool, true, false, _&&_}
 use mathlib.Core.List.{List, [], _∷_}
@@ -14,7 +13,7 @@ use Rattle.classes.specs.Bytes.{bytes, begins}
 use Rattle.classes.specs.Class.{isDigit, isLetter, isName, isAscii, inClass}
 use Rattle.classes.specs.Run.{runLen, runEnd}
 use Rattle.classes.proofs.Bools.{and-true}
-use Rattle.gap.specs.Gap.{End, clear, broken, gap, endOf, docOf}
+use Rattle.gap.specs.Gap.{End, clear, broken, gap, gapEndOf, docOf}
 use Rattle.gap.specs.declared.GapEnd.the-variants.{Clear, Broken}
 use Rattle.gap.specs.declared.FirstDoc.{FirstDoc}
 use Rattle.gap.proofs.Gaps.{Ended, gap-ended}
@@ -30,8 +29,9 @@ use Rattle.words.proofs.Marks.{mark-short}
 use Rattle.words.proofs.Quotes.{Within, within, quote-shift}
 use Rattle.words.proofs.Suffix.{suffix-short}
 use Rattle.tokens.specs.Answers.{refusal, token}
-use Rattle.tokens.specs.Token.{Front, front, fault, typed, decimal, hexTyped, hexLen, hexNumber, number, stringBy, string, opensString, stringRefusal, name, word, marked, findToken, placed, behindGap, lex}
-use Rattle.tokens.specs.Calls.{textLimit, admitted, lexed, lexedAt, typedAt, nextToken, commentOf, nextComment}
+use Rattle.tokens.specs.Token.{Front, front, fault, typed, decimal, hexTyped, hexLen, hexNumber, number, stringBy, string, opensString, stringRefusal, name, word, mark, findToken, placed, behindGap, lex}
+use Rattle.tokens.specs.Calls.{textLimit, admitted, lexed, nextToken, commentOf, nextComment}
+use Rattle.tokens.specs.code.Found.{lexedAt, typedAt}
 use Rattle.tokens.specs.declared.Refusal.{Refusal}
 use Rattle.tokens.specs.declared.Lexed.the-variants.{Found, Refused}
 use Rattle.tokens.specs.declared.DocComment.the-variants.{Broken as CommentBroken}
@@ -164,12 +164,12 @@ name-at text at e k h g =
     rw (g, r, h)
 
 module _ (at : ℕ) (f g : Fit) (e : f ≡ g) where
-  pub no-mark : f .len ≡ 0 → Refused (refusal 5 at at) ≡ lexedAt at (marked g)
-  unfolding marked lexedAt
+  pub no-mark : f .len ≡ 0 → Refused (refusal 5 at at) ≡ lexedAt at (mark g)
+  unfolding mark lexedAt
   no-mark h = rw (← e, eq-eqb (f .len) 0 h, add-zero)
 
-  pub some-mark : (f .len ≡ 0 → ⊥) → Found (token (f .kind) at (at + f .len)) ≡ lexedAt at (marked g)
-  unfolding marked lexedAt
+  pub some-mark : (f .len ≡ 0 → ⊥) → Found (token (f .kind) at (at + f .len)) ≡ lexedAt at (mark g)
+  unfolding mark lexedAt
   some-mark h = rw (← e, ne-eqb (f .len) 0 h)
 
 pub mark-room : (text : List ℕ) (at : ℕ) (f : Fit) → f ≡ markOf (drop at text) → at ≤ length text → at + f .len ≤ length text
@@ -200,7 +200,7 @@ module _ (text : List ℕ) (at : ℕ) where
     unfolding findToken
     find-word e f = rw (drop-cons text at 0 h, e, f)
 
-    pub find-mark : isDigit (getD text at 0) ≡ false → isLetter (getD text at 0) ≡ false → lexedAt at (marked (markOf (drop at text))) ≡ lexedAt at (findToken (drop at text))
+    pub find-mark : isDigit (getD text at 0) ≡ false → isLetter (getD text at 0) ≡ false → lexedAt at (mark (markOf (drop at text))) ≡ lexedAt at (findToken (drop at text))
     unfolding findToken
     find-mark e f = rw (drop-cons text at 0 h, e, f)
 
@@ -224,22 +224,22 @@ lexed-placed p s (front k n) = refl
 lexed-placed p s (fault m i j) = refl
 
 module _ (text : List ℕ) (at : ℕ) where
-  clear-by : (i : ℕ) (e : End) → Ended text at e → endOf e ≡ Clear i → lexedAt i (findToken (drop i text)) ≡ lexed (behindGap e)
-  unfolding behindGap endOf
+  clear-by : (i : ℕ) (e : End) → Ended text at e → gapEndOf e ≡ Clear i → lexedAt i (findToken (drop i text)) ≡ lexed (behindGap e)
+  unfolding behindGap gapEndOf
   clear-by i (clear q u) h g = let r : q ≡ i = cc in rw (h .2, r) (sym (lexed-placed i (drop i text) (findToken (drop i text))))
   clear-by i (broken o q) h g = let z : _≡_ {A = ℕ} 0 1 = cc in absurd (omega arith)
 
-  broken-by : (o q : ℕ) (e : End) → endOf e ≡ Broken o q → Refused (refusal 6 o q) ≡ lexed (behindGap e)
-  unfolding behindGap endOf lexed
+  broken-by : (o q : ℕ) (e : End) → gapEndOf e ≡ Broken o q → Refused (refusal 6 o q) ≡ lexed (behindGap e)
+  unfolding behindGap gapEndOf lexed
   broken-by o q (clear p u) g = let z : _≡_ {A = ℕ} 0 1 = cc in absurd (omega arith)
   broken-by o q (broken p r) g = let u : p ≡ o = cc in let v : r ≡ q = cc in rw (u, v)
 
   module _ (h : length text ≤ textLimit) (g : at ≤ length text) where
-    pub next-clear : (i : ℕ) → endOf (gap 0 at (drop at text) .last) ≡ Clear i → lexedAt i (findToken (drop i text)) ≡ nextToken text at
+    pub next-clear : (i : ℕ) → gapEndOf (gap 0 at (drop at text) .last) ≡ Clear i → lexedAt i (findToken (drop i text)) ≡ nextToken text at
     unfolding nextToken lex
     next-clear i e = clear-by i (gap 0 at (drop at text) .last) (gap-ended text (drop at text) 0 at refl) e ∙ admits Refused text at _ h g
 
-    pub next-broken : (o q : ℕ) → endOf (gap 0 at (drop at text) .last) ≡ Broken o q → Refused (refusal 6 o q) ≡ nextToken text at
+    pub next-broken : (o q : ℕ) → gapEndOf (gap 0 at (drop at text) .last) ≡ Broken o q → Refused (refusal 6 o q) ≡ nextToken text at
     unfolding nextToken lex
     next-broken o q e = broken-by o q (gap 0 at (drop at text) .last) e ∙ admits Refused text at _ h g
 

@@ -1,23 +1,25 @@
 -- The list of tokens, one token after the other. As many steps as there are bytes are enough: n bytes end within n + 1 steps.
--- Assumes nothing.
 use mathlib.Core.Path.{_≡_, refl, ap, sym, _∙_}
 use mathlib.Core.Bool.{Bool, true, false, cond}
 use mathlib.Core.List.{List, []}
 use Prim.Native.Nat.{ℕ, zero, suc, _+_, _-_, _<_, _≤_}
 use native.Mathlib.Omega.{arith}
-use borrow.Author.Tests.{eq-eqb, ne-eqb, eqb-false, le-ltb, ltb-false}
+use native.Mathlib.Nat.{add-zero}
+use borrow.Author.Tests.{eq-eqb, ne-eqb, eqb-true, eqb-false, ltb-false}
 use lib.Dec.{eqb, ltb}
 use lib.ListN.{length, drop, drop-of-length-le, length-drop}
 use Rattle.gap.specs.Gap.{gap}
+use Rattle.words.specs.Kinds.{EOF}
 use Rattle.tokens.specs.Answers.{refusal, token}
 use Rattle.tokens.specs.Token.{findToken, Scanned, tok, bad, placed, behindGap, lex}
 use Rattle.tokens.specs.Calls.{textLimit, admitted, lexed, nextToken}
-use Rattle.tokens.specs.Walk.{Listed, eof, refused, next, listed, walk, tokensFrom, tokensAt}
+use Rattle.tokens.specs.Walk.{Listed, eof, refused, next, listed, walk, tokensFrom, tokensAt, tokensOf, entries, Ends}
 use Rattle.tokens.specs.declared.Refusal.{Refusal}
 use Rattle.tokens.specs.declared.Token.{Token}
 use Rattle.tokens.specs.declared.Lexed.{Lexed}
 use Rattle.tokens.specs.declared.Lexed.the-variants.{Found, Refused}
 use Rattle.tokens.proofs.Lexing.{Sound, lex-sound}
+use Rattle.tokens.proofs.Again.{admitted-in}
 
 injective : {a b : Refusal} → Refused a ≡ Refused b → a ≡ b
 injective p = cc
@@ -71,12 +73,15 @@ module _ (text : List ℕ) (at : ℕ) (h : at ≤ length text) where
       go false q = ltb-false textLimit (length text) q
 
   scanned : length text ≤ textLimit → nextToken text at ≡ lexed (lex at (drop at text))
-  unfolding nextToken admitted
-  scanned g = rw (le-ltb textLimit (length text) g, le-ltb (length text) at h)
+  unfolding nextToken
+  scanned g = admitted-in Refused text at _ g h
+
+  admitted-list : length text ≤ textLimit → tokensAt text at ≡ tokensFrom at (drop at text)
+  unfolding tokensAt
+  admitted-list g = admitted-in refused text at _ g h
 
   listing : length text ≤ textLimit → tokensAt text at ≡ walk (suc (length text)) (lex at (drop at text))
-  unfolding tokensAt
-  listing g = rw (le-ltb textLimit (length text) g) (sym (walk-ends text (suc (length text)) at h (omega arith)))
+  listing g = admitted-list g ∙ sym (walk-ends text (suc (length text)) at h (omega arith))
 
   refused-by : (r : Refusal) (l : Scanned) (n : ℕ) → lexed l ≡ Refused r → walk (suc n) l ≡ refused r
   unfolding lexed walk
@@ -122,10 +127,58 @@ module _ (text : List ℕ) (at : ℕ) (h : at ≤ length text) where
       (rw (ne-eqb k 0 d, m .behind) (ap (λ (x : Token). next x (walk n (lex (x .end) (drop (x .end) text)))) v), omega (arith, m .from), omega (arith, m .within))
   next-by t (bad u) n q z m = let y : _≡_ {A = ℕ} 0 1 = cc in absurd (omega arith)
 
-  pub at-next : (t : Token) → nextToken text at ≡ Found t → (t .kind ≡ 0 → ⊥)
-      → (tokensAt text at ≡ next t (tokensAt text (t .end))) × (at < t .end) × (t .end ≤ length text) × (length text ≤ textLimit)
-  unfolding tokensAt
-  at-next t e z =
-      let g = found-short t e in
-      let r = next-by t (lex at (drop at text)) (length text) (sym (scanned g) ∙ e) z (lex-sound text at h) in
-      (listing g ∙ r .0 ∙ ap (next t) (walk-ends text (length text) (t .end) (r .2) (omega arith) ∙ rw (le-ltb textLimit (length text) g)), r .1, r .2, g)
+pub at-next : (text : List ℕ) (at : ℕ) → at ≤ length text → (t : Token) → nextToken text at ≡ Found t → (t .kind ≡ 0 → ⊥)
+    → (tokensAt text at ≡ next t (tokensAt text (t .end))) × (at < t .end) × (t .end ≤ length text) × (length text ≤ textLimit)
+at-next text at h t e z =
+    let g = found-short text at h t e in
+    let r = next-by text at h t (lex at (drop at text)) (length text) (sym (scanned text at h g) ∙ e) z (lex-sound text at h) in
+    (listing text at h g ∙ r .0 ∙ ap (next t) (walk-ends text (length text) (t .end) (r .2) (omega arith) ∙ sym (admitted-list text (t .end) (r .2) g)), r .1, r .2, g)
+
+-- every token but EOF takes a byte: from `at` on at most as many entries as there are bytes left, and one more; the last is EOF at
+-- the text's end, or a refusal
+abbrev Ended : List ℕ → ℕ → Listed → Type 0
+Ended text at l = (entries l ≤ suc (length text - at)) × Ends (length text) l
+
+eof-at : (at n : ℕ) → at ≡ n → token EOF at (at + 0) ≡ token EOF n n
+eof-at at n e = rw (add-zero at, e) refl
+
+module _ (text : List ℕ) where
+  listed-ended : (at : ℕ) (l : Scanned) (f : ℕ → List ℕ → Listed) → Sound text at l
+      → ((e : ℕ) → at < e → e ≤ length text → Ended text e (f e (drop e text))) → Ended text at (listed l f)
+  unfolding entries Ends
+  listed-ended at (bad r) f h k = (omega arith, tt)
+  listed-ended at (tok d s e w r) f h k = go (eqb d 0) refl
+    where
+      go : (b : Bool) → eqb d 0 ≡ b → Ended text at (cond b (eof (token d s e)) (next (token d s e) (f e r)))
+      go true q =
+          let z : d ≡ 0 = eqb-true d 0 q in
+          let l = h .last z in
+          (omega arith, rw (z, l .0, l .1) refl)
+      go false q =
+          let t : s < e = h .takes (omega (arith, eqb-false d 0 q)) in
+          let g : Ended text e (f e r) = rw (h .behind) (k e (omega (arith, h .from)) (h .within)) in
+          (omega (arith, g .0, h .from, h .within), g .1)
+
+  walk-ended : (n at : ℕ) → at ≤ length text → length text - at ≤ n → Ended text at (walk n (lex at (drop at text)))
+  unfolding walk entries Ends
+  walk-ended zero at h i = rw (no-rest text at i, empty zero at) (omega arith, eof-at at (length text) (omega arith))
+  walk-ended (suc n) at h i =
+      listed-ended at (lex at (drop at text)) (λ e r. walk n (lex e r)) (lex-sound text at h) (λ e f g. walk-ended n e g (omega arith))
+
+  -- n bytes end within n + 1 steps: from any offset on, and for the whole text
+  pub tokens-end : (at : ℕ) → (entries (tokensAt text at) ≤ suc (length text - at)) × Ends (length text) (tokensAt text at)
+  unfolding tokensAt admitted entries Ends
+  tokens-end at = over (ltb textLimit (length text)) refl
+    where
+      from : (b : Bool) → ltb (length text) at ≡ b → Ended text at (cond b (refused (refusal 2 0 0)) (tokensFrom at (drop at text)))
+      from true q = (omega arith, tt)
+      from false q = rw (← walk-ends text (length text) at (ltb-false (length text) at q) (omega arith)) (walk-ended (length text) at (ltb-false (length text) at q) (omega arith))
+
+      over : (b : Bool) → ltb textLimit (length text) ≡ b
+          → Ended text at (cond b (refused (refusal 1 0 0)) (cond (ltb (length text) at) (refused (refusal 2 0 0)) (tokensFrom at (drop at text))))
+      over true q = (omega arith, tt)
+      over false q = from (ltb (length text) at) refl
+
+  pub text-ends : (entries (tokensOf text) ≤ suc (length text)) × Ends (length text) (tokensOf text)
+  unfolding tokensOf
+  text-ends = let e = tokens-end 0 in (omega (arith, e .0), e .1)

@@ -1,6 +1,5 @@
--- What the calls answer, by document 01's numbers: for every case of each answer, the result's number, 0 where nothing is
+-- What the calls answer, by the specification's numbers: for every case of each answer, the result's number, 0 where nothing is
 -- refused, and the six values.
--- Assumes nothing.
 use Prim.Native.Nat.{ℕ}
 use mathlib.Core.List.{List, [], _∷_}
 use Rattle.tokens.specs.declared.Place.{Place}

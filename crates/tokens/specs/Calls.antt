@@ -1,15 +1,15 @@
 -- The token call and the comment call, for every text and offset.
--- Assumes nothing.
-use Prim.Native.Nat.{ℕ, _+_}
+use Prim.Native.Nat.{ℕ}
 use mathlib.Core.Bool.{cond}
-use mathlib.Core.List.{List, []}
-use lib.Dec.{eqb, ltb}
+use mathlib.Core.List.{List}
+use lib.Dec.{ltb}
 use lib.ListN.{length, drop}
+use Rattle.tokens.specs.Refusals.{TextTooLong, StartPastEnd, CommentNotClosed}
 use Rattle.gap.specs.Gap.{gap, docOf}
 use Rattle.gap.specs.declared.FirstDoc.{FirstDoc}
 use Rattle.gap.specs.declared.FirstDoc.the-variants.{Found as DocFound, Nothing as NoDoc, BrokenFirst}
 use Rattle.tokens.specs.Answers.{refusal, token}
-use Rattle.tokens.specs.Token.{Front, front, fault, Scanned, tok, bad, lex}
+use Rattle.tokens.specs.Token.{Scanned, tok, bad, lex}
 use Rattle.tokens.specs.declared.Refusal.{Refusal}
 use Rattle.tokens.specs.declared.Lexed.{Lexed}
 use Rattle.tokens.specs.declared.Lexed.the-variants.{Found, Refused}
@@ -23,21 +23,12 @@ textLimit = 65535
 -- refusals 1 and 2, and otherwise what the text has
 unfoldable pub admitted : {A : Type 0} → (Refusal → A) → List ℕ → ℕ → A → A
 admitted refuse text at a =
-    cond (ltb textLimit (length text)) (refuse (refusal 1 0 0))
-    (cond (ltb (length text) at) (refuse (refusal 2 0 0)) a)
+    cond (ltb textLimit (length text)) (refuse (refusal TextTooLong 0 0))
+    (cond (ltb (length text) at) (refuse (refusal StartPastEnd 0 0)) a)
 
 unfoldable pub lexed : Scanned → Lexed
 lexed (tok k s e w r) = Found (token k s e)
 lexed (bad r) = Refused r
-
--- what is found at a place
-unfoldable pub lexedAt : ℕ → Front → Lexed
-lexedAt p (front k n) = Found (token k p (p + n))
-lexedAt p (fault m i j) = Refused (refusal m (p + i) (p + j))
-
--- the number at p whose digits end at e, with a type of v bytes
-unfoldable pub typedAt : ℕ → ℕ → ℕ → Lexed
-typedAt p e v = Found (token (cond (eqb v 0) 1 2) p (e + v))
 
 unfoldable pub nextToken : List ℕ → ℕ → Lexed
 nextToken text at = admitted Refused text at (lexed (lex at (drop at text)))
@@ -45,7 +36,7 @@ nextToken text at = admitted Refused text at (lexed (lex at (drop at text)))
 unfoldable pub commentOf : FirstDoc → DocComment
 commentOf (DocFound c) = Doc c
 commentOf NoDoc = Nothing
-commentOf (BrokenFirst o q) = Broken (refusal 6 o q)
+commentOf (BrokenFirst o q) = Broken (refusal CommentNotClosed o q)
 
 unfoldable pub nextComment : List ℕ → ℕ → DocComment
 nextComment text at = admitted Broken text at (commentOf (docOf (gap 0 at (drop at text))))

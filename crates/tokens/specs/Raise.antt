@@ -1,5 +1,4 @@
 -- Answers with all places raised by k.
--- Assumes nothing.
 use Prim.Native.Nat.{ℕ, _+_}
 use Rattle.gap.specs.Raise.{raiseComment}
 use Rattle.tokens.specs.Answers.{place, token}

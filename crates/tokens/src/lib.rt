@@ -5,8 +5,9 @@ ghost use lib.Dec.{eqb};
 ghost use lib.ListN.{length, drop};
 ghost use mathlib.Core.Bool.{_&&_};
 ghost use Rattle.tokens.specs.Answers.{refusal};
-ghost use Rattle.tokens.specs.Token.{opensString, stringRefusal, findToken, decimal, hexNumber, number, string, word, name, marked};
-ghost use Rattle.tokens.specs.Calls.{lexedAt, typedAt, nextToken, nextComment};
+ghost use Rattle.tokens.specs.Token.{opensString, stringRefusal, findToken, decimal, hexNumber, number, string, word, name, mark};
+ghost use Rattle.tokens.specs.Calls.{nextToken, nextComment};
+ghost use Rattle.tokens.specs.code.Found.{lexedAt, typedAt};
 ghost use Rattle.words.specs.Search.{markOf};
 use classes::ASCII;
 use classes::DIGIT;
@@ -15,7 +16,20 @@ use classes::NAME;
 use gap::Comment;
 use gap::FirstDoc;
 use gap::GapEnd;
+use refusals::BYTE_STRING_NOT_CLOSED;
+use refusals::COMMENT_NOT_CLOSED;
+use refusals::HEX_STRING_NOT_CLOSED;
+use refusals::NO_TOKEN;
+use refusals::START_PAST_END;
+use refusals::STRING_NOT_ASCII;
+use refusals::TEXT_TOO_LONG;
 use words::Quote;
+use words::kinds::BYTE_STRING_VALUE;
+use words::kinds::EOF;
+use words::kinds::NUM_TYPED_VALUE;
+use words::kinds::NUM_VALUE;
+
+pub mod refusals;
 
 // Bytes from start to end - 1.
 pub struct Place {
@@ -76,13 +90,13 @@ fn typed_at(at: usize, e: usize, n: usize) -> Lexed
 {
     if n == 0 {
         return Lexed::Found(Token {
-            kind: 1,
+            kind: NUM_VALUE,
             start: at,
             end: e,
         });
     }
     Lexed::Found(Token {
-        kind: 2,
+        kind: NUM_TYPED_VALUE,
         start: at,
         end: e + n,
     })
@@ -97,7 +111,7 @@ fn hex_number_at(text: &[u8], at: usize) -> Lexed
     let n = words::suffix_len(text, e);
     if e + n == at + 2 {
         return Lexed::Found(Token {
-            kind: 1,
+            kind: NUM_VALUE,
             start: at,
             end: at + 1,
         });
@@ -119,8 +133,8 @@ fn decimal_number_at(text: &[u8], at: usize) -> Lexed
 fn opens_hex(a: u8, b: u8) -> bool
     ensures { λ r. ⌜ r ≡ (eqb a 48 && eqb b 120) ⌝ }
 {
-    if a == 48 {
-        return b == 120;
+    if a == b'0' {
+        return b == b'x';
     }
     false
 }
@@ -149,10 +163,10 @@ fn string_at(text: &[u8], at: usize, m: u32) -> Lexed
         Quote::Found(q) => {
             let h = classes::run_end(ASCII, &text[..q], at + 2);
             if h < q {
-                return Lexed::Refused(refuse(9, h, h + 1));
+                return Lexed::Refused(refuse(STRING_NOT_ASCII, h, h + 1));
             }
             Lexed::Found(Token {
-                kind: 3,
+                kind: BYTE_STRING_VALUE,
                 start: at,
                 end: q + 1,
             })
@@ -164,11 +178,11 @@ fn string_at(text: &[u8], at: usize, m: u32) -> Lexed
 fn opens_string(a: u8, b: u8) -> bool
     ensures { λ r. ⌜ r ≡ opensString a b ⌝ }
 {
-    if b == 34 {
-        if a == 120 {
+    if b == b'"' {
+        if a == b'x' {
             return true;
         }
-        return a == 98;
+        return a == b'b';
     }
     false
 }
@@ -177,10 +191,10 @@ fn opens_string(a: u8, b: u8) -> bool
 fn string_refusal(a: u8) -> u32
     ensures { λ r. ⌜ r ≡ stringRefusal a ⌝ }
 {
-    if a == 120 {
-        return 7;
+    if a == b'x' {
+        return HEX_STRING_NOT_CLOSED;
     }
-    8
+    BYTE_STRING_NOT_CLOSED
 }
 
 // The name or keyword at `at`.
@@ -200,12 +214,12 @@ fn name_at(text: &[u8], at: usize) -> Lexed
 // The mark at `at`.
 fn mark_at(text: &[u8], at: usize) -> Lexed
     requires { ⌜ at ≤ length (now text) ⌝ }
-    ensures { λ r. ⌜ r ≡ lexedAt at (marked (markOf (drop at (now (text .entry))))) ⌝ }
+    ensures { λ r. ⌜ r ≡ lexedAt at (mark (markOf (drop at (now (text .entry))))) ⌝ }
 {
     let f = words::mark_at(text, at);
     let n = f.len;
     if n == 0 {
-        return Lexed::Refused(refuse(5, at, at));
+        return Lexed::Refused(refuse(NO_TOKEN, at, at));
     }
     Lexed::Found(Token {
         kind: f.kind,
@@ -234,7 +248,7 @@ fn find_token(text: &[u8], at: usize) -> Lexed
 {
     if text.len() <= at {
         return Lexed::Found(Token {
-            kind: 0,
+            kind: EOF,
             start: at,
             end: at,
         });
@@ -254,15 +268,15 @@ pub fn next_token(text: &[u8], at: usize) -> Lexed
     ensures { λ r. ⌜ r ≡ nextToken (now (text .entry)) at ⌝ }
 {
     if TEXT_LIMIT < text.len() {
-        return Lexed::Refused(refuse(1, 0, 0));
+        return Lexed::Refused(refuse(TEXT_TOO_LONG, 0, 0));
     }
     if text.len() < at {
-        return Lexed::Refused(refuse(2, 0, 0));
+        return Lexed::Refused(refuse(START_PAST_END, 0, 0));
     }
     let g = gap::gap_end(text, at);
     match g {
         GapEnd::Clear(i) => find_token(text, i),
-        GapEnd::Broken(o, q) => Lexed::Refused(refuse(6, o, q)),
+        GapEnd::Broken(o, q) => Lexed::Refused(refuse(COMMENT_NOT_CLOSED, o, q)),
     }
 }
 
@@ -271,15 +285,15 @@ pub fn next_comment(text: &[u8], at: usize) -> DocComment
     ensures { λ r. ⌜ r ≡ nextComment (now (text .entry)) at ⌝ }
 {
     if TEXT_LIMIT < text.len() {
-        return DocComment::Broken(refuse(1, 0, 0));
+        return DocComment::Broken(refuse(TEXT_TOO_LONG, 0, 0));
     }
     if text.len() < at {
-        return DocComment::Broken(refuse(2, 0, 0));
+        return DocComment::Broken(refuse(START_PAST_END, 0, 0));
     }
     let d = gap::first_doc(text, at);
     match d {
         FirstDoc::Found(c) => DocComment::Doc(c),
         FirstDoc::Nothing => DocComment::Nothing,
-        FirstDoc::BrokenFirst(o, q) => DocComment::Broken(refuse(6, o, q)),
+        FirstDoc::BrokenFirst(o, q) => DocComment::Broken(refuse(COMMENT_NOT_CLOSED, o, q)),
     }
 }

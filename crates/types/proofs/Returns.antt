@@ -1,5 +1,4 @@
 -- What each return of the code of types gives, from what its callees gave.
--- Assumes nothing.
 use mathlib.Core.Path.{_≡_, refl, ap, sym, _∙_}
 use mathlib.Core.Bool.{false, cond}
 use mathlib.Core.List.{List, [], _++_, append-nil, append-assoc}
@@ -15,7 +14,8 @@ use Rattle.tokens.specs.Calls.{lexed, nextToken}
 use Rattle.tokens.specs.declared.Refusal.{Refusal}
 use Rattle.tokens.specs.declared.Token.{Token}
 use Rattle.tokens.specs.declared.Lexed.the-variants.{Found, Refused as Bad}
-use Rattle.records.specs.Tree.{typeKind, functionKind, unitKind, tupleKind, Tree, leaf, node, Trees, none, more, behind, respan}
+use Rattle.records.specs.Kinds.{RecType, RecFunction, RecUnit, RecTuple}
+use Rattle.records.specs.Tree.{Tree, leaf, node, Trees, none, more, behind, respan}
 use Rattle.records.specs.Stored.{two, span, header, stored, storedAll}
 use Rattle.buffer.proofs.Sets.{sets-append}
 use Rattle.records.proofs.Pieces.{both, header-long}
@@ -92,13 +92,13 @@ some-bytes (node k s e ts) = omega (arith, node-size k s e ts)
 
 -- brackets round more than one: the first is moved up
 tuple-bytes : (l m n o : List ℕ) (i k j s e : ℕ) (t : Tree) (ts : Trees) → k ≡ length (stored t) → j ≡ length (storedAll ts) → m ≡ sets l i (stored t) → n ≡ sets m (i + 8 + k) (storedAll ts)
-    → o ≡ sets (sets n (i + 8) (take k (drop i n))) i (header (k + j + 8) tupleKind s e) → o ≡ sets l i (stored (node tupleKind s e (more t ts)))
+    → o ≡ sets (sets n (i + 8) (take k (drop i n))) i (header (k + j + 8) RecTuple s e) → o ≡ sets l i (stored (node RecTuple s e (more t ts)))
 unfolding stored storedAll
 tuple-bytes l m n o i k j s e t ts z y f g w =
     let x : length (stored t ++ storedAll ts) + 8 ≡ k + j + 8 = omega (arith, length-append (stored t) (storedAll ts)) in
     rw x
-    (shifted-pieces 8 l m n (sets n (i + 8) (take (length (stored t)) (drop i n))) o (stored t) (storedAll ts) (header (k + j + 8) tupleKind s e) i (header-long (k + j + 8) tupleKind s e) f
-    (g ∙ ap (λ (v : ℕ). sets m (i + 8 + v) (storedAll ts)) z) refl (w ∙ ap (λ (v : ℕ). sets (sets n (i + 8) (take v (drop i n))) i (header (k + j + 8) tupleKind s e)) z))
+    (shifted-pieces 8 l m n (sets n (i + 8) (take (length (stored t)) (drop i n))) o (stored t) (storedAll ts) (header (k + j + 8) RecTuple s e) i (header-long (k + j + 8) RecTuple s e) f
+    (g ∙ ap (λ (v : ℕ). sets m (i + 8 + v) (storedAll ts)) z) refl (w ∙ ap (λ (v : ℕ). sets (sets n (i + 8) (take v (drop i n))) i (header (k + j + 8) RecTuple s e)) z))
 
 -- a position leaves room for a head
 pub type-room : (text : List ℕ) (a : Token) (pos : ℕ) → AtToken text a pos → pos < 2 ^ 63 + 2000000
@@ -156,7 +156,7 @@ module _ (text : List ℕ) (left : ℕ) where
     fun = function rd (a .start) (a .end) (drop (a .end) text)
 
     abbrev result : Trees → ℕ → List ℕ → Ans Tree
-    result ts q u = then (rd (lex q u)) λ t q₂ u₂. ok (node functionKind (a .start) q₂ (behind ts t)) q₂ u₂
+    result ts q u = then (rd (lex q u)) λ t q₂ u₂. ok (node RecFunction (a .start) q₂ (behind ts t)) q₂ u₂
 
     fun-args : fun ≡ then args result
     unfolding function
@@ -183,24 +183,24 @@ module _ (text : List ℕ) (left : ℕ) where
         pub args-small : i .len + 24 * a .end ≤ 24 * i .end
         args-small = omega (arith, args-sure .small, args-read .len)
 
-        fun-type : fun ≡ then inner-type (λ t q₂ u₂. ok (node functionKind (a .start) q₂ (behind (args-read .what) t)) q₂ u₂)
+        fun-type : fun ≡ then inner-type (λ t q₂ u₂. ok (node RecFunction (a .start) q₂ (behind (args-read .what) t)) q₂ u₂)
         fun-type = fun-args ∙ then-opened storedAll args i args-read result ∙ rw (args-sure .on .rest, args-next .scans)
 
         pub fun-type-failed : (n : List ℕ) (r : Refusal) → Refused r ≡ given stored inner-type → Gives stored fun pos l n (Refused r)
         unfolding given follow lexed
         fun-type-failed n r e =
             gives-refused stored fun pos l n r
-            (then-refused stored stored inner-type (λ t q₂ u₂. ok (node functionKind (a .start) q₂ (behind (args-read .what) t)) q₂ u₂) r e (λ t q u e. rw e) ∙ ap (given stored) (sym fun-type))
+            (then-refused stored stored inner-type (λ t q₂ u₂. ok (node RecFunction (a .start) q₂ (behind (args-read .what) t)) q₂ u₂) r e (λ t q u e. rw e) ∙ ap (given stored) (sym fun-type))
 
         pub fun-read : (n o : List ℕ) (p : Part) → Gives stored inner-type (pos + 8 + i .len) m n (Read p) → o ≡ sets n pos (header (i .len + p .len + 8) 13 (a .start) (p .end))
             → Gives stored fun pos l o (Read (record { len = i .len + p .len + 8; end = p .end; next = p .next }))
         fun-read n o p e w =
             let d = opened stored inner-type p (e .0) in
             let z : i .len + p .len ≡ length (storedAll (behind (args-read .what) (d .what))) = omega (arith, args-read .len, d .len, behind-size (args-read .what) (d .what)) in
-            gives-done stored fun (node functionKind (a .start) (p .end) (behind (args-read .what) (d .what))) (p .end) (d .rest) pos (i .len + p .len + 8) l o (p .next)
-            (fun-type ∙ then-opened stored inner-type p d (λ t q₂ u₂. ok (node functionKind (a .start) q₂ (behind (args-read .what) t)) q₂ u₂)) (d .next)
-            (omega (arith, z, node-size functionKind (a .start) (p .end) (behind (args-read .what) (d .what))))
-            (node-last l n o pos (i .len + p .len + 8) functionKind (a .start) (p .end) (behind (args-read .what) (d .what)) (omega (arith, z))
+            gives-done stored fun (node RecFunction (a .start) (p .end) (behind (args-read .what) (d .what))) (p .end) (d .rest) pos (i .len + p .len + 8) l o (p .next)
+            (fun-type ∙ then-opened stored inner-type p d (λ t q₂ u₂. ok (node RecFunction (a .start) q₂ (behind (args-read .what) t)) q₂ u₂)) (d .next)
+            (omega (arith, z, node-size RecFunction (a .start) (p .end) (behind (args-read .what) (d .what))))
+            (node-last l n o pos (i .len + p .len + 8) RecFunction (a .start) (p .end) (behind (args-read .what) (d .what)) (omega (arith, z))
             (then-last l m n (pos + 8) (args-read .what) (d .what) (i .len) (args-read .len) (wrote storedAll args (pos + 8) l m i args-read (g .1)) (wrote stored inner-type (pos + 8 + i .len) m n p d (e .1))) w)
 
   -- names with arguments
@@ -241,16 +241,16 @@ module _ (text : List ℕ) (left : ℕ) where
       unfolding withArguments look when
       plain-read n k w =
           let z : p .len ≡ length (storedAll (more (name-read .what) none)) = name-read .len ∙ omega (arith, size-more (name-read .what) none, size-none) in
-          gives-done stored nam (node typeKind (a .start) (p .end) (more (name-read .what) none)) (p .end) (drop (p .end) text) pos (p .len + 8) l n (p .next)
+          gives-done stored nam (node RecType (a .start) (p .end) (more (name-read .what) none)) (p .end) (drop (p .end) text) pos (p .len + 8) l n (p .next)
           (with-path ∙ rw (name-next .scans, ne-eqb (p .next .kind) 25 k)) (rw (name-sure .on .rest) at (name-read .next))
-          (omega (arith, z, node-size typeKind (a .start) (p .end) (more (name-read .what) none)))
-          (node-last l m n pos (p .len + 8) typeKind (a .start) (p .end) (more (name-read .what) none) (omega (arith, z)) (only l m (pos + 8) (name-read .what) (wrote stored path (pos + 8) l m p name-read (g .1))) w)
+          (omega (arith, z, node-size RecType (a .start) (p .end) (more (name-read .what) none)))
+          (node-last l m n pos (p .len + 8) RecType (a .start) (p .end) (more (name-read .what) none) (omega (arith, z)) (only l m (pos + 8) (name-read .what) (wrote stored path (pos + 8) l m p name-read (g .1))) w)
 
       module _ (k : p .next .kind ≡ 25) where
         abbrev targs : Ans Trees
         targs = listBehind rd 32 (p .next .start) (p .next .end) (drop (p .next .end) text)
 
-        with-list : nam ≡ then targs (λ ts q₃ u₃. ok (node typeKind (a .start) q₃ (more (name-read .what) ts)) q₃ u₃)
+        with-list : nam ≡ then targs (λ ts q₃ u₃. ok (node RecType (a .start) q₃ (more (name-read .what) ts)) q₃ u₃)
         unfolding withArguments look when
         with-list = with-path ∙ rw (name-next .scans, eq-eqb (p .next .kind) 25 k)
 
@@ -258,7 +258,7 @@ module _ (text : List ℕ) (left : ℕ) where
         unfolding given follow lexed
         args-failed n r e =
             gives-refused stored nam pos l n r
-            (then-refused storedAll stored targs (λ ts q₃ u₃. ok (node typeKind (a .start) q₃ (more (name-read .what) ts)) q₃ u₃) r e (λ t q u e. rw e) ∙ ap (given stored) (sym with-list))
+            (then-refused storedAll stored targs (λ ts q₃ u₃. ok (node RecType (a .start) q₃ (more (name-read .what) ts)) q₃ u₃) r e (λ t q u e. rw e) ∙ ap (given stored) (sym with-list))
 
         pub targs-small : (i : Part) → Read i ≡ given storedAll targs → i .len + 24 * p .next .end ≤ 24 * i .end
         targs-small i e =
@@ -278,10 +278,10 @@ module _ (text : List ℕ) (left : ℕ) where
         applied-read n o i e w =
             let d = opened storedAll targs i (e .0) in
             let z : p .len + i .len ≡ length (storedAll (more (name-read .what) (d .what))) = omega (arith, name-read .len, d .len, size-more (name-read .what) (d .what)) in
-            gives-done stored nam (node typeKind (a .start) (i .end) (more (name-read .what) (d .what))) (i .end) (d .rest) pos (p .len + i .len + 8) l o (i .next)
-            (with-list ∙ then-opened storedAll targs i d (λ ts q₃ u₃. ok (node typeKind (a .start) q₃ (more (name-read .what) ts)) q₃ u₃)) (d .next)
-            (omega (arith, z, node-size typeKind (a .start) (i .end) (more (name-read .what) (d .what))))
-            (node-last l n o pos (p .len + i .len + 8) typeKind (a .start) (i .end) (more (name-read .what) (d .what)) (omega (arith, z))
+            gives-done stored nam (node RecType (a .start) (i .end) (more (name-read .what) (d .what))) (i .end) (d .rest) pos (p .len + i .len + 8) l o (i .next)
+            (with-list ∙ then-opened storedAll targs i d (λ ts q₃ u₃. ok (node RecType (a .start) q₃ (more (name-read .what) ts)) q₃ u₃)) (d .next)
+            (omega (arith, z, node-size RecType (a .start) (i .end) (more (name-read .what) (d .what))))
+            (node-last l n o pos (p .len + i .len + 8) RecType (a .start) (i .end) (more (name-read .what) (d .what)) (omega (arith, z))
             (first-then l m n (pos + 8) (name-read .what) (d .what) (p .len) (name-read .len) (wrote stored path (pos + 8) l m p name-read (g .1)) (wrote storedAll targs (pos + 8 + p .len) m n i d (e .1))) w)
 
   -- brackets
@@ -315,7 +315,7 @@ module _ (text : List ℕ) (left : ℕ) where
       closed-by : LastStep text rd 12 (a .start) (a .end) pos l m n q → Gives stored brk pos l o p
       unfolding then goOn bracketed closedBrackets stored
       closed-by (with-none e i z x) =
-          gives-finish stored text (h .fits) brk (leaf unitKind (a .start) q []) q pos 8 l o p (i .inside) (brk-inside ∙ rw (by-first, e)) (f ∙ rw z) (sym (leaf-size unitKind (a .start) q [])) (w ∙ rw (z, x))
+          gives-finish stored text (h .fits) brk (leaf RecUnit (a .start) q []) q pos 8 l o p (i .inside) (brk-inside ∙ rw (by-first, e)) (f ∙ rw z) (sym (leaf-size RecUnit (a .start) q [])) (w ∙ rw (z, x))
       closed-by (with-one t e i z y x) =
           let k : eqb n 0 ≡ false = ne-eqb n 0 (λ (j : n ≡ 0). absurd (omega (arith, some-bytes t, z))) in
           gives-finish stored text (h .fits) brk (respan (a .start) q t) q pos n l o p (i .inside) (brk-inside ∙ rw (by-first, e)) (f ∙ rw k) (z ∙ sym (respan-size (a .start) q t)) (respanned l m o pos (a .start) q t x (w ∙ rw k))
@@ -381,8 +381,8 @@ module _ (text : List ℕ) (left : ℕ) where
               let y : length (storedAll (more t (more u us))) ≡ n + p .len = size-more t (more u us) ∙ omega (arith, item-there .len, z, size-more u us, length-append (stored u) (storedAll us)) in
               let k : eqb (p .len) 0 ≡ false = ne-eqb (p .len) 0 (λ (j : p .len ≡ 0). absurd (omega (arith, some-bytes u, z, length-append (stored u) (storedAll us)))) in
               rw k
-              (gives-done stored brk (node tupleKind (a .start) (p .end) (more t (more u us))) (p .end) (others-read .rest) pos (n + p .len + 8) l o (p .next) b (others-read .next)
-              (omega (arith, y, node-size tupleKind (a .start) (p .end) (more t (more u us))))
+              (gives-done stored brk (node RecTuple (a .start) (p .end) (more t (more u us))) (p .end) (others-read .rest) pos (n + p .len + 8) l o (p .next) b (others-read .next)
+              (omega (arith, y, node-size RecTuple (a .start) (p .end) (more t (more u us))))
               (tuple-bytes l m m₂ o pos n (p .len) (a .start) (p .end) t (more u us) (item-there .len) z (item-there .holds) x (w ∙ rw k)))
 
           pub brk-tuple : Gives stored brk pos l o (Read (record { len = cond (eqb (p .len) 0) n (n + p .len + 8); end = p .end; next = p .next }))

@@ -1,5 +1,4 @@
 -- Types: what holds of every answer, whatever levels are left.
--- Assumes nothing.
 use mathlib.Core.Path.{_≡_, refl, sym, _∙_, subst}
 use mathlib.Core.Bool.{true}
 use mathlib.Core.List.{List, []}
@@ -10,11 +9,13 @@ use lib.Dec.{eqb}
 use lib.ListN.{length, drop}
 use Rattle.tokens.specs.Token.{Scanned, tok, lex}
 use Rattle.tokens.proofs.Lexing.{Good}
-use Rattle.records.specs.Tree.{typeKind, refKind, refMutKind, functionKind, unitKind, tupleKind, Tree, leaf, node, Trees, none, more, behind, respan, startOf, endOf, Nested, Within}
+use Rattle.records.specs.Kinds.{RecType, RecRef, RecRefMut, RecFunction, RecUnit, RecTuple}
+use Rattle.records.specs.Tree.{Tree, leaf, node, Trees, none, more, behind, respan, startOf, endOf, Nested, Within}
 use Rattle.records.specs.Stored.{stored, storedAll}
 use Rattle.records.proofs.Nesting.{wider, nested-order}
 use Rattle.records.proofs.Sizes.{leaf-size, node-size, size-none, size-more}
-use Rattle.names.specs.Reading.{Ans, ok, look, listBehind, ampTok, ampMutTok, openTok, closeTok, lessTok, greaterTok, pipeTok}
+use Rattle.words.specs.Kinds.{Amp, AmpMut, LParen, RParen, Less, Greater, Pipe}
+use Rattle.names.specs.Reading.{Ans, ok, look, listBehind}
 use Rattle.names.specs.Names.{chain}
 use Rattle.names.proofs.Sure.{On, Read, Reads, Sure, SureAll, Reader, look-sure, when-sure, then-sure, behind-sure}
 use Rattle.names.proofs.Parts.{at-token, chain-from, from-first, sooner}
@@ -67,7 +68,7 @@ module _ (text : List ℕ) where
         small = omega (arith, node-size k s q ts);
       }
 
-  unit-read : (at s e q : ℕ) (u : List ℕ) → at ≤ s → s < e → On text e q u → Read text 0 at (leaf unitKind s q []) q u
+  unit-read : (at s e q : ℕ) (u : List ℕ) → at ≤ s → s < e → On text e q u → Read text 0 at (leaf RecUnit s q []) q u
   unfolding startOf endOf Nested
   unit-read at s e q u f t p =
       record {
@@ -76,7 +77,7 @@ module _ (text : List ℕ) where
         some = omega (arith, p .further);
         to = refl;
         nested = omega (arith, p .further);
-        small = omega (arith, leaf-size unitKind s q [], p .further);
+        small = omega (arith, leaf-size RecUnit s q [], p .further);
       }
 
   single-read : (at s e : ℕ) (x : Tree) (q : ℕ) (u : List ℕ) → at ≤ s → s < e → Reads text e (more x none) q u → Read text 0 at (respan s q x) q u
@@ -125,7 +126,7 @@ module _ (text : List ℕ) where
   unfolding bracketed
   bracketed-read at s e none q u f t d = unit-read at s e q u f t (d .on)
   bracketed-read at s e (more x none) q u f t d = single-read at s e x q u f t d
-  bracketed-read at s e (more x (more y ts)) q u f t d = node-read at tupleKind s e (more x (more y ts)) q u f t (d .order) (d .on) (d .small)
+  bracketed-read at s e (more x (more y ts)) q u f t d = node-read at RecTuple s e (more x (more y ts)) q u f t (d .order) (d .on) (d .small)
 
   module _ (item : Scanned → Ans Tree) (reader : Reader text item) where
     list : (close e o : ℕ) → 0 < close → e ≤ length text → o ≤ length text → SureAll text e (listBehind item close o e (drop e text))
@@ -136,15 +137,15 @@ module _ (text : List ℕ) where
     arguments-sure s c q u d =
         rw (d .on .rest)
         (look-sure text (Sure text 0 s) _ q (d .on .inside) (λ r n. n) λ k₂ s₂ e₂ w₂ r₂ l₂ g₂.
-        let a₂ : SureAll text e₂ (listBehind item greaterTok s₂ e₂ (drop e₂ text)) = list greaterTok e₂ s₂ (omega arith) (g₂ .within) (omega (arith, g₂ .ordered, g₂ .within)) in
-        when-sure text (Sure text 0 s) (eqb k₂ lessTok) _ _
+        let a₂ : SureAll text e₂ (listBehind item Greater s₂ e₂ (drop e₂ text)) = list Greater e₂ s₂ (omega arith) (g₂ .within) (omega (arith, g₂ .ordered, g₂ .within)) in
+        when-sure text (Sure text 0 s) (eqb k₂ Less) _ _
         (λ b. rw (g₂ .behind)
-        (then-sure text (Sure text 0 s) (listBehind item greaterTok s₂ e₂ (drop e₂ text)) _
+        (then-sure text (Sure text 0 s) (listBehind item Greater s₂ e₂ (drop e₂ text)) _
         (λ ts q₃ u₃ a.
         let y : k₂ ≡ 25 = eqb-true k₂ 25 b in
-        sooner text s s 16 (ok (node typeKind s q₃ (more c ts)) q₃ u₃) (omega arith) (applied typeKind s c q u ts e₂ q₃ u₃ d (omega (arith, g₂ .from, g₂ .takes (omega arith))) (subst (SureAll text e₂) a a₂)))
+        sooner text s s 16 (ok (node RecType s q₃ (more c ts)) q₃ u₃) (omega arith) (applied RecType s c q u ts e₂ q₃ u₃ d (omega (arith, g₂ .from, g₂ .takes (omega arith))) (subst (SureAll text e₂) a a₂)))
         (λ r a. subst (SureAll text e₂) a a₂)))
-        (λ _. plain typeKind s c q (drop q text) (rw (d .on .rest) at d)))
+        (λ _. plain RecType s c q (drop q text) (rw (d .on .rest) at d)))
 
     named-sure : (at k s e : ℕ) (w r : List ℕ) → Good text at k s e w r → Sure text 0 s (named item s (tok k s e w r))
     unfolding named
@@ -159,8 +160,8 @@ module _ (text : List ℕ) where
       brackets-sure : Sure text 0 s (brackets item s e (drop e text))
       unfolding brackets
       brackets-sure =
-          let a₁ : SureAll text e (listBehind item closeTok s e (drop e text)) = list closeTok e s (omega arith) h (omega arith) in
-          then-sure text (Sure text 0 s) (listBehind item closeTok s e (drop e text)) _
+          let a₁ : SureAll text e (listBehind item RParen s e (drop e text)) = list RParen e s (omega arith) h (omega arith) in
+          then-sure text (Sure text 0 s) (listBehind item RParen s e (drop e text)) _
           (λ ts q u a. bracketed-read s s e ts q u (omega arith) t (subst (SureAll text e) a a₁))
           (λ r a. subst (SureAll text e) a a₁)
 
@@ -177,9 +178,9 @@ module _ (text : List ℕ) where
           (λ r a. subst (Sure text 0 e) a (reader e h))
 
       result : (ts : Trees) (q : ℕ) (u : List ℕ) (x : Tree) (q₂ : ℕ) (u₂ : List ℕ) → Reads text e ts q u → Read text 0 q x q₂ u₂
-          → Read text 0 s (node functionKind s q₂ (behind ts x)) q₂ u₂
+          → Read text 0 s (node RecFunction s q₂ (behind ts x)) q₂ u₂
       result ts q u x q₂ u₂ d p =
-          node-read s functionKind s e (behind ts x) q₂ u₂ (omega arith) t
+          node-read s RecFunction s e (behind ts x) q₂ u₂ (omega arith) t
           (behind-within ts x e q q₂ (omega (arith, d .on .further)) (d .order) (p .from) (omega (arith, p .to)) (omega (arith, p .on .further)) (p .nested))
           (record { rest = p .on .rest; further = omega (arith, d .on .further, p .on .further); inside = p .on .inside })
           (omega (arith, behind-size ts x, d .small, p .small, p .from))
@@ -187,8 +188,8 @@ module _ (text : List ℕ) where
       function-sure : Sure text 0 s (function item s e (drop e text))
       unfolding function
       function-sure =
-          let a₁ : SureAll text e (listBehind item pipeTok s e (drop e text)) = list pipeTok e s (omega arith) h (omega arith) in
-          then-sure text (Sure text 0 s) (listBehind item pipeTok s e (drop e text)) _
+          let a₁ : SureAll text e (listBehind item Pipe s e (drop e text)) = list Pipe e s (omega arith) h (omega arith) in
+          then-sure text (Sure text 0 s) (listBehind item Pipe s e (drop e text)) _
           (λ ts q u a.
           let d : Reads text e ts q u = subst (SureAll text e) a a₁ in
           rw (d .on .rest)
@@ -201,10 +202,10 @@ module _ (text : List ℕ) where
     unfolding typeOver look
     type-from at k s e w r g =
         let some : (j : ℕ) → eqb k (suc j) ≡ true → s < e = λ j b. g .takes (omega (arith, eqb-true k (suc j) b)) in
-        when-sure text (Sure text 0 s) (eqb k openTok) _ _ (λ c. rw (g .behind) (brackets-sure s e (some 10 c) (g .within)))
-        (λ _. when-sure text (Sure text 0 s) (eqb k ampTok) _ _ (λ c. rw (g .behind) (reference-sure s e (some 7 c) (g .within) refKind))
-        (λ _. when-sure text (Sure text 0 s) (eqb k ampMutTok) _ _ (λ c. rw (g .behind) (reference-sure s e (some 9 c) (g .within) refMutKind))
-        (λ _. when-sure text (Sure text 0 s) (eqb k pipeTok) _ _ (λ c. rw (g .behind) (function-sure s e (some 58 c) (g .within)))
+        when-sure text (Sure text 0 s) (eqb k LParen) _ _ (λ c. rw (g .behind) (brackets-sure s e (some 10 c) (g .within)))
+        (λ _. when-sure text (Sure text 0 s) (eqb k Amp) _ _ (λ c. rw (g .behind) (reference-sure s e (some 7 c) (g .within) RecRef))
+        (λ _. when-sure text (Sure text 0 s) (eqb k AmpMut) _ _ (λ c. rw (g .behind) (reference-sure s e (some 9 c) (g .within) RecRefMut))
+        (λ _. when-sure text (Sure text 0 s) (eqb k Pipe) _ _ (λ c. rw (g .behind) (function-sure s e (some 58 c) (g .within)))
         (λ _. named-sure at k s e w r g))))
 
     type-sure : Reader text (typeOver item)

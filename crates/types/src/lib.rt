@@ -8,6 +8,7 @@ ghost use lib.ListN.{length, drop};
 ghost use lib.Seq.{sets};
 ghost use Rattle.tokens.specs.Calls.{nextToken};
 ghost use Rattle.records.specs.Stored.{header, span, stored, storedAll};
+ghost use Rattle.words.specs.Kinds.{Greater};
 ghost use Rattle.names.specs.Reading.{listBehind};
 ghost use Rattle.names.specs.Parsed.{AtToken, AtList, scanned, follow, given, kept, put, onToken, admittedPart};
 ghost use Rattle.names.specs.Lists.{listStep, stepped, keptStep, putStep};
@@ -18,28 +19,34 @@ use names::Parsed;
 use names::Part;
 use names::Step;
 use names::Turn;
+use records::kinds::REC_FUNCTION;
+use records::kinds::REC_REF;
+use records::kinds::REC_REF_MUT;
+use records::kinds::REC_TUPLE;
+use records::kinds::REC_TYPE;
+use records::kinds::REC_UNIT;
 use tokens::Lexed;
+use tokens::TEXT_LIMIT;
 use tokens::Token;
+use tokens::refusals::START_PAST_END;
+use tokens::refusals::TEXT_TOO_LONG;
+use tokens::refusals::TOO_DEEP;
+use words::kinds::AMP;
+use words::kinds::AMP_MUT;
+use words::kinds::GREATER;
+use words::kinds::L_PAREN;
+use words::kinds::LESS;
+use words::kinds::PIPE;
+use words::kinds::R_PAREN;
 
-const AMP: u8 = 8;
-
-const AMP_MUT: u8 = 10;
-
-const OPEN: u8 = 11;
-
-const CLOSE: u8 = 12;
-
-const LESS: u8 = 25;
-
-const GREATER: u8 = 32;
-
-const PIPE: u8 = 59;
+// The most levels of an item.
+pub const LEVELS: usize = 64;
 
 // The refusal of the token t, at which the levels end.
 pub fn too_deep(t: Token) -> Parsed
     ensures { λ r. ⌜ r ≡ Rattle.types.specs.Written.tooDeep t ⌝ }
 {
-    Parsed::Refused(tokens::refuse(14, t.start, t.end))
+    Parsed::Refused(tokens::refuse(TOO_DEEP, t.start, t.end))
 }
 
 // Brackets from o to q round no item, or round the one of n bytes at pos, which takes their span.
@@ -49,7 +56,7 @@ fn close_brackets(text: &[u8], o: usize, q: usize, n: usize, out: &mut [u8], pos
     ensures bytes { λ r. ⌜ now (out .exit) ≡ closedBrackets o q n pos (now (out .entry)) ⌝ }
 {
     if n == 0 {
-        records::put_header(out, pos, 8, 14, o, q);
+        records::put_header(out, pos, 8, REC_UNIT, o, q);
         return names::finish(text, q, 8);
     }
     records::put_span(out, pos + 4, o, q);
@@ -72,7 +79,7 @@ fn make_tuple(o: usize, n: usize, p: Part, out: &mut [u8], pos: usize) -> Part
         };
     }
     records::shift_up(out, pos, n, 8);
-    records::put_header(out, pos, n + p.len + 8, 15, o, p.end);
+    records::put_header(out, pos, n + p.len + 8, REC_TUPLE, o, p.end);
     Part {
         len: n + p.len + 8,
         end: p.end,
@@ -89,14 +96,14 @@ fn type_at(text: &[u8], a: Token, left: usize, out: &mut [u8], pos: usize) -> Pa
     if left == 0 {
         return too_deep(a);
     }
-    if a.kind == OPEN {
+    if a.kind == L_PAREN {
         return brackets_at(text, a, left - 1, out, pos);
     }
     if a.kind == AMP {
-        return reference_at(text, 11, a, left - 1, out, pos);
+        return reference_at(text, REC_REF, a, left - 1, out, pos);
     }
     if a.kind == AMP_MUT {
-        return reference_at(text, 12, a, left - 1, out, pos);
+        return reference_at(text, REC_REF_MUT, a, left - 1, out, pos);
     }
     if a.kind == PIPE {
         return function_at(text, a, left - 1, out, pos);
@@ -128,7 +135,7 @@ fn named_at(text: &[u8], a: Token, left: usize, out: &mut [u8], pos: usize) -> P
                     Parsed::Refused(r) => Parsed::Refused(r),
                     Parsed::Read(i) => {
                         let n = i.next;
-                        records::put_header(out, pos, p.len + i.len + 8, 10, a.start, i.end);
+                        records::put_header(out, pos, p.len + i.len + 8, REC_TYPE, a.start, i.end);
                         Parsed::Read(Part {
                             len: p.len + i.len + 8,
                             end: i.end,
@@ -138,7 +145,7 @@ fn named_at(text: &[u8], a: Token, left: usize, out: &mut [u8], pos: usize) -> P
                 }
             } else {
                 let n = p.next;
-                records::put_header(out, pos, p.len + 8, 10, a.start, p.end);
+                records::put_header(out, pos, p.len + 8, REC_TYPE, a.start, p.end);
                 Parsed::Read(Part {
                     len: p.len + 8,
                     end: p.end,
@@ -156,12 +163,12 @@ fn brackets_at(text: &[u8], a: Token, left: usize, out: &mut [u8], pos: usize) -
     ensures answer { λ r. ⌜ r ≡ given stored (brackets (readType left) (a .start) (a .end) (drop (a .end) (now (text .entry)))) ⌝ }
     ensures bytes { λ r. ⌜ kept r (now (out .exit)) ≡ kept r (put stored pos (brackets (readType left) (a .start) (a .end) (drop (a .end) (now (text .entry)))) (now (out .entry))) ⌝ }
 {
-    let s = type_step(text, a.start, a.end, CLOSE, left, out, pos);
+    let s = type_step(text, a.start, a.end, R_PAREN, left, out, pos);
     match s {
         Step::Refused(r) => Parsed::Refused(r),
         Step::Last(n, q) => close_brackets(text, a.start, q, n, out, pos),
         Step::Item(n, e) => {
-            let l = type_list(text, a.start, e, CLOSE, left, out, pos + 8 + n);
+            let l = type_list(text, a.start, e, R_PAREN, left, out, pos + 8 + n);
             match l {
                 Parsed::Refused(r) => Parsed::Refused(r),
                 Parsed::Read(p) => Parsed::Read(make_tuple(a.start, n, p, out, pos)),
@@ -222,7 +229,7 @@ fn function_at(text: &[u8], a: Token, left: usize, out: &mut [u8], pos: usize) -
                 Parsed::Refused(r) => Parsed::Refused(r),
                 Parsed::Read(p) => {
                     let n = p.next;
-                    records::put_header(out, pos, i.len + p.len + 8, 13, a.start, p.end);
+                    records::put_header(out, pos, i.len + p.len + 8, REC_FUNCTION, a.start, p.end);
                     Parsed::Read(Part {
                         len: i.len + p.len + 8,
                         end: p.end,
@@ -302,16 +309,20 @@ fn type_list(
     }
 }
 
-// The arguments behind the `<` at t, where `left` levels are left for each, their records at pos.
+// The arguments behind the `<` at t, where `left` levels are left for each, their records at pos. The token is
+// taken as the caller has it, and reading goes on at its end.
 pub fn parse_type_args(text: &[u8], t: Token, left: u8, out: &mut [u8], pos: usize) -> Parsed
-    ensures answer { λ r. ⌜ r ≡ given storedAll (onToken (now (text .entry)) t (listBehind (readType left) 32 (t .start) (t .end) (drop (t .end) (now (text .entry))))) ⌝ }
-    ensures bytes { λ r. ⌜ kept r (now (out .exit)) ≡ kept r (put storedAll pos (onToken (now (text .entry)) t (listBehind (readType left) 32 (t .start) (t .end) (drop (t .end) (now (text .entry))))) (now (out .entry))) ⌝ }
+    ensures answer { λ r. ⌜ r ≡ given storedAll (onToken (now (text .entry)) t (listBehind (readType left) Greater (t .start) (t .end) (drop (t .end) (now (text .entry))))) ⌝ }
+    ensures bytes { λ r. ⌜ kept r (now (out .exit)) ≡ kept r (put storedAll pos (onToken (now (text .entry)) t (listBehind (readType left) Greater (t .start) (t .end) (drop (t .end) (now (text .entry))))) (now (out .entry))) ⌝ }
 {
-    if names::stands(text, t) {
-        let p = names::clip(pos, out.len());
-        return type_list(text, t.start, t.end, GREATER, left as usize, out, p);
+    if TEXT_LIMIT < text.len() {
+        return Parsed::Refused(tokens::refuse(TEXT_TOO_LONG, 0, 0));
     }
-    Parsed::Refused(tokens::refuse(2, 0, 0))
+    if text.len() < t.end {
+        return Parsed::Refused(tokens::refuse(START_PAST_END, 0, 0));
+    }
+    let p = names::clip(pos, out.len());
+    type_list(text, t.start, t.end, GREATER, left as usize, out, p)
 }
 
 // The type from `at` on.
@@ -322,6 +333,6 @@ pub fn parse_type(text: &[u8], at: usize, out: &mut [u8]) -> Parsed
     let l = tokens::next_token(text, at);
     match l {
         Lexed::Refused(r) => Parsed::Refused(r),
-        Lexed::Found(a) => type_at(text, a, 64, out, 0),
+        Lexed::Found(a) => type_at(text, a, LEVELS, out, 0),
     }
 }

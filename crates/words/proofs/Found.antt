@@ -1,36 +1,23 @@
--- What each way through the search for a mark has found.
--- Assumes nothing.
+-- What each search through rows of the marks has found.
 use mathlib.Core.Path.{_≡_, refl, ap, sym, _∙_}
 use mathlib.Core.Bool.{Bool, true, false, cond, not, _&&_}
 use mathlib.Core.List.{List, [], _∷_, _++_}
-use Prim.Native.Nat.{ℕ, suc, _+_, _%_, _<_, _≤_}
+use Prim.Native.Nat.{ℕ, zero, suc, _+_, _<_, _≤_}
 use native.Mathlib.Omega.{arith}
+use native.Mathlib.Numerals.{add-one}
 use borrow.Author.Tests.{eqb-true, eqb-false, eq-eqb, ne-eqb, not-true, leb-true}
 use lib.Dec.{eqb, leb}
 use lib.ListN.{length, getD, take, drop, drop-of-length-le}
-use lib.Seq.{drop-cons}
+use lib.Seq.{drop-cons, getD-drop}
 use Rattle.classes.specs.Bytes.{begins}
-use Rattle.words.specs.Tables.{Entry, longMarks, doubleMarks, singleMarks, marks}
+use Rattle.words.specs.Tables.{Entry, none, longMarks, doubleMarks, singleMarks, marks}
 use Rattle.words.specs.Search.{noFit, markOf, firstFit}
-use Rattle.words.specs.Rows.{column, valueIf, firstOf, byteIn, kindIn, slotByte, slotKind, oneIs, singleKind, twoAre, doubleKind, nextIs, secondOf, rowFit}
+use Rattle.words.specs.code.Rows.{valueIf, rowFit}
 use Rattle.words.specs.declared.Fit.{Fit}
-use Rattle.classes.proofs.Bools.{and-left, and-right, and-true, false-true}
-use Rattle.words.proofs.Tests.{below, below-at, all, all-head, all-tail}
-use Rattle.words.proofs.Places.{behind}
-use Rattle.words.proofs.Rows.{markRows, tables}
+use Rattle.classes.proofs.Bools.{and-left, and-right, and-true}
+use Rattle.words.proofs.Tests.{all, all-head, all-tail, all-at, plain, plain-some, plain-tail}
+use Rattle.words.proofs.Rows.{markRows, tables, cellsAre, cell}
 use Rattle.words.proofs.Marks.{mark-first}
-
--- every byte, by the dense table: one test, computed over the 256
-agrees : ℕ → Bool
-agrees a = eqb (valueIf a (slotByte (a % 70)) (slotKind (a % 70))) (singleKind a)
-
-all-agree : below agrees 256 ≡ true
-unfolding agrees slotByte slotKind singleKind firstOf byteIn kindIn oneIs valueIf column singleMarks
-all-agree = refl
-
-pub by-slot : (a x y r : ℕ) → a < 256 → x ≡ slotByte (a % 70) → y ≡ slotKind (a % 70) → r ≡ valueIf a x y → r ≡ singleKind a
-unfolding agrees
-by-slot a x y r h p q e = e ∙ rw (p, q) (eqb-true _ _ (below-at agrees 256 a all-agree h))
 
 -- a table in two parts: the first part decides where an entry of it fits
 hit-step : (b : Bool) (f g h : Fit) → (cond b f g .len ≡ 0 → ⊥) → ((g .len ≡ 0 → ⊥) → h ≡ g) → cond b f h ≡ cond b f g
@@ -42,175 +29,57 @@ unfolding firstFit
 over-hit [] u s h = absurd (h refl)
 over-hit (e ∷ es) u s h = hit-step (begins (e .word) s) _ (firstFit es s) (firstFit (es ++ u) s) h (over-hit es u s)
 
-filled-in : Entry → Bool
-filled-in e = leb 1 (length (e .word))
+-- an entry of the table: at least one byte, and a kind that is not 0
+isMark : Entry → Bool
+isMark e = leb 1 (length (e .word)) && not (eqb (e .kind) 0)
 
-miss-step : (b : Bool) (e : Entry) (g h k : Fit) → filled-in e ≡ true → cond b (record { len = length (e .word); kind = e .kind }) g .len ≡ 0
+all-marks : all isMark marks ≡ true
+unfolding isMark marks longMarks doubleMarks singleMarks
+all-marks = refl
+
+module _ (e : Entry) (h : isMark e ≡ true) where
+  one-or-more : 1 ≤ length (e .word)
+  unfolding isMark
+  one-or-more = leb-true _ _ (and-left (leb 1 (length (e .word))) (not (eqb (e .kind) 0)) h)
+
+  has-kind : e .kind ≡ 0 → ⊥
+  unfolding isMark
+  has-kind = eqb-false _ _ (not-true _ (and-right (leb 1 (length (e .word))) (not (eqb (e .kind) 0)) h))
+
+miss-step : (b : Bool) (e : Entry) (g h k : Fit) → isMark e ≡ true → cond b (record { len = length (e .word); kind = e .kind }) g .len ≡ 0
     → (g .len ≡ 0 → h ≡ k) → cond b (record { len = length (e .word); kind = e .kind }) h ≡ k
-unfolding filled-in
-miss-step true e g h k p z r = let q : 1 ≤ length (e .word) = leb-true _ _ p in absurd (omega arith)
+miss-step true e g h k p z r = let q : 1 ≤ length (e .word) = one-or-more e p in absurd (omega arith)
 miss-step false e g h k p z r = r z
 
-over-miss : (t u : List Entry) (s : List ℕ) → all filled-in t ≡ true → firstFit t s .len ≡ 0 → firstFit (t ++ u) s ≡ firstFit u s
+over-miss : (t u : List Entry) (s : List ℕ) → all isMark t ≡ true → firstFit t s .len ≡ 0 → firstFit (t ++ u) s ≡ firstFit u s
 unfolding firstFit
 over-miss [] u s p z = refl
 over-miss (e ∷ es) u s p z =
-    miss-step (begins (e .word) s) e (firstFit es s) (firstFit (es ++ u) s) (firstFit u s) (all-head filled-in e es p) z
-    (over-miss es u s (all-tail filled-in e es p))
+    miss-step (begins (e .word) s) e (firstFit es s) (firstFit (es ++ u) s) (firstFit u s) (all-head isMark e es p) z
+    (over-miss es u s (all-tail isMark e es p))
 
-skip : (t u : List Entry) (s : List ℕ) → all (λ e. not (begins (e .word) s)) t ≡ true → firstFit (t ++ u) s ≡ firstFit u s
-unfolding firstFit
-skip [] u s h = refl
-skip (e ∷ es) u s h =
-    rw (not-true (begins (e .word) s) (all-head (λ e. not (begins (e .word) s)) e es h)) (skip es u s (all-tail (λ e. not (begins (e .word) s)) e es h))
+-- the search from the entry k of a part of the table on, f being what the entry k alone finds
+module _ (t : List Entry) (s : List ℕ) where
+  pub fit-end : (k : ℕ) → length t ≤ k → firstFit (drop k t) s ≡ noFit
+  unfolding firstFit
+  fit-end k h = rw (drop-of-length-le t h)
+
+  module _ (k : ℕ) (h : k < length t) (f : Fit) (e : f ≡ firstFit (getD t k none ∷ []) s) where
+    here : drop k t ≡ (getD t k none ∷ []) ++ drop (k + 1) t
+    here = rw (add-one k) (drop-cons t k none h)
+
+    fit-hit : (f .len ≡ 0 → ⊥) → firstFit (drop k t) s ≡ f
+    fit-hit g =
+        rw here (over-hit (getD t k none ∷ []) (drop (k + 1) t) s (λ p. g (ap (λ (x : Fit). x .len) e ∙ p))) ∙ sym e
+
+    fit-next : all isMark t ≡ true → f .len ≡ 0 → firstFit (drop k t) s ≡ firstFit (drop (k + 1) t) s
+    fit-next m z =
+        rw here (over-miss (getD t k none ∷ []) (drop (k + 1) t) s (rw (all-at isMark t k m h)) (ap (λ (x : Fit). x .len) (sym e) ∙ z))
 
 -- a fit of n bytes, where the kind is not 0
 fitFor : ℕ → ℕ → Fit
 fitFor n k = cond (eqb k 0) noFit (record { len = n; kind = k })
 
--- the marks of one byte
-isSingle : Entry → Bool
-isSingle e = eqb (length (e .word)) 1 && not (eqb (e .kind) 0)
-
-single-begins : (w : List ℕ) (a : ℕ) (s : List ℕ) → length w ≡ 1 → begins w (a ∷ s) ≡ eqb a (getD w 0 0)
-unfolding begins
-single-begins [] a s h = absurd (omega arith)
-single-begins (x ∷ []) a s h = and-true (eqb a x)
-single-begins (x ∷ y ∷ w) a s h = absurd (omega arith)
-
-kind-step : (b : Bool) (n k : ℕ) (g : Fit) (r : ℕ) → (k ≡ 0 → ⊥) → g ≡ fitFor n r
-    → cond b (record { len = n; kind = k }) g ≡ fitFor n (cond (eqb (cond b k 0) 0) r (cond b k 0))
-unfolding fitFor
-kind-step true n k g r h p = rw (ne-eqb k 0 h, ne-eqb k 0 h)
-kind-step false n k g r h p = p
-
-single-fit : (t : List Entry) (a : ℕ) (s : List ℕ) → all isSingle t ≡ true → firstFit t (a ∷ s) ≡ fitFor 1 (firstOf (oneIs a) t)
-unfolding firstFit firstOf fitFor isSingle oneIs valueIf column
-single-fit [] a s h = refl
-single-fit (e ∷ es) a s h =
-    let l : length (e .word) ≡ 1 = eqb-true _ _ (and-left (eqb (length (e .word)) 1) (not (eqb (e .kind) 0)) (all-head isSingle e es h)) in
-    let n : e .kind ≡ 0 → ⊥ = eqb-false _ _ (not-true _ (and-right (eqb (length (e .word)) 1) (not (eqb (e .kind) 0)) (all-head isSingle e es h))) in
-    rw (single-begins (e .word) a s l, l)
-    (kind-step (eqb a (getD (e .word) 0 0)) 1 (e .kind) (firstFit es (a ∷ s)) (firstOf (oneIs a) es) n (single-fit es a s (all-tail isSingle e es h)))
-
--- the marks of two bytes; b is the byte behind a, or 0
-isDouble : Entry → Bool
-isDouble e = (eqb (length (e .word)) 2 && not (eqb (column 1 e) 0)) && not (eqb (e .kind) 0)
-
-next-begins : (y : ℕ) (s : List ℕ) → (y ≡ 0 → ⊥) → begins (y ∷ []) s ≡ eqb (getD s 0 0) y
-unfolding begins
-next-begins y [] h = sym (ne-eqb 0 y (λ p. h (sym p)))
-next-begins y (b ∷ s) h = and-true (eqb b y)
-
-double-begins : (w : List ℕ) (a : ℕ) (s : List ℕ) → length w ≡ 2 → (getD w 1 0 ≡ 0 → ⊥) → begins w (a ∷ s) ≡ eqb a (getD w 0 0) && eqb (getD s 0 0) (getD w 1 0)
-unfolding begins
-double-begins [] a s h n = absurd (omega arith)
-double-begins (x ∷ []) a s h n = absurd (omega arith)
-double-begins (x ∷ y ∷ []) a s h n = ap (λ (b : Bool). eqb a x && b) (next-begins y s n)
-double-begins (x ∷ y ∷ z ∷ w) a s h n = absurd (omega arith)
-
-both : (b c : Bool) (k : ℕ) → cond (b && c) k 0 ≡ cond b (cond c k 0) 0
-both true c k = refl
-both false c k = refl
-
-double-fit : (t : List Entry) (a : ℕ) (s : List ℕ) → all isDouble t ≡ true → firstFit t (a ∷ s) ≡ fitFor 2 (firstOf (twoAre a (getD s 0 0)) t)
-unfolding firstFit firstOf fitFor isDouble twoAre valueIf column
-double-fit [] a s h = refl
-double-fit (e ∷ es) a s h =
-    let p : _ ≡ true = all-head isDouble e es h in
-    let q : _ ≡ true = and-left (eqb (length (e .word)) 2 && not (eqb (getD (e .word) 1 0) 0)) (not (eqb (e .kind) 0)) p in
-    let l : length (e .word) ≡ 2 = eqb-true _ _ (and-left (eqb (length (e .word)) 2) (not (eqb (getD (e .word) 1 0) 0)) q) in
-    let m : getD (e .word) 1 0 ≡ 0 → ⊥ = eqb-false _ _ (not-true _ (and-right (eqb (length (e .word)) 2) (not (eqb (getD (e .word) 1 0) 0)) q)) in
-    let n : e .kind ≡ 0 → ⊥ = eqb-false _ _ (not-true _ (and-right (eqb (length (e .word)) 2 && not (eqb (getD (e .word) 1 0) 0)) (not (eqb (e .kind) 0)) p)) in
-    rw (double-begins (e .word) a s l m, l, ← both (eqb a (getD (e .word) 0 0)) (eqb (getD s 0 0) (getD (e .word) 1 0)) (e .kind))
-    (kind-step (eqb a (getD (e .word) 0 0) && eqb (getD s 0 0) (getD (e .word) 1 0)) 2 (e .kind) (firstFit es (a ∷ s)) (firstOf (twoAre a (getD s 0 0)) es) n (double-fit es a s (all-tail isDouble e es h)))
-
--- a mark of two bytes and more begins with a mark of one byte, and goes on with a second byte
-isLonger : Entry → Bool
-isLonger e = leb 2 (length (e .word)) && not (eqb (singleKind (column 0 e)) 0)
-
-first-begins : (w : List ℕ) (a : ℕ) (s : List ℕ) → 2 ≤ length w → begins w (a ∷ s) ≡ true → a ≡ getD w 0 0
-unfolding begins
-first-begins [] a s h p = absurd (omega arith)
-first-begins (x ∷ w) a s h p = eqb-true a x (and-left (eqb a x) (begins w s) p)
-
-second-begins : (w : List ℕ) (a : ℕ) (s : List ℕ) → 2 ≤ length w → begins w (a ∷ s) ≡ true → getD s 0 0 ≡ getD w 1 0
-unfolding begins
-second-begins [] a s h p = absurd (omega arith)
-second-begins (x ∷ []) a s h p = absurd (omega arith)
-second-begins (x ∷ y ∷ w) a [] h p = false-true _ (and-right (eqb a x) false p)
-second-begins (x ∷ y ∷ w) a (b ∷ s) h p = eqb-true b y (and-left (eqb b y) (begins w s) (and-right (eqb a x) (eqb b y && begins w s) p))
-
-no-begin : (w s : List ℕ) → (begins w s ≡ true → ⊥) → not (begins w s) ≡ true
-no-begin w s h = go (begins w s) refl
-  where
-    go : (b : Bool) → begins w s ≡ b → not b ≡ true
-    go true p = absurd (h p)
-    go false p = refl
-
-long-enough : (e : Entry) → isLonger e ≡ true → 2 ≤ length (e .word)
-unfolding isLonger
-long-enough e h = leb-true _ _ (and-left (leb 2 (length (e .word))) (not (eqb (singleKind (column 0 e)) 0)) h)
-
-leads : (e : Entry) → isLonger e ≡ true → singleKind (getD (e .word) 0 0) ≡ 0 → ⊥
-unfolding isLonger column
-leads e h = eqb-false _ _ (not-true _ (and-right (leb 2 (length (e .word))) (not (eqb (singleKind (getD (e .word) 0 0)) 0)) h))
-
-no-lead : (t : List Entry) (a : ℕ) (s : List ℕ) → all isLonger t ≡ true → singleKind a ≡ 0 → all (λ e. not (begins (e .word) (a ∷ s))) t ≡ true
-no-lead [] a s h z = refl
-no-lead (e ∷ es) a s h z =
-    let i : isLonger e ≡ true = all-head isLonger e es h in
-    rw (no-begin (e .word) (a ∷ s) (λ p. leads e i (ap singleKind (sym (first-begins (e .word) a s (long-enough e i) p)) ∙ z)))
-    (no-lead es a s (all-tail isLonger e es h) z)
-
--- where the first value that is not 0 is 0, all are
-zero-head : (v r : ℕ) → cond (eqb v 0) r v ≡ 0 → (v ≡ 0) × (r ≡ 0)
-zero-head v r h = go (eqb v 0) refl h
-  where
-    go : (b : Bool) → eqb v 0 ≡ b → cond b r v ≡ 0 → (v ≡ 0) × (r ≡ 0)
-    go true p q = (eqb-true v 0 p, q)
-    go false p q = absurd (eqb-false v 0 p q)
-
-next-off : (b : ℕ) (e : Entry) → nextIs b e ≡ 0 → b ≡ getD (e .word) 1 0 → ⊥
-unfolding nextIs valueIf column
-next-off b e h p = let z : _≡_ {A = ℕ} 1 0 = rw (eq-eqb b (getD (e .word) 1 0) p) at h in absurd (omega arith)
-
-no-next : (t : List Entry) (a : ℕ) (s : List ℕ) → all isLonger t ≡ true → firstOf (nextIs (getD s 0 0)) t ≡ 0
-    → all (λ e. not (begins (e .word) (a ∷ s))) t ≡ true
-unfolding firstOf
-no-next [] a s h z = refl
-no-next (e ∷ es) a s h z =
-    let i : isLonger e ≡ true = all-head isLonger e es h in
-    let u : (nextIs (getD s 0 0) e ≡ 0) × (firstOf (nextIs (getD s 0 0)) es ≡ 0) = zero-head (nextIs (getD s 0 0) e) (firstOf (nextIs (getD s 0 0)) es) z in
-    rw (no-begin (e .word) (a ∷ s) (λ p. next-off (getD s 0 0) e (u .0) (second-begins (e .word) a s (long-enough e i) p)))
-    (no-next es a s (all-tail isLonger e es h) (u .1))
-
--- the parts of the table, each held to its rule by one test
-longs-filled : all filled-in longMarks ≡ true
-unfolding filled-in longMarks
-longs-filled = refl
-
-doubles-filled : all filled-in doubleMarks ≡ true
-unfolding filled-in doubleMarks
-doubles-filled = refl
-
-doubles : all isDouble doubleMarks ≡ true
-unfolding isDouble column doubleMarks
-doubles = refl
-
-singles : all isSingle singleMarks ≡ true
-unfolding isSingle singleMarks
-singles = refl
-
-longers : all isLonger (longMarks ++ doubleMarks) ≡ true
-unfolding isLonger column longMarks doubleMarks singleKind firstOf oneIs valueIf singleMarks
-longers = refl
-
-two-parts : marks ≡ (longMarks ++ doubleMarks) ++ singleMarks
-unfolding marks longMarks doubleMarks singleMarks
-two-parts = refl
-
--- a kind that is not 0, or is
 fit-is : (n k : ℕ) → (k ≡ 0 → ⊥) → fitFor n k ≡ record { len = n; kind = k }
 unfolding fitFor
 fit-is n k h = rw (ne-eqb k 0 h)
@@ -219,10 +88,48 @@ fit-not : (n k : ℕ) → k ≡ 0 → fitFor n k ≡ noFit
 unfolding fitFor
 fit-not n k h = rw (eq-eqb k 0 h)
 
-not-two : _≡_ {A = ℕ} 2 0 → ⊥
-not-two p = absurd (omega arith)
+fit-if : (b : Bool) (n k : ℕ) → (k ≡ 0 → ⊥) → fitFor n (cond b k 0) ≡ cond b (record { len = n; kind = k }) noFit
+unfolding fitFor
+fit-if true n k h = rw (ne-eqb k 0 h)
+fit-if false n k h = refl
 
--- a row of the code, and the three longest marks
+-- an entry of one byte, and one of two
+single-begins : (w : List ℕ) (a : ℕ) → 1 ≡ length w → begins w (a ∷ []) ≡ eqb a (getD w 0 0)
+unfolding begins
+single-begins [] a h = absurd (omega arith)
+single-begins (x ∷ []) a h = and-true (eqb a x)
+single-begins (x ∷ y ∷ w) a h = absurd (omega arith)
+
+double-begins : (w : List ℕ) (a b : ℕ) → 2 ≡ length w → begins w (a ∷ b ∷ []) ≡ eqb a (getD w 0 0) && eqb b (getD w 1 0)
+unfolding begins
+double-begins [] a b h = absurd (omega arith)
+double-begins (x ∷ []) a b h = absurd (omega arith)
+double-begins (x ∷ y ∷ []) a b h = ap (λ (c : Bool). eqb a x && c) (and-true (eqb b y))
+double-begins (x ∷ y ∷ z ∷ w) a b h = absurd (omega arith)
+
+single-fit : (e : Entry) (a : ℕ) → 1 ≡ length (e .word) → (e .kind ≡ 0 → ⊥)
+    → fitFor 1 (valueIf a (getD (e .word) 0 0) (e .kind)) ≡ firstFit (e ∷ []) (a ∷ [])
+unfolding firstFit valueIf
+single-fit e a l n = fit-if (eqb a (getD (e .word) 0 0)) 1 (e .kind) n ∙ rw (single-begins (e .word) a l, ← l)
+
+double-fit : (e : Entry) (a b : ℕ) → 2 ≡ length (e .word) → (e .kind ≡ 0 → ⊥) → getD (e .word) 0 0 ≡ a
+    → fitFor 2 (valueIf b (getD (e .word) 1 0) (e .kind)) ≡ firstFit (e ∷ []) (a ∷ b ∷ [])
+unfolding firstFit valueIf
+double-fit e a b l n p =
+    fit-if (eqb b (getD (e .word) 1 0)) 2 (e .kind) n ∙ rw (double-begins (e .word) a b l, eq-eqb a (getD (e .word) 0 0) (sym p), ← l)
+
+double-off : (e : Entry) (a b : ℕ) → 2 ≡ length (e .word) → (getD (e .word) 0 0 ≡ a → ⊥) → noFit ≡ firstFit (e ∷ []) (a ∷ b ∷ [])
+unfolding firstFit
+double-off e a b l n = rw (double-begins (e .word) a b l, ne-eqb a (getD (e .word) 0 0) (λ p. n (sym p)))
+
+-- a word of which the first byte is another than that of s
+other-first : (w s : List ℕ) → 1 ≤ length w → (getD w 0 0 ≡ getD s 0 0 → ⊥) → begins w s ≡ false
+unfolding begins
+other-first [] s h n = absurd (omega arith)
+other-first (x ∷ w) [] h n = refl
+other-first (x ∷ w) (b ∷ s) h n = rw (ne-eqb b x (λ p. n (sym p)))
+
+-- the rows of three bytes and more
 pub row-fits : (row s : List ℕ) (n : ℕ) → n ≡ getD row 5 0 → (b : Bool) → b ≡ begins (take n row) s → b ≡ true
     → record { len = n; kind = getD row 6 0 } ≡ rowFit row s
 unfolding rowFit
@@ -232,86 +139,192 @@ pub row-off : (row s : List ℕ) (n : ℕ) → n ≡ getD row 5 0 → (b : Bool)
 unfolding rowFit
 row-off row s n e b p q = rw (← e, ← p, q)
 
-module _ (s : List ℕ) (f : Fit) (e : f ≡ rowFit (getD markRows 0 []) s) where
-  pub long-first : (f .len ≡ 0 → ⊥) → f ≡ firstFit longMarks s
-  unfolding tables rowFit firstFit
-  long-first h = e ∙ sym (over-hit (take 1 longMarks) (drop 1 longMarks) s (λ p. h (ap (λ (x : Fit). x .len) e ∙ p)))
+longs : all isMark longMarks ≡ true
+unfolding isMark longMarks
+longs = refl
 
-  module _ (z : f .len ≡ 0) (g : Fit) (k : g ≡ rowFit (getD markRows 1 []) s) where
-    past-first : firstFit longMarks s ≡ firstFit (drop 1 longMarks) s
-    unfolding tables rowFit firstFit filled-in
-    past-first = over-miss (take 1 longMarks) (drop 1 longMarks) s refl (ap (λ (x : Fit). x .len) (sym e) ∙ z)
+long-row : (k : ℕ) (s : List ℕ) → k < 3 → rowFit (getD markRows k []) s ≡ firstFit (getD longMarks k none ∷ []) s
+unfolding tables rowFit firstFit
+long-row zero s h = refl
+long-row (suc zero) s h = refl
+long-row (suc (suc zero)) s h = refl
+long-row (suc (suc (suc k))) s h = absurd (omega arith)
 
-    pub long-next : (g .len ≡ 0 → ⊥) → g ≡ firstFit longMarks s
-    unfolding tables rowFit firstFit
-    long-next h =
-        k ∙ sym (past-first ∙ over-hit (take 1 (drop 1 longMarks)) (drop 2 longMarks) s (λ p. h (ap (λ (x : Fit). x .len) k ∙ p)))
+pub long-room : (k : ℕ) → k < 3 → (0 < getD (getD markRows k []) 5 0) × (getD (getD markRows k []) 5 0 ≤ 5)
+unfolding tables
+long-room zero h = (omega arith, omega arith)
+long-room (suc zero) h = (omega arith, omega arith)
+long-room (suc (suc zero)) h = (omega arith, omega arith)
+long-room (suc (suc (suc k))) h = absurd (omega arith)
 
-    pub long-last : g .len ≡ 0 → (t : Fit) → t ≡ rowFit (getD markRows 2 []) s → t ≡ firstFit longMarks s
-    unfolding tables rowFit firstFit filled-in
-    long-last y t m =
-        m ∙ sym (past-first ∙ over-miss (take 1 (drop 1 longMarks)) (drop 2 longMarks) s refl (ap (λ (x : Fit). x .len) (sym k) ∙ y))
+module _ (s : List ℕ) (k : ℕ) (h : k < 3) where
+  in-longs : k < length longMarks
+  unfolding longMarks
+  in-longs = h
+
+  module _ (f : Fit) (e : f ≡ rowFit (getD markRows k []) s) where
+    pub long-hit : (f .len ≡ 0 → ⊥) → firstFit (drop k longMarks) s ≡ f
+    long-hit g = fit-hit longMarks s k in-longs f (e ∙ long-row k s h) g
+
+    pub long-miss : f .len ≡ 0 → firstFit (drop k longMarks) s ≡ firstFit (drop (k + 1) longMarks) s
+    long-miss z = fit-next longMarks s k in-longs f (e ∙ long-row k s h) longs z
+
+  long-first : getD (getD markRows k []) 0 0 ≡ getD (getD longMarks k none .word) 0 0
+  unfolding tables cellsAre
+  long-first = cell (λ k. getD (getD markRows k []) 0 0) (λ e. getD (e .word) 0 0) longMarks 0 refl k (omega arith) h
+
+  pub long-other : (getD (getD markRows k []) 0 0 ≡ getD s 0 0 → ⊥) → firstFit (drop k longMarks) s ≡ firstFit (drop (k + 1) longMarks) s
+  unfolding firstFit
+  long-other g =
+      fit-next longMarks s k in-longs noFit
+      (rw (other-first (getD longMarks k none .word) s (one-or-more (getD longMarks k none) (all-at isMark longMarks k longs in-longs)) (λ p. g (long-first ∙ p))))
+      longs refl
+
+-- the rows of two bytes, from the row 3 on
+unfoldable pub twoOrMore : List Entry
+twoOrMore = longMarks ++ doubleMarks
+
+twos : all isMark twoOrMore ≡ true
+unfolding isMark twoOrMore longMarks doubleMarks
+twos = refl
+
+module _ (a b : ℕ) (k : ℕ) (l : 3 ≤ k) (h : k < 13) where
+  in-twos : k < length twoOrMore
+  unfolding twoOrMore longMarks doubleMarks
+  in-twos = h
+
+  double-first : getD (getD markRows k []) 0 0 ≡ getD (getD twoOrMore k none .word) 0 0
+  unfolding tables twoOrMore cellsAre
+  double-first = cell (λ k. getD (getD markRows k []) 0 0) (λ e. getD (e .word) 0 0) twoOrMore 3 refl k l h
+
+  double-second : getD (getD markRows k []) 1 0 ≡ getD (getD twoOrMore k none .word) 1 0
+  unfolding tables twoOrMore cellsAre
+  double-second = cell (λ k. getD (getD markRows k []) 1 0) (λ e. getD (e .word) 1 0) twoOrMore 3 refl k l h
+
+  double-kind : getD (getD markRows k []) 6 0 ≡ getD twoOrMore k none .kind
+  unfolding tables twoOrMore cellsAre
+  double-kind = cell (λ k. getD (getD markRows k []) 6 0) (λ e. e .kind) twoOrMore 3 refl k l h
+
+  double-length : 2 ≡ length (getD twoOrMore k none .word)
+  unfolding tables twoOrMore cellsAre
+  double-length = cell (λ k. 2) (λ e. length (e .word)) twoOrMore 3 refl k l h
+
+  pub double-other : (getD (getD markRows k []) 0 0 ≡ a → ⊥) → firstFit (drop k twoOrMore) (a ∷ b ∷ []) ≡ firstFit (drop (k + 1) twoOrMore) (a ∷ b ∷ [])
+  double-other g =
+      fit-next twoOrMore (a ∷ b ∷ []) k in-twos noFit (double-off (getD twoOrMore k none) a b double-length (λ p. g (double-first ∙ p))) twos refl
+
+  module _ (p : getD (getD markRows k []) 0 0 ≡ a) (v : ℕ) (e : v ≡ valueIf b (getD (getD markRows k []) 1 0) (getD (getD markRows k []) 6 0)) where
+    double-value : fitFor 2 v ≡ firstFit (getD twoOrMore k none ∷ []) (a ∷ b ∷ [])
+    double-value =
+        rw (e, double-second, double-kind)
+        (double-fit (getD twoOrMore k none) a b double-length (has-kind (getD twoOrMore k none) (all-at isMark twoOrMore k twos in-twos)) (sym double-first ∙ p))
+
+    pub double-hit : (v ≡ 0 → ⊥) → firstFit (drop k twoOrMore) (a ∷ b ∷ []) ≡ record { len = 2; kind = v }
+    double-hit g =
+        fit-hit twoOrMore (a ∷ b ∷ []) k in-twos (record { len = 2; kind = v }) (sym (fit-is 2 v g) ∙ double-value)
+        (λ z. let y : _≡_ {A = ℕ} 2 0 = z in absurd (omega arith))
+
+    pub double-miss : v ≡ 0 → firstFit (drop k twoOrMore) (a ∷ b ∷ []) ≡ firstFit (drop (k + 1) twoOrMore) (a ∷ b ∷ [])
+    double-miss z = fit-next twoOrMore (a ∷ b ∷ []) k in-twos noFit (sym (fit-not 2 v z) ∙ double-value) twos refl
+
+-- the rows of one byte, from the row 13 on
+module _ (a : ℕ) (k : ℕ) (l : 13 ≤ k) (h : k < 37) where
+  in-marks : k < length marks
+  unfolding marks longMarks doubleMarks singleMarks
+  in-marks = h
+
+  single-first : getD (getD markRows k []) 0 0 ≡ getD (getD marks k none .word) 0 0
+  unfolding tables cellsAre
+  single-first = cell (λ k. getD (getD markRows k []) 0 0) (λ e. getD (e .word) 0 0) marks 13 refl k l h
+
+  single-kind : getD (getD markRows k []) 6 0 ≡ getD marks k none .kind
+  unfolding tables cellsAre
+  single-kind = cell (λ k. getD (getD markRows k []) 6 0) (λ e. e .kind) marks 13 refl k l h
+
+  single-length : 1 ≡ length (getD marks k none .word)
+  unfolding tables cellsAre
+  single-length = cell (λ k. 1) (λ e. length (e .word)) marks 13 refl k l h
+
+  module _ (v : ℕ) (e : v ≡ valueIf a (getD (getD markRows k []) 0 0) (getD (getD markRows k []) 6 0)) where
+    single-value : fitFor 1 v ≡ firstFit (getD marks k none ∷ []) (a ∷ [])
+    single-value =
+        rw (e, single-first, single-kind)
+        (single-fit (getD marks k none) a single-length (has-kind (getD marks k none) (all-at isMark marks k all-marks in-marks)))
+
+    pub single-hit : (v ≡ 0 → ⊥) → firstFit (drop k marks) (a ∷ []) ≡ record { len = 1; kind = v }
+    single-hit g =
+        fit-hit marks (a ∷ []) k in-marks (record { len = 1; kind = v }) (sym (fit-is 1 v g) ∙ single-value)
+        (λ z. let y : _≡_ {A = ℕ} 1 0 = z in absurd (omega arith))
+
+    pub single-miss : v ≡ 0 → firstFit (drop k marks) (a ∷ []) ≡ firstFit (drop (k + 1) marks) (a ∷ [])
+    single-miss z = fit-next marks (a ∷ []) k in-marks noFit (sym (fit-not 1 v z) ∙ single-value) all-marks refl
+
+-- the first n bytes, filled up with zeros, are enough for marks of n bytes
+front : ℕ → List ℕ → List ℕ
+front zero s = []
+front (suc n) s = getD s 0 0 ∷ front n (drop 1 s)
+
+begins-front : (w s : List ℕ) → plain w ≡ true → begins w (front (length w) s) ≡ begins w s
+unfolding begins front
+begins-front [] s h = refl
+begins-front (x ∷ w) [] h = let p : 0 < x = plain-some x w h in rw (ne-eqb 0 x (λ e. absurd (omega arith)))
+begins-front (x ∷ w) (b ∷ s) h = rw (begins-front w s (plain-tail x w h))
+
+sized : ℕ → Entry → Bool
+sized n e = eqb (length (e .word)) n && plain (e .word)
+
+fit-front : (n : ℕ) (t : List Entry) (s : List ℕ) → all (sized n) t ≡ true → firstFit t (front n s) ≡ firstFit t s
+unfolding firstFit sized
+fit-front n [] s h = refl
+fit-front n (e ∷ es) s h =
+    let l : length (e .word) ≡ n = eqb-true _ _ (and-left (eqb (length (e .word)) n) (plain (e .word)) (all-head (sized n) e es h)) in
+    let q : begins (e .word) (front n s) ≡ begins (e .word) s
+    = ap (λ (m : ℕ). begins (e .word) (front m s)) (sym l) ∙ begins-front (e .word) s (and-right (eqb (length (e .word)) n) (plain (e .word)) (all-head (sized n) e es h)) in
+    rw (q, fit-front n es s (all-tail (sized n) e es h))
 
 -- the ways through the code, at a place of the text
 pub past-end : (text : List ℕ) (at : ℕ) → length text ≤ at → noFit ≡ markOf (drop at text)
 unfolding firstFit begins marks longMarks doubleMarks singleMarks
 past-end text at h = rw (drop-of-length-le text h) (sym (mark-first []))
 
-module _ (text : List ℕ) (at : ℕ) (h : at < length text) where
-  cons : drop at text ≡ getD text at 0 ∷ drop (suc at) text
-  cons = drop-cons text at 0 h
+module _ (text : List ℕ) (at : ℕ) where
+  pub place : getD text at 0 ≡ getD (drop at text) 0 0
+  place = let e : at + 0 ≡ at = omega arith in sym (getD-drop at text 0 0 ∙ rw e)
 
-  one-fit : firstFit singleMarks (drop at text) ≡ fitFor 1 (singleKind (getD text at 0))
-  unfolding singleKind
-  one-fit = rw cons (single-fit singleMarks (getD text at 0) (drop (suc at) text) singles)
+  next : getD text (at + 1) 0 ≡ getD (drop 1 (drop at text)) 0 0
+  next = sym (getD-drop 1 (drop at text) 0 0 ∙ getD-drop at text 1 0)
 
-  two-fit : firstFit doubleMarks (drop at text) ≡ fitFor 2 (doubleKind (getD text at 0) (getD text (at + 1) 0))
-  unfolding doubleKind
-  two-fit = rw (cons, ← behind text at) (double-fit doubleMarks (getD text at 0) (drop (suc at) text) doubles)
+  two-front : firstFit doubleMarks (getD text at 0 ∷ getD text (at + 1) 0 ∷ []) ≡ firstFit doubleMarks (drop at text)
+  unfolding front sized plain doubleMarks
+  two-front = rw (place, next) (fit-front 2 doubleMarks (drop at text) refl)
 
-  short-only : all (λ e. not (begins (e .word) (drop at text))) (longMarks ++ doubleMarks) ≡ true
-      → markOf (drop at text) ≡ fitFor 1 (singleKind (getD text at 0))
-  short-only r = mark-first (drop at text) ∙ rw two-parts (skip (longMarks ++ doubleMarks) singleMarks (drop at text) r) ∙ one-fit
+  one-front : firstFit singleMarks (getD text at 0 ∷ []) ≡ firstFit singleMarks (drop at text)
+  unfolding front sized plain singleMarks
+  one-front = rw place (fit-front 1 singleMarks (drop at text) refl)
 
-  module _ (one : ℕ) (e : one ≡ singleKind (getD text at 0)) where
-    pub no-first : one ≡ 0 → noFit ≡ markOf (drop at text)
-    no-first z =
-        sym (short-only (rw cons (no-lead (longMarks ++ doubleMarks) (getD text at 0) (drop (suc at) text) longers (sym e ∙ z)))
-        ∙ fit-not 1 (singleKind (getD text at 0)) (sym e ∙ z))
+  module _ (long : Fit) (g : long ≡ firstFit longMarks (drop at text)) where
+    pub is-long : (long .len ≡ 0 → ⊥) → long ≡ markOf (drop at text)
+    unfolding marks
+    is-long m =
+        g ∙ sym (mark-first (drop at text) ∙ over-hit longMarks (doubleMarks ++ singleMarks) (drop at text) (λ p. m (ap (λ (x : Fit). x .len) g ∙ p)))
 
-    module _ (n : one ≡ 0 → ⊥) (b : ℕ) (f : b ≡ getD text (at + 1) 0) where
-      single : fitFor 1 (singleKind (getD text at 0)) ≡ record { len = 1; kind = one }
-      single = rw (← e) (fit-is 1 one n)
+    module _ (z : long .len ≡ 0) (b : ℕ) (q : b ≡ getD text (at + 1) 0) (double : Fit) (d : double ≡ firstFit doubleMarks (getD text at 0 ∷ b ∷ [])) where
+      past-long : markOf (drop at text) ≡ firstFit (doubleMarks ++ singleMarks) (drop at text)
+      unfolding marks
+      past-long =
+          mark-first (drop at text)
+          ∙ over-miss longMarks (doubleMarks ++ singleMarks) (drop at text) longs (ap (λ (x : Fit). x .len) (sym g) ∙ z)
 
-      pub no-second : (r : ℕ) → r ≡ secondOf b → r ≡ 0 → record { len = 1; kind = one } ≡ markOf (drop at text)
-      unfolding secondOf
-      no-second r g z =
-          let q : firstOf (nextIs (getD (drop (suc at) text) 0 0)) (longMarks ++ doubleMarks) ≡ 0
-          = rw (behind text at, ← f) (sym g ∙ z) in
-          sym (short-only (rw cons (no-next (longMarks ++ doubleMarks) (getD text at 0) (drop (suc at) text) longers q)) ∙ single)
+      two : double ≡ firstFit doubleMarks (drop at text)
+      two = d ∙ rw q two-front
 
-      module _ (long : Fit) (g : long ≡ firstFit longMarks (drop at text)) where
-        pub is-long : (long .len ≡ 0 → ⊥) → long ≡ markOf (drop at text)
-        unfolding marks
-        is-long m =
-            g ∙ sym (mark-first (drop at text) ∙ over-hit longMarks (doubleMarks ++ singleMarks) (drop at text) (λ p. m (ap (λ (x : Fit). x .len) g ∙ p)))
+      pub is-double : (double .len ≡ 0 → ⊥) → double ≡ markOf (drop at text)
+      is-double m = two ∙ sym (past-long ∙ over-hit doubleMarks singleMarks (drop at text) (λ p. m (ap (λ (x : Fit). x .len) two ∙ p)))
 
-        module _ (z : long .len ≡ 0) (two : ℕ) (k : two ≡ doubleKind (getD text at 0) b) where
-          past-long : markOf (drop at text) ≡ firstFit (doubleMarks ++ singleMarks) (drop at text)
-          unfolding marks
-          past-long =
-              mark-first (drop at text)
-              ∙ over-miss longMarks (doubleMarks ++ singleMarks) (drop at text) longs-filled (ap (λ (x : Fit). x .len) (sym g) ∙ z)
+      doubles : all isMark doubleMarks ≡ true
+      unfolding isMark doubleMarks
+      doubles = refl
 
-          double : firstFit doubleMarks (drop at text) ≡ fitFor 2 two
-          double = two-fit ∙ rw (← f, ← k)
-
-          pub is-double : (two ≡ 0 → ⊥) → record { len = 2; kind = two } ≡ markOf (drop at text)
-          is-double m =
-              let q : firstFit doubleMarks (drop at text) ≡ record { len = 2; kind = two } = double ∙ fit-is 2 two m in
-              sym (past-long ∙ over-hit doubleMarks singleMarks (drop at text) (λ p. not-two (ap (λ (x : Fit). x .len) (sym q) ∙ p)) ∙ q)
-
-          pub is-single : two ≡ 0 → record { len = 1; kind = one } ≡ markOf (drop at text)
-          is-single y =
-              let q : firstFit doubleMarks (drop at text) ≡ noFit = double ∙ fit-not 2 two y in
-              sym (past-long ∙ over-miss doubleMarks singleMarks (drop at text) doubles-filled (ap (λ (x : Fit). x .len) q) ∙ one-fit ∙ single)
+      pub is-single : double .len ≡ 0 → (single : Fit) → single ≡ firstFit singleMarks (getD text at 0 ∷ []) → single ≡ markOf (drop at text)
+      is-single y single r =
+          r ∙ one-front ∙ sym (past-long ∙ over-miss doubleMarks singleMarks (drop at text) doubles (ap (λ (x : Fit). x .len) (sym two) ∙ y))

@@ -1,7 +1,7 @@
 pub mod Tests
 pub mod Places
 pub mod Rows
-pub mod Values
+pub mod Numbers
 pub mod Keyword
 pub mod Marks
 pub mod Found

@@ -1,5 +1,4 @@
 -- The marks: the longest that fits is the first that fits, is no longer than the text, and fits its own bytes alone.
--- Assumes nothing.
 use mathlib.Core.Path.{_≡_, refl, sym, _∙_}
 use mathlib.Core.Bool.{Bool, true, false, cond, _&&_}
 use mathlib.Core.List.{List, [], _∷_}

@@ -1,6 +1,5 @@
 -- Bytes compared with those at a place of a text, one by one.
--- Assumes nothing.
-use mathlib.Core.Path.{_≡_, refl, ap, _∙_}
+use mathlib.Core.Path.{_≡_, refl, _∙_}
 use mathlib.Core.Bool.{Bool, true, false, _&&_}
 use mathlib.Core.List.{List, [], _∷_}
 use Prim.Native.Nat.{ℕ, suc, _+_, _<_, _≤_}
@@ -12,33 +11,18 @@ use lib.Dec.{eqb}
 use lib.ListN.{length, getD, take, drop, drop-of-length-le, length-drop}
 use lib.Seq.{drop-cons, length-take-le, getD-take, getD-drop}
 use Rattle.classes.specs.Bytes.{begins}
-use Rattle.words.specs.Search.{same}
 use Rattle.classes.proofs.Bools.{and-false}
 
 -- the byte behind the place i
 pub behind : (s : List ℕ) (i : ℕ) → getD (drop (suc i) s) 0 0 ≡ getD s (i + 1) 0
 behind s i = let e : suc i + 0 ≡ i + 1 = omega arith in getD-drop (suc i) s 0 0 ∙ rw e
 
--- a list begins with bytes where as many of its own are the same; a shorter one does not
-pub begins-same : (w s : List ℕ) → length w ≤ length s → begins w s ≡ same (take (length w) s) w
-unfolding begins same
-begins-same [] s h = refl
-begins-same (a ∷ w) [] h = absurd (not-suc-le-zero h)
-begins-same (a ∷ w) (b ∷ s) h = rw (begins-same w s (le-of-suc-le-suc h))
-
-pub begins-past : (w s : List ℕ) → length s < length w → begins w s ≡ false
+-- a list does not begin with more bytes than it has
+begins-past : (w s : List ℕ) → length s < length w → begins w s ≡ false
 unfolding begins
 begins-past [] s h = absurd (not-suc-le-zero h)
 begins-past (a ∷ w) [] h = refl
 begins-past (a ∷ w) (b ∷ s) h = rw (begins-past w s (le-of-suc-le-suc h)) (and-false (eqb b a))
-
--- two lists of different lengths are not the same
-pub same-long : (a w : List ℕ) → (length a ≡ length w → ⊥) → same a w ≡ false
-unfolding same
-same-long [] [] h = absurd (h refl)
-same-long [] (y ∷ ys) h = refl
-same-long (x ∷ xs) [] h = refl
-same-long (x ∷ xs) (y ∷ ys) h = rw (same-long xs ys (λ e. h (ap suc e))) (and-false (eqb x y))
 
 -- the first n bytes of w beside those of s from `at` on, from the byte j on
 unfoldable pub from : List ℕ → ℕ → List ℕ → ℕ → ℕ → Bool

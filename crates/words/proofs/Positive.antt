@@ -1,5 +1,4 @@
 -- No entry of the tables has the kind 0, which is EOF's.
--- Assumes nothing.
 use mathlib.Core.Path.{_≡_, refl}
 use mathlib.Core.Bool.{Bool, true, false, cond, _&&_}
 use mathlib.Core.List.{List, [], _∷_}

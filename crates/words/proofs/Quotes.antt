@@ -1,5 +1,4 @@
 -- The walk to the closing quote: at a place of the text, in the code's own words; and its bounds, its shift and its end.
--- Assumes nothing.
 use mathlib.Core.Path.{_≡_, refl, subst}
 use mathlib.Core.Bool.{Bool, true, false}
 use mathlib.Core.List.{List, [], _∷_, _++_}

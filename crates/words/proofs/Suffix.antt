@@ -1,5 +1,4 @@
 -- The type behind a number: the code's four ways, its bounds, and that it is the same by itself.
--- Assumes nothing.
 use mathlib.Core.Path.{_≡_, refl, sym, _∙_}
 use mathlib.Core.Bool.{Bool, true, false, cond}
 use mathlib.Core.List.{List, [], _∷_}
@@ -43,16 +42,6 @@ front-short (w ∷ ws) s = step (begins w s) w (frontLen ws s) s refl (front-sho
 pub suffix-short : (s : List ℕ) → suffixLen s ≤ length s
 unfolding suffixLen
 suffix-short s = front-short suffixes s
-
-small : (a b c : Bool) → cond a 2 (cond b 3 (cond c 4 0)) ≤ 4
-small true b c = omega arith
-small false true c = omega arith
-small false false true = omega arith
-small false false false = omega arith
-
-pub suffix-small : (s : List ℕ) → suffixLen s ≤ 4
-unfolding suffixLen suffixes frontLen
-suffix-small s = small (begins (bytes "u8") s) (begins (bytes "u64") s) (begins (bytes "u128") s)
 
 -- the word that is found, by itself
 alone-step : (w : List ℕ) (ws : List (List ℕ)) (s : List ℕ) (b : Bool) → begins w s ≡ b → frontLen ws (take (frontLen ws s) s) ≡ frontLen ws s

@@ -1,14 +1,14 @@
--- Tests that antt computes, over the numbers below a bound and over the entries of a table.
--- Assumes nothing.
+-- Tests that antt computes, over the numbers below a bound, the bytes of a word and the entries of a table.
 use mathlib.Core.Path.{_≡_, refl, ap, _∙_}
 use mathlib.Core.Bool.{Bool, true, false, _&&_}
 use mathlib.Core.List.{List, [], _∷_}
 use Prim.Native.Nat.{ℕ, zero, suc, _<_}
 use native.Mathlib.Omega.{arith}
-use native.Mathlib.Nat.{not-suc-le-zero}
-use borrow.Author.Tests.{eqb-true, eqb-false}
-use lib.Dec.{eqb}
-use Rattle.words.specs.Tables.{Entry}
+use native.Mathlib.Nat.{not-suc-le-zero, le-of-suc-le-suc}
+use borrow.Author.Tests.{eqb-true, eqb-false, ltb-true}
+use lib.Dec.{eqb, ltb}
+use lib.ListN.{length, getD}
+use Rattle.words.specs.Tables.{Entry, none}
 use Rattle.classes.proofs.Bools.{and-left, and-right}
 
 -- what a test finds of each number below n holds of k
@@ -24,7 +24,7 @@ below-at p (suc n) k h g = go (eqb k n) refl (λ l. below-at p n k (and-right (p
     go true e r = ap p (eqb-true k n e) ∙ and-left (p n) (below p n) h
     go false e r = let u : k ≡ n → ⊥ = eqb-false k n e in r (omega arith)
 
--- what a test finds of each entry holds of the first, and of those behind it
+-- what a test finds of each entry holds of the first, of those behind it, and of the entry k
 abbrev pub all : (Entry → Bool) → List Entry → Bool
 all p [] = true
 all p (e ∷ es) = p e && all p es
@@ -35,3 +35,28 @@ module _ (p : Entry → Bool) (e : Entry) (es : List Entry) (h : all p (e ∷ es
 
   pub all-tail : all p es ≡ true
   all-tail = and-right (p e) (all p es) h
+
+pub all-at : (p : Entry → Bool) (t : List Entry) (k : ℕ) → all p t ≡ true → k < length t → p (getD t k none) ≡ true
+all-at p [] k h g = absurd (not-suc-le-zero g)
+all-at p (e ∷ es) zero h g = all-head p e es h
+all-at p (e ∷ es) (suc k) h g = all-at p es k (all-tail p e es h) (le-of-suc-le-suc g)
+
+-- bytes, none of them zero
+unfoldable pub plain : List ℕ → Bool
+plain [] = true
+plain (b ∷ w) = (ltb 0 b && ltb b 256) && plain w
+
+module _ (b : ℕ) (w : List ℕ) (h : plain (b ∷ w) ≡ true) where
+  plain-head : ltb 0 b && ltb b 256 ≡ true
+  unfolding plain
+  plain-head = and-left (ltb 0 b && ltb b 256) (plain w) h
+
+  pub plain-some : 0 < b
+  plain-some = ltb-true 0 b (and-left (ltb 0 b) (ltb b 256) plain-head)
+
+  pub plain-byte : b < 256
+  plain-byte = ltb-true b 256 (and-right (ltb 0 b) (ltb b 256) plain-head)
+
+  pub plain-tail : plain w ≡ true
+  unfolding plain
+  plain-tail = and-right (ltb 0 b && ltb b 256) (plain w) h

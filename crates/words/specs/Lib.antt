@@ -1,4 +1,5 @@
+pub mod Kinds
 pub mod Tables
 pub mod Search
-pub mod Rows
 pub mod Quote
+pub mod code

@@ -1,5 +1,4 @@
 -- The closing quote of a string, from behind its opening quote: the first of the line that no backslash escapes.
--- Assumes nothing.
 use Prim.Native.Nat.{ℕ, suc, _+_}
 use mathlib.Core.Bool.{Bool, true, false, _&&_, _||_}
 use mathlib.Core.List.{List, [], _∷_}

@@ -1,11 +1,11 @@
 -- What the tables say of a name and of the bytes at a place; and the type behind a number.
--- Assumes nothing.
 use Prim.Native.Nat.{ℕ}
 use mathlib.Core.Bool.{Bool, true, false, cond, _&&_}
 use mathlib.Core.List.{List, [], _∷_}
 use lib.Dec.{eqb, leb}
 use lib.ListN.{length}
 use Rattle.classes.specs.Bytes.{bytes, begins}
+use Rattle.words.specs.Kinds.{Identifier}
 use Rattle.words.specs.Tables.{Entry, keywords, marks}
 use Rattle.words.specs.declared.Fit.{Fit}
 
@@ -16,9 +16,9 @@ same [] (b ∷ s) = false
 same (a ∷ w) [] = false
 same (a ∷ w) (b ∷ s) = eqb a b && same w s
 
--- the kind of the entry that is spelled w, or 4, an identifier
+-- the kind of the entry that is spelled w, or an identifier
 unfoldable pub lookup : List Entry → List ℕ → ℕ
-lookup [] w = 4
+lookup [] w = Identifier
 lookup (e ∷ es) w = cond (same w (e .word)) (e .kind) (lookup es w)
 
 unfoldable pub kindOf : List ℕ → ℕ

@@ -1,14 +1,81 @@
 // The two tables, keywords and marks, the type behind a number and the closing quote of a string.
 ghost use mathlib.Core.Path.{_≡_};
 ghost use mathlib.Core.Bool.{false};
+ghost use mathlib.Core.List.{[], _∷_};
 ghost use Prim.Native.Nat.{_+_, _-_, _≤_, _<_, min};
 ghost use lib.ListN.{length, getD, take, drop};
 ghost use Rattle.classes.specs.Bytes.{begins};
-ghost use Rattle.words.specs.Tables.{keywords, none, longMarks};
-ghost use Rattle.words.specs.Search.{same, kindOf, noFit, markOf, firstFit, suffixLen};
-ghost use Rattle.words.specs.Rows.{rowOf, valueIf, slotByte, slotKind, singleKind, doubleKind, secondOf, rowFit};
+ghost use Rattle.words.specs.Tables.{keywords, longMarks, doubleMarks, singleMarks};
+ghost use Rattle.words.specs.Search.{kindOf, noFit, markOf, firstFit, suffixLen};
+ghost use Rattle.words.specs.code.Rows.{number, packedKind, valueIf, rowFit};
 ghost use Rattle.words.specs.Quote.{endsLine, quoteFrom};
 use classes::byte_at;
+use kinds::ABORT;
+use kinds::ACQUIRES;
+use kinds::AMP;
+use kinds::AMP_AMP;
+use kinds::AMP_MUT;
+use kinds::AS;
+use kinds::AT_SIGN;
+use kinds::BREAK;
+use kinds::CARET;
+use kinds::COLON;
+use kinds::COLON_COLON;
+use kinds::COMMA;
+use kinds::CONST;
+use kinds::CONTINUE;
+use kinds::COPY;
+use kinds::ELSE;
+use kinds::EQUAL;
+use kinds::EQUAL_EQUAL;
+use kinds::EQUAL_EQUAL_GREATER;
+use kinds::EXCLAIM;
+use kinds::EXCLAIM_EQUAL;
+use kinds::FALSE;
+use kinds::FRIEND;
+use kinds::FUN;
+use kinds::GREATER;
+use kinds::GREATER_EQUAL;
+use kinds::GREATER_GREATER;
+use kinds::IDENTIFIER;
+use kinds::IF;
+use kinds::INVARIANT;
+use kinds::L_BRACE;
+use kinds::L_BRACKET;
+use kinds::L_PAREN;
+use kinds::LESS;
+use kinds::LESS_EQUAL;
+use kinds::LESS_EQUAL_EQUAL_GREATER;
+use kinds::LESS_LESS;
+use kinds::LET;
+use kinds::LOOP;
+use kinds::MINUS;
+use kinds::MODULE;
+use kinds::MOVE;
+use kinds::NATIVE;
+use kinds::NUM_SIGN;
+use kinds::PERCENT;
+use kinds::PERIOD;
+use kinds::PERIOD_PERIOD;
+use kinds::PIPE;
+use kinds::PIPE_PIPE;
+use kinds::PLUS;
+use kinds::PUBLIC;
+use kinds::R_BRACE;
+use kinds::R_BRACKET;
+use kinds::R_PAREN;
+use kinds::RETURN;
+use kinds::SCRIPT;
+use kinds::SEMICOLON;
+use kinds::SLASH;
+use kinds::SPEC;
+use kinds::STAR;
+use kinds::STRUCT;
+use kinds::TRUE;
+use kinds::USE;
+use kinds::WHILE;
+
+pub mod kinds;
 
 // The longest mark at a place: its length, 0 where there is none, and the number of its kind.
 pub struct Fit {
@@ -24,192 +91,156 @@ pub enum Quote {
 
 // The keywords, in rows of nine bytes, filled up with zeros.
 const KEYWORDS: [[u8; 9]; 26] = [
-    [97, 98, 111, 114, 116, 0, 0, 0, 0],
-    [97, 99, 113, 117, 105, 114, 101, 115, 0],
-    [97, 115, 0, 0, 0, 0, 0, 0, 0],
-    [98, 114, 101, 97, 107, 0, 0, 0, 0],
-    [99, 111, 110, 115, 116, 0, 0, 0, 0],
-    [99, 111, 110, 116, 105, 110, 117, 101, 0],
-    [99, 111, 112, 121, 0, 0, 0, 0, 0],
-    [101, 108, 115, 101, 0, 0, 0, 0, 0],
-    [102, 97, 108, 115, 101, 0, 0, 0, 0],
-    [102, 114, 105, 101, 110, 100, 0, 0, 0],
-    [102, 117, 110, 0, 0, 0, 0, 0, 0],
-    [105, 102, 0, 0, 0, 0, 0, 0, 0],
-    [105, 110, 118, 97, 114, 105, 97, 110, 116],
-    [108, 101, 116, 0, 0, 0, 0, 0, 0],
-    [108, 111, 111, 112, 0, 0, 0, 0, 0],
-    [109, 111, 100, 117, 108, 101, 0, 0, 0],
-    [109, 111, 118, 101, 0, 0, 0, 0, 0],
-    [110, 97, 116, 105, 118, 101, 0, 0, 0],
-    [112, 117, 98, 108, 105, 99, 0, 0, 0],
-    [114, 101, 116, 117, 114, 110, 0, 0, 0],
-    [115, 99, 114, 105, 112, 116, 0, 0, 0],
-    [115, 112, 101, 99, 0, 0, 0, 0, 0],
-    [115, 116, 114, 117, 99, 116, 0, 0, 0],
-    [116, 114, 117, 101, 0, 0, 0, 0, 0],
-    [117, 115, 101, 0, 0, 0, 0, 0, 0],
-    [119, 104, 105, 108, 101, 0, 0, 0, 0],
+    [b'a', b'b', b'o', b'r', b't', 0, 0, 0, 0],
+    [b'a', b'c', b'q', b'u', b'i', b'r', b'e', b's', 0],
+    [b'a', b's', 0, 0, 0, 0, 0, 0, 0],
+    [b'b', b'r', b'e', b'a', b'k', 0, 0, 0, 0],
+    [b'c', b'o', b'n', b's', b't', 0, 0, 0, 0],
+    [b'c', b'o', b'n', b't', b'i', b'n', b'u', b'e', 0],
+    [b'c', b'o', b'p', b'y', 0, 0, 0, 0, 0],
+    [b'e', b'l', b's', b'e', 0, 0, 0, 0, 0],
+    [b'f', b'a', b'l', b's', b'e', 0, 0, 0, 0],
+    [b'f', b'r', b'i', b'e', b'n', b'd', 0, 0, 0],
+    [b'f', b'u', b'n', 0, 0, 0, 0, 0, 0],
+    [b'i', b'f', 0, 0, 0, 0, 0, 0, 0],
+    [b'i', b'n', b'v', b'a', b'r', b'i', b'a', b'n', b't'],
+    [b'l', b'e', b't', 0, 0, 0, 0, 0, 0],
+    [b'l', b'o', b'o', b'p', 0, 0, 0, 0, 0],
+    [b'm', b'o', b'd', b'u', b'l', b'e', 0, 0, 0],
+    [b'm', b'o', b'v', b'e', 0, 0, 0, 0, 0],
+    [b'n', b'a', b't', b'i', b'v', b'e', 0, 0, 0],
+    [b'p', b'u', b'b', b'l', b'i', b'c', 0, 0, 0],
+    [b'r', b'e', b't', b'u', b'r', b'n', 0, 0, 0],
+    [b's', b'c', b'r', b'i', b'p', b't', 0, 0, 0],
+    [b's', b'p', b'e', b'c', 0, 0, 0, 0, 0],
+    [b's', b't', b'r', b'u', b'c', b't', 0, 0, 0],
+    [b't', b'r', b'u', b'e', 0, 0, 0, 0, 0],
+    [b'u', b's', b'e', 0, 0, 0, 0, 0, 0],
+    [b'w', b'h', b'i', b'l', b'e', 0, 0, 0, 0],
 ];
 
-// The lengths of the keywords and the numbers of their kinds.
-const KEYWORD_LENS: [u8; 26] = [
-    5,
-    8,
-    2,
-    5,
-    5,
-    8,
-    4,
-    4,
-    5,
-    6,
-    3,
-    2,
-    9,
-    3,
-    4,
-    6,
-    4,
-    6,
-    6,
-    6,
-    6,
-    4,
-    6,
-    4,
-    3,
-    5,
-];
-
+// The kinds of the keywords.
 const KEYWORD_KINDS: [u8; 26] = [
-    36,
-    37,
-    38,
-    39,
-    64,
-    40,
-    41,
-    42,
-    43,
-    65,
-    62,
-    44,
-    45,
-    46,
-    47,
-    48,
-    49,
-    50,
-    51,
-    52,
-    63,
-    53,
-    54,
-    55,
-    56,
-    57,
+    ABORT,
+    ACQUIRES,
+    AS,
+    BREAK,
+    CONST,
+    CONTINUE,
+    COPY,
+    ELSE,
+    FALSE,
+    FRIEND,
+    FUN,
+    IF,
+    INVARIANT,
+    LET,
+    LOOP,
+    MODULE,
+    MOVE,
+    NATIVE,
+    PUBLIC,
+    RETURN,
+    SCRIPT,
+    SPEC,
+    STRUCT,
+    TRUE,
+    USE,
+    WHILE,
 ];
 
-// The marks: five bytes filled up with zeros, the length, the number of the kind; the longer first.
+// The marks: five bytes filled up with zeros, the length, the kind; the longer first.
 const MARKS: [[u8; 7]; 37] = [
-    [38, 109, 117, 116, 32, 5, 10],
-    [60, 61, 61, 62, 0, 4, 31],
-    [61, 61, 62, 0, 0, 3, 30],
-    [33, 61, 0, 0, 0, 2, 6],
-    [38, 38, 0, 0, 0, 2, 9],
-    [46, 46, 0, 0, 0, 2, 20],
-    [58, 58, 0, 0, 0, 2, 23],
-    [60, 61, 0, 0, 0, 2, 26],
-    [60, 60, 0, 0, 0, 2, 27],
-    [61, 61, 0, 0, 0, 2, 29],
-    [62, 61, 0, 0, 0, 2, 33],
-    [62, 62, 0, 0, 0, 2, 34],
-    [124, 124, 0, 0, 0, 2, 60],
-    [33, 0, 0, 0, 0, 1, 5],
-    [37, 0, 0, 0, 0, 1, 7],
-    [38, 0, 0, 0, 0, 1, 8],
-    [40, 0, 0, 0, 0, 1, 11],
-    [41, 0, 0, 0, 0, 1, 12],
-    [91, 0, 0, 0, 0, 1, 13],
-    [93, 0, 0, 0, 0, 1, 14],
-    [42, 0, 0, 0, 0, 1, 15],
-    [43, 0, 0, 0, 0, 1, 16],
-    [44, 0, 0, 0, 0, 1, 17],
-    [45, 0, 0, 0, 0, 1, 18],
-    [46, 0, 0, 0, 0, 1, 19],
-    [47, 0, 0, 0, 0, 1, 21],
-    [58, 0, 0, 0, 0, 1, 22],
-    [59, 0, 0, 0, 0, 1, 24],
-    [60, 0, 0, 0, 0, 1, 25],
-    [61, 0, 0, 0, 0, 1, 28],
-    [62, 0, 0, 0, 0, 1, 32],
-    [94, 0, 0, 0, 0, 1, 35],
-    [123, 0, 0, 0, 0, 1, 58],
-    [124, 0, 0, 0, 0, 1, 59],
-    [125, 0, 0, 0, 0, 1, 61],
-    [35, 0, 0, 0, 0, 1, 66],
-    [64, 0, 0, 0, 0, 1, 67],
+    [b'&', b'm', b'u', b't', b' ', 5, AMP_MUT],
+    [b'<', b'=', b'=', b'>', 0, 4, LESS_EQUAL_EQUAL_GREATER],
+    [b'=', b'=', b'>', 0, 0, 3, EQUAL_EQUAL_GREATER],
+    [b'!', b'=', 0, 0, 0, 2, EXCLAIM_EQUAL],
+    [b'&', b'&', 0, 0, 0, 2, AMP_AMP],
+    [b'.', b'.', 0, 0, 0, 2, PERIOD_PERIOD],
+    [b':', b':', 0, 0, 0, 2, COLON_COLON],
+    [b'<', b'=', 0, 0, 0, 2, LESS_EQUAL],
+    [b'<', b'<', 0, 0, 0, 2, LESS_LESS],
+    [b'=', b'=', 0, 0, 0, 2, EQUAL_EQUAL],
+    [b'>', b'=', 0, 0, 0, 2, GREATER_EQUAL],
+    [b'>', b'>', 0, 0, 0, 2, GREATER_GREATER],
+    [b'|', b'|', 0, 0, 0, 2, PIPE_PIPE],
+    [b'!', 0, 0, 0, 0, 1, EXCLAIM],
+    [b'%', 0, 0, 0, 0, 1, PERCENT],
+    [b'&', 0, 0, 0, 0, 1, AMP],
+    [b'(', 0, 0, 0, 0, 1, L_PAREN],
+    [b')', 0, 0, 0, 0, 1, R_PAREN],
+    [b'[', 0, 0, 0, 0, 1, L_BRACKET],
+    [b']', 0, 0, 0, 0, 1, R_BRACKET],
+    [b'*', 0, 0, 0, 0, 1, STAR],
+    [b'+', 0, 0, 0, 0, 1, PLUS],
+    [b',', 0, 0, 0, 0, 1, COMMA],
+    [b'-', 0, 0, 0, 0, 1, MINUS],
+    [b'.', 0, 0, 0, 0, 1, PERIOD],
+    [b'/', 0, 0, 0, 0, 1, SLASH],
+    [b':', 0, 0, 0, 0, 1, COLON],
+    [b';', 0, 0, 0, 0, 1, SEMICOLON],
+    [b'<', 0, 0, 0, 0, 1, LESS],
+    [b'=', 0, 0, 0, 0, 1, EQUAL],
+    [b'>', 0, 0, 0, 0, 1, GREATER],
+    [b'^', 0, 0, 0, 0, 1, CARET],
+    [b'{', 0, 0, 0, 0, 1, L_BRACE],
+    [b'|', 0, 0, 0, 0, 1, PIPE],
+    [b'}', 0, 0, 0, 0, 1, R_BRACE],
+    [b'#', 0, 0, 0, 0, 1, NUM_SIGN],
+    [b'@', 0, 0, 0, 0, 1, AT_SIGN],
 ];
-
 // Each search below copies its table first and has one loop of fixed bounds and a small body: the
 // compiler unrolls such a loop, and the table becomes constants in the code.
 
-// The row that alone can hold a name whose first byte is a and whose fourth is d, or 26: no two
-// keywords share both bytes.
-fn candidate(a: u8, d: u8) -> usize
-    ensures { λ r. ⌜ r ≡ rowOf keywords a d ⌝ }
+// The byte j of the n bytes from `at`, and 0 behind them.
+fn byte_of(text: &[u8], at: usize, n: usize, j: usize) -> u8
+    requires { ⌜ at + n ≤ length (now text) ⌝ }
+    ensures { λ r. ⌜ r ≡ getD (take n (drop at (now (text .entry)))) j 0 ⌝ }
+{
+    if j < n {
+        return text[at + j];
+    }
+    0
+}
+
+// Of the n bytes from `at`, at most nine, the eight behind the first as one number, filled up with zeros.
+fn packed(text: &[u8], at: usize, n: usize) -> u64
+    requires { ⌜ (at + n ≤ length (now text)) × (n ≤ 9) ⌝ }
+    ensures { λ r. ⌜ r ≡ number (drop 1 (take n (drop at (now (text .entry))))) ⌝ }
+{
+    let mut v: u64 = 0;
+    let mut j: usize = 9;
+    while 1 < j {
+        j -= 1;
+        v = v * 256 + byte_of(text, at, n, j) as u64;
+    }
+    v
+}
+
+// The same of a row of keywords.
+fn packed_row(row: [u8; 9]) -> u64
+    ensures { λ r. ⌜ r ≡ number (drop 1 row) ⌝ }
+{
+    packed(&row, 0, 9)
+}
+
+// The kind of the keyword whose first byte is a and whose other eight are v, or IDENTIFIER: each row
+// is compared with them.
+fn keyword_kind(a: u8, v: u64) -> u8
+    ensures { λ r. ⌜ r ≡ packedKind keywords a v ⌝ }
 {
     let rows = KEYWORDS;
+    let row_kinds = KEYWORD_KINDS;
     let mut k: usize = 0;
     while k < 26 {
         if rows[k][0] == a {
-            if rows[k][3] == d {
-                return k;
+            if packed_row(rows[k]) == v {
+                return row_kinds[k];
             }
         }
         k += 1;
     }
-    k
-}
-
-fn wide(b: u8) -> usize
-    ensures { λ r. ⌜ r ≡ b ⌝ }
-{
-    b as usize
-}
-
-fn keyword_len(k: usize) -> usize
-    requires { ⌜ k < 26 ⌝ }
-    ensures { λ r. ⌜ r ≡ length (getD keywords k none .word) ⌝ }
-{
-    wide(KEYWORD_LENS[k])
-}
-
-fn keyword_kind(k: usize) -> u8
-    requires { ⌜ k < 26 ⌝ }
-    ensures { λ r. ⌜ r ≡ getD keywords k none .kind ⌝ }
-{
-    KEYWORD_KINDS[k]
-}
-
-// Whether the n bytes from `at` are the keyword k.
-fn is_keyword(text: &[u8], at: usize, n: usize, k: usize) -> bool
-    requires { ⌜ (at + n ≤ length (now text)) × (n ≤ 9) × (k < 26) ⌝ }
-    ensures { λ r. ⌜ r ≡ same (take n (drop at (now (text .entry)))) (getD keywords k none .word) ⌝ }
-{
-    if n != keyword_len(k) {
-        return false;
-    }
-    let rows = KEYWORDS;
-    let mut j: usize = 0;
-    while j < n {
-        if text[at + j] != rows[k][j] {
-            return false;
-        }
-        j += 1;
-    }
-    true
+    IDENTIFIER
 }
 
 // How many of the n bytes from `at` the text has.
@@ -225,120 +256,44 @@ fn clip(text: &[u8], at: usize, n: usize) -> usize
     n
 }
 
-// The fourth of the n bytes from `at`, or 0.
-fn fourth(text: &[u8], at: usize, n: usize) -> u8
-    requires { ⌜ at + n ≤ length (now text) ⌝ }
-    ensures { λ r. ⌜ r ≡ getD (take n (drop at (now (text .entry)))) 3 0 ⌝ }
-{
-    if 3 < n {
-        return text[at + 3];
-    }
-    0
-}
-
-// The kind of the name of n bytes at `at`: its keyword's, or 4 (get_name_token of the Rust). No
-// keyword has fewer than two bytes or more than nine.
+// The kind of the name of n bytes at `at`: its keyword's, or IDENTIFIER (get_name_token of the Rust).
+// No keyword has fewer than two bytes or more than nine. The rows are filled up with zeros, so a name
+// that does not end in a zero has the same nine bytes as a row only if it has the same length.
 pub fn name_kind(text: &[u8], at: usize, n: usize) -> u8
     ensures { λ r. ⌜ r ≡ kindOf (take n (drop at (now (text .entry)))) ⌝ }
 {
     let m = clip(text, at, n);
     if m < 2 {
-        return 4;
+        return IDENTIFIER;
     }
     if 9 < m {
-        return 4;
+        return IDENTIFIER;
     }
-    let k = candidate(text[at], fourth(text, at, m));
-    if k == 26 {
-        return 4;
+    if text[at + m - 1] == 0 {
+        return IDENTIFIER;
     }
-    if is_keyword(text, at, m, k) {
-        return keyword_kind(k);
-    }
-    4
+    keyword_kind(text[at], packed(text, at, m))
 }
 
-// v where a is b, else 0.
+fn wide(b: u8) -> usize
+    ensures { λ r. ⌜ r ≡ b ⌝ }
+{
+    b as usize
+}
+
+fn no_mark() -> Fit
+    ensures { λ r. ⌜ r ≡ noFit ⌝ }
+{
+    Fit { len: 0, kind: 0 }
+}
+
+// v where a is b, else 0, which is no mark's kind. A kind that is chosen so and then tested is a
+// constant in the unrolled loop; read behind a test of the bytes, it is read from the copied table.
 fn value_if(a: u8, b: u8, v: u8) -> u8
     ensures { λ r. ⌜ r ≡ valueIf a b v ⌝ }
 {
     if a == b {
         return v;
-    }
-    0
-}
-
-// The marks of one byte stand in a table by their remainders by 70, which differ: a dense one.
-fn slot_byte(h: u8) -> u8
-    ensures { λ r. ⌜ r ≡ slotByte h ⌝ }
-{
-    let rows = MARKS;
-    let mut k: usize = 0;
-    while k < 24 {
-        let byte = value_if(h, rows[k + 13][0] % 70, rows[k + 13][0]);
-        if byte != 0 {
-            return byte;
-        }
-        k += 1;
-    }
-    0
-}
-
-fn slot_kind(h: u8) -> u8
-    ensures { λ r. ⌜ r ≡ slotKind h ⌝ }
-{
-    let rows = MARKS;
-    let mut k: usize = 0;
-    while k < 24 {
-        let kind = value_if(h, rows[k + 13][0] % 70, rows[k + 13][6]);
-        if kind != 0 {
-            return kind;
-        }
-        k += 1;
-    }
-    0
-}
-
-// The kind of the mark of the one byte a, or 0.
-fn single_mark(a: u8) -> u8
-    ensures { λ r. ⌜ r ≡ singleKind a ⌝ }
-{
-    let h = a % 70;
-    value_if(a, slot_byte(h), slot_kind(h))
-}
-
-// The kind of the mark of the two bytes a and b, or 0.
-fn double_mark(a: u8, b: u8) -> u8
-    ensures { λ r. ⌜ r ≡ doubleKind a b ⌝ }
-{
-    let rows = MARKS;
-    let mut k: usize = 0;
-    while k < 10 {
-        let kind = value_if(
-            a,
-            rows[k + 3][0],
-            value_if(b, rows[k + 3][1], rows[k + 3][6]),
-        );
-        if kind != 0 {
-            return kind;
-        }
-        k += 1;
-    }
-    0
-}
-
-// 1 where b is the second byte of a mark, else 0.
-fn second(b: u8) -> u8
-    ensures { λ r. ⌜ r ≡ secondOf b ⌝ }
-{
-    let rows = MARKS;
-    let mut k: usize = 0;
-    while k < 13 {
-        let hit = value_if(b, rows[k][1], 1);
-        if hit != 0 {
-            return hit;
-        }
-        k += 1;
     }
     0
 }
@@ -364,12 +319,6 @@ fn starts(text: &[u8], at: usize, w: &[u8], n: usize) -> bool
     true
 }
 
-fn no_mark() -> Fit
-    ensures { λ r. ⌜ r ≡ noFit ⌝ }
-{
-    Fit { len: 0, kind: 0 }
-}
-
 // The mark of a row, where it stands at `at`.
 fn row_fit(text: &[u8], at: usize, row: [u8; 7]) -> Fit
     requires { ⌜ (0 < getD row 5 0) × (getD row 5 0 ≤ 5) ⌝ }
@@ -385,24 +334,61 @@ fn row_fit(text: &[u8], at: usize, row: [u8; 7]) -> Fit
     no_mark()
 }
 
-// The first of the three marks of more than two bytes that stands at `at`.
-fn long_mark(text: &[u8], at: usize) -> Fit
+// The first of the rows of three bytes and more that fits at `at`, where the byte a stands.
+fn long_mark(text: &[u8], at: usize, a: u8) -> Fit
+    requires { ⌜ a ≡ getD (now text) at 0 ⌝ }
     ensures { λ r. ⌜ r ≡ firstFit longMarks (drop at (now (text .entry))) ⌝ }
 {
     let rows = MARKS;
-    let first = row_fit(text, at, rows[0]);
-    if first.len != 0 {
-        return first;
+    let mut k: usize = 0;
+    while k < 3 {
+        if rows[k][0] == a {
+            let fit = row_fit(text, at, rows[k]);
+            if fit.len != 0 {
+                return fit;
+            }
+        }
+        k += 1;
     }
-    let next = row_fit(text, at, rows[1]);
-    if next.len != 0 {
-        return next;
-    }
-    row_fit(text, at, rows[2])
+    no_mark()
 }
 
-// The longest mark at `at` (find_token of the Rust). The first byte of every mark is a mark by
-// itself; and few bytes are the second of one, so that most marks are known by these two tests.
+// The first of the rows of two bytes that are a and b.
+fn double_mark(a: u8, b: u8) -> Fit
+    ensures { λ r. ⌜ r ≡ firstFit doubleMarks (a ∷ b ∷ []) ⌝ }
+{
+    let rows = MARKS;
+    let mut k: usize = 3;
+    while k < 13 {
+        if rows[k][0] == a {
+            let kind = value_if(b, rows[k][1], rows[k][6]);
+            if kind != 0 {
+                return Fit { len: 2, kind: kind };
+            }
+        }
+        k += 1;
+    }
+    no_mark()
+}
+
+// The first of the rows of one byte that is a.
+fn single_mark(a: u8) -> Fit
+    ensures { λ r. ⌜ r ≡ firstFit singleMarks (a ∷ []) ⌝ }
+{
+    let rows = MARKS;
+    let mut k: usize = 13;
+    while k < 37 {
+        let kind = value_if(a, rows[k][0], rows[k][6]);
+        if kind != 0 {
+            return Fit { len: 1, kind: kind };
+        }
+        k += 1;
+    }
+    no_mark()
+}
+
+// The longest mark at `at` (find_token of the Rust): the first row of the table that fits. The search
+// is cut by the length of the rows.
 pub fn mark_at(text: &[u8], at: usize) -> Fit
     ensures { λ r. ⌜ r ≡ markOf (drop at (now (text .entry))) ⌝ }
 {
@@ -410,23 +396,15 @@ pub fn mark_at(text: &[u8], at: usize) -> Fit
         return no_mark();
     }
     let a = text[at];
-    let one = single_mark(a);
-    if one == 0 {
-        return no_mark();
-    }
-    let b = byte_at(text, at + 1);
-    if second(b) == 0 {
-        return Fit { len: 1, kind: one };
-    }
-    let long = long_mark(text, at);
+    let long = long_mark(text, at, a);
     if long.len != 0 {
         return long;
     }
-    let two = double_mark(a, b);
-    if two != 0 {
-        return Fit { len: 2, kind: two };
+    let double = double_mark(a, byte_at(text, at + 1));
+    if double.len != 0 {
+        return double;
     }
-    Fit { len: 1, kind: one }
+    single_mark(a)
 }
 
 // The length of the type at `at`, 0 where there is none (get_number_maybe_with_suffix of the Rust).
@@ -451,11 +429,11 @@ fn ends_line(text: &[u8], i: usize) -> bool
     ensures { λ r. ⌜ r ≡ endsLine (getD (now (text .entry)) i 0) (getD (now (text .entry)) (i + 1) 0) ⌝ }
 {
     let a = text[i];
-    if a == 10 {
+    if a == b'\n' {
         return true;
     }
-    if a == 13 {
-        return byte_at(text, i + 1) == 10;
+    if a == b'\r' {
+        return byte_at(text, i + 1) == b'\n';
     }
     false
 }
@@ -474,10 +452,10 @@ pub fn closing_quote(text: &[u8], at: usize) -> Quote
         if skip {
             skip = false;
             i += 1;
-        } else if a == 92 {
+        } else if a == b'\\' {
             skip = true;
             i += 1;
-        } else if a == 34 {
+        } else if a == b'"' {
             return Quote::Found(i);
         } else {
             i += 1;

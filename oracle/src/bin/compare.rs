@@ -4,6 +4,8 @@
 mod display_comparison;
 #[path = "../item_sets.rs"]
 mod item_sets;
+#[path = "../point_comparison.rs"]
+mod point_comparison;
 #[path = "../read_comparison.rs"]
 mod read_comparison;
 #[path = "../station.rs"]
@@ -23,7 +25,8 @@ use std::{env, process::exit, time::Instant};
 
 const HELP: &str = "\
 Compares the port's answers with those of the Rust lexer and parser: tokens,
-comments, reads with the bytes that they write, and displays with their lines.
+comments, reads with the bytes that they write, and displays with their lines;
+first some points whose answers are written down.
 
 usage: compare [--quick] [--seed N] [--reads-only | --displays-only] [--help]
 
@@ -34,7 +37,7 @@ usage: compare [--quick] [--seed N] [--reads-only | --displays-only] [--help]
   --help           these words
 
 Prints the sha256 of the Rust sources, how many answers were compared, those that
-docs/DIFFERENCES.md lists by class (there document 01 decides, and the port is
+docs/DIFFERENCES.md lists by class (there the specification decides, and the port is
 held to it), and the first differences that it does not list, each with the
 smallest text found. Exit status: 0 no such difference, 1 some, 2 bad usage.
 ";
@@ -52,6 +55,7 @@ fn main() {
 
     let mut different = 0;
     if options.only.is_none() {
+        different += point_comparison::run();
         different += run(&options);
     }
     if options.only != Some(ItemCall::Display) {
@@ -327,7 +331,7 @@ impl Comparison {
 
     fn print_summary(&self) {
         println!("{:<50} {:>12}", "all", grouped(self.answers));
-        println!("\nOf these, decided by document 01 (docs/DIFFERENCES.md), and held to it:");
+        println!("\nOf these, decided by the specification (docs/DIFFERENCES.md), and held to it:");
         for cause in Cause::ALL {
             let count = grouped(self.listed[cause as usize]);
             println!("  {:<58} {:>12}", cause.words(), count);

@@ -14,32 +14,32 @@ Inv-loop out₀ from n i₀ out i = (sets out i (drop i from) ≡ sets out₀ 0 
 abbrev μ-loop : tie.MeasureT-loop
 μ-loop out₀ from n i₀ out i = n - i
 
-shorter-requires : tie.Need-shorter-requires Inv-loop μ-loop
-shorter-requires c κs = search needs
+smaller-requires : tie.Need-smaller-requires Inv-loop μ-loop
+smaller-requires c κs = search needs
 
 loop-holds : tie.Need-loop-holds Inv-loop μ-loop
 loop-holds c = (refl, refl)
 
 shared-slice-read-out : tie.Need-shared-slice-read-out Inv-loop μ-loop
-shared-slice-read-out c = omega (arith, c .before .before .before .shorter .ensures, c .before .loop-test .taken)
+shared-slice-read-out c = omega (arith, c .before .before .before .smaller .ensures, c .before .loop-test .taken)
 
 slice-write-out : tie.Need-slice-write-out Inv-loop μ-loop
-slice-write-out c = omega (arith, c .before .before .before .shorter .ensures, c .before .loop-test .taken, c .before .before .loop .inv .1)
+slice-write-out c = omega (arith, c .before .before .before .smaller .ensures, c .before .loop-test .taken, c .before .before .loop .inv .1)
 
 add-i : tie.Need-add-i Inv-loop μ-loop
-add-i c = omega (arith, c .before .before .before .shorter .ensures, c .before .loop-test .taken, c .before .before .before .before .before .before .good)
+add-i c = omega (arith, c .before .before .before .smaller .ensures, c .before .loop-test .taken, c .before .before .before .before .before .before .good)
 
 loop-less : tie.Need-loop-less Inv-loop μ-loop
 loop-less c = omega (arith, c .before .loop-test .taken)
 
 loop-again : tie.Need-loop-again Inv-loop μ-loop
-loop-again c = (sym (sets-step (c .before .before .before .before .before .before .args .from .now) (c .before .before .loop .out) (c .before .before .loop .i) (omega (arith, c .before .before .before .shorter .ensures, c .before .loop-test .taken))) ∙ c .before .before .loop .inv .0, simp length-set (c .before .before .loop .inv .1))
+loop-again c = (sym (sets-step (c .before .before .before .before .before .before .args .from .now) (c .before .before .loop .out) (c .before .before .loop .i) (omega (arith, c .before .before .before .smaller .ensures, c .before .loop-test .taken))) ∙ c .before .before .loop .inv .0, simp length-set (c .before .before .loop .inv .1))
 
 same-length : tie.Need-same-length Inv-loop μ-loop
 same-length c = search needs
 
 returns : tie.Need-returns Inv-loop μ-loop
-returns c = sym (sets-done (c .before .before .before .before .before .args .from .now) (c .before .before .before .before .before .args .out .now) _ _ _ (c .before .before .shorter .ensures) (c .before .loop .inv .1) (c .loop-test .left)) ∙ c .before .loop .inv .0
+returns c = sym (sets-done (c .before .before .before .before .before .args .from .now) (c .before .before .before .before .before .args .out .now) _ _ _ (c .before .before .smaller .ensures) (c .before .loop .inv .1) (c .loop-test .left)) ∙ c .before .loop .inv .0
 
 pub copy-spec : {M : Type 1} → statement M
 copy-spec =
@@ -47,7 +47,7 @@ copy-spec =
     (tie.spec
     Inv-loop
     μ-loop
-    shorter-requires
+    smaller-requires
     loop-holds
     shared-slice-read-out
     slice-write-out

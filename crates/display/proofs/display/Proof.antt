@@ -1,6 +1,5 @@
 -- `display::display` meets its contract: a walk of its MIR, by hand. The reader that `open` returns is held in a local and passed to `show`, with the kind and the line. All that the proof knows of `open` and of `show` is that each meets its contract.
 -- By `open`'s contract the reader is known whole, as the text and the offset passed, so what `show` says of it is what `display` says. In a local of a body MIR erases the lifetime of the struct's type, so the reader is shown to have the type at `erased`. The line goes to `show` at its own lifetime, share and ghost name, and is given up for good (`gave-slice`). `open` is lent the token of the text's lifetime alone, `show` those of both.
--- Assumes nothing.
 use mathlib.Core.Path.{_≡_, refl}
 use Prim.Native.Nat.{ℕ, _<_, _^_}
 use mathlib.Core.List.{List, [], _∷_}

@@ -1,6 +1,5 @@
 -- `display::show` meets its contract: a walk of its MIR, by hand. The reader is taken apart, and `display_at` is called on the kind, the slice, the number and the line. All that the proof knows of `display_at` is that it meets its contract.
 -- The reader is Copy: what it owns is had twice, one copy is kept whole for the exit, and of the other what text owns goes to the callee. The line goes to the callee at its own lifetime, share and ghost name: it is given up for good, nothing has to come back, and what `display_at` says of its last list is what `show` says (`gave-slice`). Both lifetimes' tokens go to the callee, and come back.
--- Assumes nothing.
 use mathlib.Core.Path.{_≡_, refl}
 use Prim.Native.Nat.{ℕ, _<_, _^_}
 use mathlib.Core.List.{List, [], _∷_}

@@ -2,7 +2,7 @@ use mathlib.Core.Path.{_≡_, _∙_, sym, refl}
 use Prim.Native.Nat.{_-_, _+_, _≤_}
 use lib.ListN.{length}
 use Rattle.gap.specs.Marks.{opens, closes}
-use Rattle.gap.specs.Walks.{depthAt}
+use Rattle.gap.specs.code.Blocks.{depthAt}
 use Rattle.gap.proofs.Depth.{depth-end, opened, shut, closed, passed, passed-plain}
 use borrow.Author.Needs.{needs}
 use Rattle.gap.proofs.close_of.Statement.{statement}

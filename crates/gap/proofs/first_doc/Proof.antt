@@ -1,7 +1,7 @@
 use mathlib.Core.Path.{_≡_, _∙_, sym, ap, refl}
 use Prim.Native.Nat.{_-_}
 use lib.ListN.{length, drop}
-use Rattle.gap.specs.Gap.{gap, docOf, firstOf}
+use Rattle.gap.specs.Gap.{gap, docOf, firstDoc}
 use Rattle.gap.proofs.Gaps.{gap-over, gap-pass, gap-doc, gap-broken, gap-clear}
 use native.Mathlib.Omega.{arith}
 use borrow.Author.Needs.{needs}
@@ -33,25 +33,25 @@ enum-known-p-2 : tie.Need-enum-known-p-2 Inv-loop μ-loop
 enum-known-p-2 c = search needs
 
 returns : tie.Need-returns Inv-loop μ-loop
-unfolding docOf firstOf
+unfolding docOf firstDoc
 returns c = sym (c .before .before .before .before .before .loop .inv ∙ ap docOf (gap-doc _ _ (search needs) _ (sym (c .before .before .before .part-at .ensures) ∙ c .before .p2 .given .1) .0))
 
 enum-known-p-3 : tie.Need-enum-known-p-3 Inv-loop μ-loop
 enum-known-p-3 c = search needs
 
 returns-2 : tie.Need-returns-2 Inv-loop μ-loop
-unfolding docOf firstOf
+unfolding docOf firstDoc
 returns-2 c = sym (c .before .before .before .before .before .loop .inv ∙ ap docOf (gap-broken _ _ (search needs) _ _ (sym (c .before .before .before .part-at .ensures) ∙ c .before .p3 .given .1)))
 
 enum-told : tie.Need-enum-told Inv-loop μ-loop
 enum-told c = search needs
 
 returns-3 : tie.Need-returns-3 Inv-loop μ-loop
-unfolding docOf firstOf
+unfolding docOf firstDoc
 returns-3 c = sym (c .before .before .before .before .loop .inv ∙ ap docOf (gap-clear _ _ (search needs) (sym (c .before .before .part-at .ensures) ∙ c .enum-told .given .1)))
 
 returns-4 : tie.Need-returns-4 Inv-loop μ-loop
-unfolding docOf firstOf
+unfolding docOf firstDoc
 returns-4 c = sym (c .before .loop .inv ∙ ap docOf (gap-over _ _ (search needs)))
 
 pub first-doc-spec : {M : Type 1} → statement M

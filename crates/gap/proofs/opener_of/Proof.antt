@@ -2,7 +2,7 @@ use mathlib.Core.Path.{_≡_, _∙_, sym, refl}
 use Prim.Native.Nat.{_-_, _+_, _≤_}
 use lib.ListN.{length}
 use Rattle.gap.specs.Marks.{opens, closes}
-use Rattle.gap.specs.Walks.{openerAt}
+use Rattle.gap.specs.code.Blocks.{openerAt}
 use Rattle.gap.proofs.Opener.{opener-end, opened, closed, passed}
 use borrow.Author.Needs.{needs}
 use Rattle.gap.proofs.opener_of.Statement.{statement}

@@ -1,6 +1,6 @@
 use mathlib.Core.Path.{sym, _∙_}
 use Rattle.names.specs.Names.{chain}
-use Rattle.names.proofs.Returns.{part-refused, found-stands, part-goes, chain-bads}
+use Rattle.names.proofs.Returns.{part-refused, found-inside, part-goes, chain-bads}
 use borrow.Author.Needs.{needs}
 use Rattle.names.proofs.parse_name_access_chain.Statement.{statement}
 use Rattle.names.proofs.parse_name_access_chain.Tie as tie
@@ -15,7 +15,7 @@ enum-known-l-2 : tie.Need-enum-known-l-2
 enum-known-l-2 c = search needs
 
 chain-at-requires : tie.Need-chain-at-requires
-chain-at-requires c κs = (found-stands _ _ _ (sym (c .before .before .before .before .next-token .ensures) ∙ c .before .before .l2 .given .1), search needs)
+chain-at-requires c κs = (found-inside _ _ _ (sym (c .before .before .before .before .next-token .ensures) ∙ c .before .before .l2 .given .1), search needs)
 
 returns : tie.Need-returns
 returns c = part-refused chain chain-bads _ _ _ (sym (c .before .before .before .next-token .ensures) ∙ c .before .l .given .1) _ _ _

@@ -1,6 +1,5 @@
 -- `records::shift_up` meets its contract. The loop's invariant: what is left to move, moved within the buffer as it is now, gives
 -- what moving all that has room gave at first. The measure is how many bytes are left to move.
--- Assumes nothing.
 use mathlib.Core.Path.{_≡_, _∙_}
 use Prim.Native.Nat.{_≤_}
 use native.Mathlib.Omega.{arith}

@@ -1,5 +1,5 @@
 use mathlib.Core.Path.{_∙_, sym}
-use Rattle.display.proofs.Answers.{line-numbers, refused-numbers}
+use Rattle.station.proofs.Cases.{line, undisplayed}
 use borrow.Author.Needs.{needs}
 use Rattle.station.proofs.movesig_display.Statement.{statement}
 use Rattle.station.proofs.movesig_display.Tie as tie
@@ -20,13 +20,13 @@ same-length : tie.Need-same-length
 same-length c = search needs
 
 returns : tie.Need-returns
-returns c = let e = line-numbers _ _ (sym (c .before .before .d .given .1) ∙ c .before .before .before .before .before .before .display .ensures .0) in (e .0, (e .1, c .before .before .before .before .before .before .display .ensures .1))
+returns c = let e = line _ _ (sym (c .before .before .before .before .before .before .display .ensures .0) ∙ c .before .before .d .given .1) in (e .0, (e .1, c .before .before .before .before .before .before .display .ensures .1))
 
 same-length-2 : tie.Need-same-length-2
 same-length-2 c = search needs
 
 returns-2 : tie.Need-returns-2
-returns-2 c = let e = refused-numbers _ _ (sym (c .before .before .d2 .given .1) ∙ c .before .before .before .before .before .before .display .ensures .0) in (e .0, (c .refusal-values .ensures ∙ e .1, c .before .before .before .before .before .before .display .ensures .1))
+returns-2 c = let e = undisplayed _ _ (sym (c .before .before .before .before .before .before .display .ensures .0) ∙ c .before .before .d2 .given .1) _ (c .refusal-values .ensures) in (e .0, (e .1, c .before .before .before .before .before .before .display .ensures .1))
 
 pub movesig-display-spec : {M : Type 1} → statement M
 movesig-display-spec =

@@ -1,5 +1,5 @@
 use borrow.Author.Needs.{needs}
-use Rattle.reader.proofs.Answers.{item-numbers, refused-numbers}
+use Rattle.station.proofs.Cases.{item, rejected}
 use mathlib.Core.Path.{_∙_, sym}
 use Rattle.station.proofs.movesig_read.Statement.{statement}
 use Rattle.station.proofs.movesig_read.Tie as tie
@@ -23,13 +23,13 @@ same-length : tie.Need-same-length
 same-length c = search needs
 
 returns : tie.Need-returns
-returns c = let e = item-numbers _ _ _ (sym (c .before .before .before .a .given .1) ∙ c .before .before .before .before .before .before .before .read .ensures .0) in (e .0, (e .1, c .before .before .before .before .before .before .before .read .ensures .1))
+returns c = let e = item _ _ _ (sym (c .before .before .before .before .before .before .before .read .ensures .0) ∙ c .before .before .before .a .given .1) in (e .0, (e .1, c .before .before .before .before .before .before .before .read .ensures .1))
 
 same-length-2 : tie.Need-same-length-2
 same-length-2 c = search needs
 
 returns-2 : tie.Need-returns-2
-returns-2 c = let e = refused-numbers _ _ (sym (c .before .before .a2 .given .1) ∙ c .before .before .before .before .before .before .read .ensures .0) in (e .0, (c .refusal-values .ensures ∙ e .1, c .before .before .before .before .before .before .read .ensures .1))
+returns-2 c = let e = rejected _ _ (sym (c .before .before .before .before .before .before .read .ensures .0) ∙ c .before .before .a2 .given .1) _ (c .refusal-values .ensures) in (e .0, (e .1, c .before .before .before .before .before .before .read .ensures .1))
 
 pub movesig-read-spec : {M : Type 1} → statement M
 movesig-read-spec =

@@ -11,18 +11,18 @@ slice-aggregate-put-all c = search needs
 put-all-requires : tie.Need-put-all-requires
 put-all-requires c κs = search needs
 
-cast-put-three : tie.Need-cast-put-three
-cast-put-three c = search needs
+cast-put-line : tie.Need-cast-put-line
+cast-put-line c = search needs
 
-put-three-requires : tie.Need-put-three-requires
-put-three-requires c κs = search needs
+put-line-requires : tie.Need-put-line-requires
+put-line-requires c κs = search needs
 
 same-length : tie.Need-same-length
 same-length c = search needs
 
 returns : tie.Need-returns
 unfolding refusedLine
-returns c = (written-both _ _ _ _ _ _ _ _ (c .before .before .before .before .before .before .before .put-all .ensures) (c .before .before .put-three .ensures .0), omega (arith, c .before .before .before .before .before .before .before .put-all .ensures .ends, c .before .before .put-three .ensures .1))
+returns c = (written-both _ _ _ _ _ _ _ _ (c .before .before .before .before .before .before .before .put-all .ensures) (c .before .before .put-line .ensures .0), omega (arith, c .before .before .before .before .before .before .before .put-all .ensures .ends, c .before .before .put-line .ensures .1))
 
 pub put-refusal-spec : {M : Type 1} → statement M
 put-refusal-spec =
@@ -30,7 +30,7 @@ put-refusal-spec =
     (tie.spec
     slice-aggregate-put-all
     put-all-requires
-    cast-put-three
-    put-three-requires
+    cast-put-line
+    put-line-requires
     same-length
     returns)

@@ -1,5 +1,4 @@
 -- `words::closing_quote` meets its contract. The loop's invariant: the answer is that from i on.
--- Assumes nothing.
 use mathlib.Core.Path.{_≡_, _∙_, sym, refl}
 use mathlib.Core.Bool.{false}
 use Prim.Native.Nat.{_-_}

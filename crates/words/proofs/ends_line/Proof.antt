@@ -1,5 +1,4 @@
 -- `words::ends_line` meets its contract.
--- Assumes nothing.
 use borrow.Author.Tests.{eq-eqb, ne-eqb}
 use Rattle.words.specs.Quote.{endsLine}
 use borrow.Author.Needs.{needs}

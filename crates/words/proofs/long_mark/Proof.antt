@@ -1,51 +1,85 @@
--- `words::long_mark` meets its contract.
--- Assumes nothing.
+use mathlib.Core.Path.{_≡_, _∙_, sym, refl}
+use mathlib.Core.Logic.{⊎-elim}
+use Prim.Native.Nat.{_-_}
+use lib.ListN.{drop}
+use Rattle.words.specs.Tables.{longMarks}
+use Rattle.words.specs.Search.{firstFit}
 use Rattle.words.proofs.Rows.{tables}
-use Rattle.words.proofs.Found.{long-first, long-next, long-last}
+use Rattle.words.proofs.Found.{fit-end, place, long-room, long-other, long-hit, long-miss}
 use borrow.Author.Needs.{needs}
 use Rattle.words.proofs.long_mark.Statement.{statement}
 use Rattle.words.proofs.long_mark.Tie as tie
 
-array-copy-out-row-fit : tie.Need-array-copy-out-row-fit
+abbrev Inv-loop : tie.InvT-loop
+Inv-loop text at a rows k₀ k = firstFit longMarks (drop at text) ≡ firstFit (drop k longMarks) (drop at text)
+
+abbrev μ-loop : tie.MeasureT-loop
+μ-loop text at a rows k₀ k = 3 - k
+
+loop-holds : tie.Need-loop-holds Inv-loop μ-loop
+loop-holds c = refl
+
+mul-if1 : tie.Need-mul-if1 Inv-loop μ-loop
+mul-if1 c = search needs
+
+index-1-if1 : tie.Need-index-1-if1 Inv-loop μ-loop
+index-1-if1 c = search needs
+
+index-2-if1 : tie.Need-index-2-if1 Inv-loop μ-loop
+index-2-if1 c = search needs
+
+mul-row-fit : tie.Need-mul-row-fit Inv-loop μ-loop
+mul-row-fit c = search needs
+
+array-copy-out-row-fit : tie.Need-array-copy-out-row-fit Inv-loop μ-loop
 array-copy-out-row-fit c = search needs
 
-row-fit-requires : tie.Need-row-fit-requires
-row-fit-requires c κs = search needs
-
-returns : tie.Need-returns
+row-fit-requires : tie.Need-row-fit-requires Inv-loop μ-loop
 unfolding tables
-returns c = long-first _ _ (c .before .before .row-fit .ensures) (c .if1 .taken)
+row-fit-requires c κs = long-room _ (c .before .before .before .loop-test .taken)
 
-array-copy-out-row-fit-2 : tie.Need-array-copy-out-row-fit-2
-array-copy-out-row-fit-2 c = search needs
-
-row-fit-requires-2 : tie.Need-row-fit-requires-2
-row-fit-requires-2 c κs = search needs
-
-returns-2 : tie.Need-returns-2
+returns : tie.Need-returns Inv-loop μ-loop
 unfolding tables
-returns-2 c = long-next _ _ (c .before .before .before .before .before .before .row-fit .ensures) (c .before .before .before .before .if1 .left) _ (c .before .before .row-fit2 .ensures) (c .if2 .taken)
+returns c = sym (c .before .before .before .before .before .before .before .loop .inv ∙ long-hit _ (c .before .before .before .before .before .before .before .loop .k) (c .before .before .before .before .before .before .loop-test .taken) _ (c .before .before .row-fit .ensures) (c .if2 .taken))
 
-array-copy-out-row-fit-3 : tie.Need-array-copy-out-row-fit-3
-array-copy-out-row-fit-3 c = search needs
+add-k : tie.Need-add-k Inv-loop μ-loop
+add-k c = search needs
 
-row-fit-requires-3 : tie.Need-row-fit-requires-3
-row-fit-requires-3 c κs = search needs
+loop-less : tie.Need-loop-less Inv-loop μ-loop
+loop-less c = search needs
 
-returns-3 : tie.Need-returns-3
+loop-again : tie.Need-loop-again Inv-loop μ-loop
 unfolding tables
-returns-3 c = long-last _ _ (c .before .before .before .before .before .before .before .before .row-fit .ensures) (c .before .before .before .before .before .before .if1 .left) _ (c .before .before .before .before .row-fit2 .ensures) (c .before .before .if2 .left) _ (c .row-fit3 .ensures)
+loop-again c =
+    c .before .before .before .loop .inv
+    ∙ ⊎-elim
+    (λ w. long-miss _ (c .before .before .before .loop .k) (c .before .before .loop-test .taken) _ (w .2 .ensures) (w .4 .left))
+    (λ w. long-other _ (c .before .before .before .loop .k) (c .before .before .loop-test .taken) (λ p. w .left (p ∙ sym (place (c .before .before .before .before .before .args .text .now) (c .before .before .before .before .before .args .at)) ∙ sym (c .before .before .before .before .before .pre))))
+    (c .if1 .came)
+
+no-mark-requires : tie.Need-no-mark-requires Inv-loop μ-loop
+no-mark-requires c κs = search needs
+
+returns-2 : tie.Need-returns-2 Inv-loop μ-loop
+unfolding tables
+returns-2 c = c .no-mark .ensures ∙ sym (c .before .before .loop .inv ∙ fit-end longMarks _ (c .before .before .loop .k) (search needs))
 
 pub long-mark-spec : {M : Type 1} → statement M
 long-mark-spec =
     tie.close
     (tie.spec
+    Inv-loop
+    μ-loop
+    loop-holds
+    mul-if1
+    index-1-if1
+    index-2-if1
+    mul-row-fit
     array-copy-out-row-fit
     row-fit-requires
     returns
-    array-copy-out-row-fit-2
-    row-fit-requires-2
-    returns-2
-    array-copy-out-row-fit-3
-    row-fit-requires-3
-    returns-3)
+    add-k
+    loop-less
+    loop-again
+    no-mark-requires
+    returns-2)

@@ -1,7 +1,6 @@
 -- `words::mark_at` meets its contract.
--- Assumes nothing.
 use mathlib.Core.Path.{_∙_}
-use Rattle.words.proofs.Found.{past-end, no-first, no-second, is-long, is-double, is-single}
+use Rattle.words.proofs.Found.{past-end, is-long, is-double, is-single}
 use borrow.Author.Needs.{needs}
 use Rattle.words.proofs.mark_at.Statement.{statement}
 use Rattle.words.proofs.mark_at.Tie as tie
@@ -15,14 +14,11 @@ returns c = c .no-mark .ensures ∙ past-end _ _ (c .before .if1 .taken)
 shared-slice-read-a : tie.Need-shared-slice-read-a
 shared-slice-read-a c = search needs
 
-single-mark-requires : tie.Need-single-mark-requires
-single-mark-requires c κs = search needs
-
-no-mark-requires-2 : tie.Need-no-mark-requires-2
-no-mark-requires-2 c κs = search needs
+long-mark-requires : tie.Need-long-mark-requires
+long-mark-requires c κs = search needs
 
 returns-2 : tie.Need-returns-2
-returns-2 c = c .no-mark2 .ensures ∙ no-first (c .before .before .before .before .before .before .args .text .now) (c .before .before .before .before .before .before .args .at) (search needs) _ (c .before .before .single-mark .ensures) (c .before .if2 .taken)
+returns-2 c = is-long (c .before .before .before .before .before .before .args .text .now) (c .before .before .before .before .before .before .args .at) _ (c .before .before .long-mark .ensures) (c .if2 .taken)
 
 add-byte-at : tie.Need-add-byte-at
 add-byte-at c = search needs
@@ -30,26 +26,17 @@ add-byte-at c = search needs
 byte-at-requires : tie.Need-byte-at-requires
 byte-at-requires c κs = search needs
 
-second-requires : tie.Need-second-requires
-second-requires c κs = search needs
-
-returns-3 : tie.Need-returns-3
-returns-3 c = no-second (c .before .before .before .before .before .before .before .before .args .text .now) (c .before .before .before .before .before .before .before .before .args .at) (search needs) _ (c .before .before .before .before .single-mark .ensures) (c .before .before .before .if2 .left) _ (c .before .before .byte-at .ensures) _ (c .before .second .ensures) (c .if3 .taken)
-
-long-mark-requires : tie.Need-long-mark-requires
-long-mark-requires c κs = search needs
-
-returns-4 : tie.Need-returns-4
-returns-4 c = is-long (c .before .before .before .before .before .before .before .before .before .before .before .args .text .now) (c .before .before .before .before .before .before .before .before .before .before .before .args .at) (search needs) _ (c .before .before .before .before .before .before .before .single-mark .ensures) (c .before .before .before .before .before .before .if2 .left) _ (c .before .before .before .before .before .byte-at .ensures) _ (c .before .before .long-mark .ensures) (c .if4 .taken)
-
 double-mark-requires : tie.Need-double-mark-requires
 double-mark-requires c κs = search needs
 
-returns-5 : tie.Need-returns-5
-returns-5 c = is-double (c .before .before .before .before .before .before .before .before .before .before .before .before .before .args .text .now) (c .before .before .before .before .before .before .before .before .before .before .before .before .before .args .at) (search needs) _ (c .before .before .before .before .before .before .before .before .before .single-mark .ensures) (c .before .before .before .before .before .before .before .before .if2 .left) _ (c .before .before .before .before .before .before .before .byte-at .ensures) _ (c .before .before .before .before .long-mark .ensures) (c .before .before .if4 .left) _ (c .before .double-mark .ensures) (c .if5 .taken)
+returns-3 : tie.Need-returns-3
+returns-3 c = is-double (c .before .before .before .before .before .before .before .before .before .before .args .text .now) (c .before .before .before .before .before .before .before .before .before .before .args .at) _ (c .before .before .before .before .before .before .long-mark .ensures) (c .before .before .before .before .if2 .left) _ (c .before .before .before .byte-at .ensures) _ (c .before .before .double-mark .ensures) (c .if3 .taken)
 
-returns-6 : tie.Need-returns-6
-returns-6 c = is-single (c .before .before .before .before .before .before .before .before .before .before .before .before .before .args .text .now) (c .before .before .before .before .before .before .before .before .before .before .before .before .before .args .at) (search needs) _ (c .before .before .before .before .before .before .before .before .before .single-mark .ensures) (c .before .before .before .before .before .before .before .before .if2 .left) _ (c .before .before .before .before .before .before .before .byte-at .ensures) _ (c .before .before .before .before .long-mark .ensures) (c .before .before .if4 .left) _ (c .before .double-mark .ensures) (c .if5 .left)
+single-mark-requires : tie.Need-single-mark-requires
+single-mark-requires c κs = search needs
+
+returns-4 : tie.Need-returns-4
+returns-4 c = is-single (c .before .before .before .before .before .before .before .before .before .before .before .args .text .now) (c .before .before .before .before .before .before .before .before .before .before .before .args .at) _ (c .before .before .before .before .before .before .before .long-mark .ensures) (c .before .before .before .before .before .if2 .left) _ (c .before .before .before .before .byte-at .ensures) _ (c .before .before .before .double-mark .ensures) (c .before .if3 .left) _ (c .single-mark .ensures)
 
 pub mark-at-spec : {M : Type 1} → statement M
 mark-at-spec =
@@ -58,15 +45,11 @@ mark-at-spec =
     no-mark-requires
     returns
     shared-slice-read-a
-    single-mark-requires
-    no-mark-requires-2
+    long-mark-requires
     returns-2
     add-byte-at
     byte-at-requires
-    second-requires
-    returns-3
-    long-mark-requires
-    returns-4
     double-mark-requires
-    returns-5
-    returns-6)
+    returns-3
+    single-mark-requires
+    returns-4)

@@ -1,8 +1,7 @@
 -- `words::name_kind` meets its contract.
--- Assumes nothing.
 use mathlib.Core.Path.{_∙_}
 use native.Mathlib.Omega.{arith}
-use Rattle.words.proofs.Keyword.{other-length, in-rows, no-row, is-row, other-row}
+use Rattle.words.proofs.Keyword.{other-length, zero-last, name-found}
 use borrow.Author.Needs.{needs}
 use Rattle.words.proofs.name_kind.Statement.{statement}
 use Rattle.words.proofs.name_kind.Tie as tie
@@ -16,29 +15,29 @@ returns c = other-length (c .before .before .before .args .text .now) (c .before
 returns-2 : tie.Need-returns-2
 returns-2 c = other-length (c .before .before .before .before .args .text .now) (c .before .before .before .before .args .at) (c .before .before .before .before .args .n) _ (c .before .before .clip .ensures) (λ l u. absurd (omega arith))
 
-shared-slice-read-candidate : tie.Need-shared-slice-read-candidate
-shared-slice-read-candidate c = search needs
+add-if3 : tie.Need-add-if3
+add-if3 c = search needs
 
-fourth-requires : tie.Need-fourth-requires
-fourth-requires c κs = search needs
+sub-if3 : tie.Need-sub-if3
+sub-if3 c = search needs
 
-candidate-requires : tie.Need-candidate-requires
-candidate-requires c κs = search needs
+shared-slice-read-if3 : tie.Need-shared-slice-read-if3
+shared-slice-read-if3 c = search needs
 
 returns-3 : tie.Need-returns-3
-returns-3 c = no-row (c .before .before .before .before .before .before .before .before .args .text .now) (c .before .before .before .before .before .before .before .before .args .at) (c .before .before .before .before .before .before .before .before .args .n) _ (c .before .before .before .before .before .before .clip .ensures) (c .before .before .before .before .before .if1 .left) _ (c .before .before .fourth .ensures) _ (c .before .candidate .ensures) (c .if3 .taken)
+returns-3 c = zero-last (c .before .before .before .before .before .before .args .text .now) (c .before .before .before .before .before .before .args .at) (c .before .before .before .before .before .before .args .n) _ (c .before .before .before .before .clip .ensures) (c .before .before .before .if1 .left) (c .if3 .taken)
 
-is-keyword-requires : tie.Need-is-keyword-requires
-is-keyword-requires c κs = (search needs, search needs, in-rows (c .before .before .before .before .before .before .before .before .args .text .now) (c .before .before .before .before .before .before .before .before .args .at) (c .before .before .before .before .before .before .before .before .args .n) _ (c .before .before .before .before .before .before .clip .ensures) (c .before .before .before .before .before .if1 .left) _ (c .before .before .fourth .ensures) _ (c .before .candidate .ensures) (c .if3 .left))
+shared-slice-read-keyword-kind : tie.Need-shared-slice-read-keyword-kind
+shared-slice-read-keyword-kind c = search needs
+
+packed-requires : tie.Need-packed-requires
+packed-requires c κs = search needs
 
 keyword-kind-requires : tie.Need-keyword-kind-requires
-keyword-kind-requires c κs = in-rows (c .before .before .before .before .before .before .before .before .before .before .args .text .now) (c .before .before .before .before .before .before .before .before .before .before .args .at) (c .before .before .before .before .before .before .before .before .before .before .args .n) _ (c .before .before .before .before .before .before .before .before .clip .ensures) (c .before .before .before .before .before .before .before .if1 .left) _ (c .before .before .before .before .fourth .ensures) _ (c .before .before .before .candidate .ensures) (c .before .before .if3 .left)
+keyword-kind-requires c κs = search needs
 
 returns-4 : tie.Need-returns-4
-returns-4 c = c .keyword-kind .ensures ∙ is-row (c .before .before .before .before .before .before .before .before .before .before .before .args .text .now) (c .before .before .before .before .before .before .before .before .before .before .before .args .at) (c .before .before .before .before .before .before .before .before .before .before .before .args .n) _ (c .before .before .before .before .before .before .before .before .before .clip .ensures) (c .before .before .before .before .before .before .before .before .if1 .left) _ (c .before .before .before .before .before .fourth .ensures) _ (c .before .before .before .before .candidate .ensures) _ (c .before .before .is-keyword .ensures) (c .before .if4 .taken)
-
-returns-5 : tie.Need-returns-5
-returns-5 c = other-row (c .before .before .before .before .before .before .before .before .before .before .args .text .now) (c .before .before .before .before .before .before .before .before .before .before .args .at) (c .before .before .before .before .before .before .before .before .before .before .args .n) _ (c .before .before .before .before .before .before .before .before .clip .ensures) (c .before .before .before .before .before .before .before .if1 .left) _ (c .before .before .before .before .fourth .ensures) _ (c .before .before .before .candidate .ensures) _ (c .before .is-keyword .ensures) (c .if4 .left)
+returns-4 c = c .keyword-kind .ensures ∙ name-found (c .before .before .before .before .before .before .before .before .before .args .text .now) (c .before .before .before .before .before .before .before .before .before .args .at) (c .before .before .before .before .before .before .before .before .before .args .n) _ (c .before .before .before .before .before .before .before .clip .ensures) (c .before .before .before .before .before .before .if1 .left) (λ i. c .before .before .before .before .before .before .before .before .shared-slice-known .given i .fits) (c .before .before .before .if3 .left) _ (c .before .packed .ensures)
 
 pub name-kind-spec : {M : Type 1} → statement M
 name-kind-spec =
@@ -47,11 +46,11 @@ name-kind-spec =
     clip-requires
     returns
     returns-2
-    shared-slice-read-candidate
-    fourth-requires
-    candidate-requires
+    add-if3
+    sub-if3
+    shared-slice-read-if3
     returns-3
-    is-keyword-requires
+    shared-slice-read-keyword-kind
+    packed-requires
     keyword-kind-requires
-    returns-4
-    returns-5)
+    returns-4)

@@ -1,5 +1,4 @@
 -- `words::row_fit` meets its contract.
--- Assumes nothing.
 use mathlib.Core.Path.{_∙_}
 use Rattle.words.proofs.Found.{row-fits, row-off}
 use borrow.Author.Needs.{needs}

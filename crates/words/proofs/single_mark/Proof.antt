@@ -1,22 +1,84 @@
--- `words::single_mark` meets its contract.
--- Assumes nothing.
-use Rattle.words.proofs.Found.{by-slot}
+use mathlib.Core.Path.{_≡_, _∙_, sym, refl}
+use mathlib.Core.List.{[], _∷_}
+use Prim.Native.Nat.{_-_, _≤_}
+use lib.ListN.{drop}
+use Rattle.words.specs.Tables.{singleMarks, marks}
+use Rattle.words.specs.Search.{firstFit}
+use Rattle.words.proofs.Rows.{tables}
+use Rattle.words.proofs.Found.{fit-end, single-hit, single-miss}
 use borrow.Author.Needs.{needs}
 use Rattle.words.proofs.single_mark.Statement.{statement}
 use Rattle.words.proofs.single_mark.Tie as tie
 
-slot-byte-requires : tie.Need-slot-byte-requires
-slot-byte-requires c κs = search needs
+abbrev Inv-loop : tie.InvT-loop
+Inv-loop a rows k₀ k = (firstFit singleMarks (a ∷ []) ≡ firstFit (drop k marks) (a ∷ [])) × (13 ≤ k)
 
-slot-kind-requires : tie.Need-slot-kind-requires
-slot-kind-requires c κs = search needs
+abbrev μ-loop : tie.MeasureT-loop
+μ-loop a rows k₀ k = 37 - k
 
-value-if-requires : tie.Need-value-if-requires
+loop-holds : tie.Need-loop-holds Inv-loop μ-loop
+unfolding tables
+loop-holds c = (refl, search needs)
+
+mul-value-if : tie.Need-mul-value-if Inv-loop μ-loop
+mul-value-if c = search needs
+
+index-1-value-if : tie.Need-index-1-value-if Inv-loop μ-loop
+index-1-value-if c = search needs
+
+index-2-value-if : tie.Need-index-2-value-if Inv-loop μ-loop
+index-2-value-if c = search needs
+
+mul-value-if-2 : tie.Need-mul-value-if-2 Inv-loop μ-loop
+mul-value-if-2 c = search needs
+
+index-1-value-if-2 : tie.Need-index-1-value-if-2 Inv-loop μ-loop
+index-1-value-if-2 c = search needs
+
+index-2-value-if-2 : tie.Need-index-2-value-if-2 Inv-loop μ-loop
+index-2-value-if-2 c = search needs
+
+value-if-requires : tie.Need-value-if-requires Inv-loop μ-loop
 value-if-requires c κs = search needs
 
-returns : tie.Need-returns
-returns c = by-slot _ _ _ _ (search needs) (c .before .before .slot-byte .ensures) (c .before .slot-kind .ensures) (c .value-if .ensures)
+returns : tie.Need-returns Inv-loop μ-loop
+unfolding tables
+returns c = sym (c .before .before .before .before .before .loop .inv .0 ∙ single-hit _ (c .before .before .before .before .before .loop .k) (c .before .before .before .before .before .loop .inv .1) (c .before .before .before .before .loop-test .taken) _ (c .before .value-if .ensures) (c .if1 .taken))
+
+add-k : tie.Need-add-k Inv-loop μ-loop
+add-k c = search needs
+
+loop-less : tie.Need-loop-less Inv-loop μ-loop
+loop-less c = search needs
+
+loop-again : tie.Need-loop-again Inv-loop μ-loop
+unfolding tables
+loop-again c = (c .before .before .before .before .before .loop .inv .0 ∙ single-miss _ (c .before .before .before .before .before .loop .k) (c .before .before .before .before .before .loop .inv .1) (c .before .before .before .before .loop-test .taken) _ (c .before .value-if .ensures) (c .if1 .left), search needs)
+
+no-mark-requires : tie.Need-no-mark-requires Inv-loop μ-loop
+no-mark-requires c κs = search needs
+
+returns-2 : tie.Need-returns-2 Inv-loop μ-loop
+unfolding tables
+returns-2 c = c .no-mark .ensures ∙ sym (c .before .before .loop .inv .0 ∙ fit-end marks _ (c .before .before .loop .k) (search needs))
 
 pub single-mark-spec : {M : Type 1} → statement M
 single-mark-spec =
-    tie.close (tie.spec slot-byte-requires slot-kind-requires value-if-requires returns)
+    tie.close
+    (tie.spec
+    Inv-loop
+    μ-loop
+    loop-holds
+    mul-value-if
+    index-1-value-if
+    index-2-value-if
+    mul-value-if-2
+    index-1-value-if-2
+    index-2-value-if-2
+    value-if-requires
+    returns
+    add-k
+    loop-less
+    loop-again
+    no-mark-requires
+    returns-2)

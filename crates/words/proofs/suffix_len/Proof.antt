@@ -1,5 +1,4 @@
 -- `words::suffix_len` meets its contract.
--- Assumes nothing.
 use Rattle.words.proofs.Suffix.{is-u8, is-u64, is-u128, is-plain}
 use borrow.Author.Needs.{needs}
 use Rattle.words.proofs.suffix_len.Statement.{statement}

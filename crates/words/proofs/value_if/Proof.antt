@@ -1,7 +1,6 @@
 -- `words::value_if` meets its contract.
--- Assumes nothing.
 use borrow.Author.Tests.{eq-eqb, ne-eqb}
-use Rattle.words.specs.Rows.{valueIf}
+use Rattle.words.specs.code.Rows.{valueIf}
 use Rattle.words.proofs.value_if.Statement.{statement}
 use Rattle.words.proofs.value_if.Tie as tie
 

@@ -1,6 +1,6 @@
 //! The read call and the display call. The answers are the Rust's, with the line that
-//! document 01 gives to its tree; refusals 2, 3, 4 and 14, which it does not have, are
-//! document 01's. Other cases that the Rust cannot answer are left out.
+//! the specification gives to its tree; refusals 2, 3, 4 and 14, which it does not have, are
+//! the specification's. Other cases that the Rust cannot answer are left out.
 
 use crate::hex;
 use oracle::{

@@ -3,21 +3,34 @@
 //! One case a line, single blanks between: `t` (token) or `c` (comment), the start
 //! offset, the result, the six numbers and the text; or `r` (read) or `d` (display), the
 //! item kind, the start offset, the room lent, the result, the six numbers, the text and
-//! the bytes that must be written: the tree or the line. Texts and bytes are in hex (`-` where there are none). Behind them
+//! the bytes that must be written: the tree or the line. Texts and bytes are in hex (`-`
+//! where there are none). First stand the points of oracle/src/points.rs; behind all
 //! stand some wrong answers, so that a replay that finds none of them is seen.
 
 mod calls;
 mod items;
+mod points;
 
 use oracle::{answer::ItemCall, parsing::on_a_deep_stack, reading::silence_the_rust};
+use std::collections::BTreeSet;
 
 fn main() {
     silence_the_rust();
-    print!("{}", calls::lines());
+    let points = on_a_deep_stack(points::lines);
+    print!("{points}");
+    print_new(&points, &calls::lines());
     for call in [ItemCall::Read, ItemCall::Display] {
-        print!("{}", on_a_deep_stack(|| items::lines(call)));
+        print_new(&points, &on_a_deep_stack(|| items::lines(call)));
     }
     for line in [WRONG_READS, WRONG_DISPLAYS, WRONG_CALLS].concat() {
+        println!("{line}");
+    }
+}
+
+/// Prints the lines that are none of the points'.
+fn print_new(points: &str, lines: &str) {
+    let taken: BTreeSet<_> = points.lines().collect();
+    for line in lines.lines().filter(|line| !taken.contains(line)) {
         println!("{line}");
     }
 }

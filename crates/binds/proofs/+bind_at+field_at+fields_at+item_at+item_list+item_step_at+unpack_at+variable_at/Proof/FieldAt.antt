@@ -1,5 +1,4 @@
 -- What the borrow checker leaves of `field_at`.
--- Assumes nothing.
 use mathlib.Core.List.{[]}
 use mathlib.Core.Path.{sym, _∙_}
 use Prim.Native.Nat.{ℕ}

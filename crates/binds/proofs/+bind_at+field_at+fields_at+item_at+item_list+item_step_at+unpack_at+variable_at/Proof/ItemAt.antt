@@ -1,5 +1,4 @@
 -- What the borrow checker leaves of `item_at`.
--- Assumes nothing.
 use Prim.Native.Nat.{ℕ}
 use native.Mathlib.Omega.{arith}
 use borrow.Author.Needs.{needs}

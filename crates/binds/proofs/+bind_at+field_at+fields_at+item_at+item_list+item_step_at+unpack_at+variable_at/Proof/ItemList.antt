@@ -1,5 +1,4 @@
 -- What the borrow checker leaves of `item_list`.
--- Assumes nothing.
 use mathlib.Core.Path.{_∙_}
 use Prim.Native.Nat.{_-_, ℕ}
 use native.Mathlib.Omega.{arith}

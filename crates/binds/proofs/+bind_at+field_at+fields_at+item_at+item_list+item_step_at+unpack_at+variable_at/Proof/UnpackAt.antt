@@ -1,5 +1,4 @@
 -- What the borrow checker leaves of `unpack_at`.
--- Assumes nothing.
 use mathlib.Core.Path.{_∙_}
 use Prim.Native.Nat.{ℕ}
 use native.Mathlib.Omega.{arith}

@@ -1,5 +1,4 @@
 -- What the borrow checker leaves of `show_argument`.
--- Assumes nothing.
 use native.Mathlib.Omega.{arith}
 use Rattle.shows.proofs.Returns.{argument-shown}
 use borrow.Author.Needs.{needs}

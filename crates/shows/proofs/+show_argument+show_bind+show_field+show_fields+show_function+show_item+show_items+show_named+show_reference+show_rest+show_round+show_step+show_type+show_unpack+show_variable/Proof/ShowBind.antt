@@ -1,5 +1,4 @@
 -- What the borrow checker leaves of `show_bind`.
--- Assumes nothing.
 use Rattle.shows.proofs.Binding.{bind-deep, bind-name, bind-unpack}
 use borrow.Author.Needs.{needs}
 use Prim.Native.Nat.{ℕ}

@@ -1,5 +1,4 @@
 -- What the borrow checker leaves of `show_fields`.
--- Assumes nothing.
 use native.Mathlib.Omega.{arith}
 use Rattle.shows.proofs.Binding.{fields-none, braces-shown}
 use Rattle.shows.proofs.Returns.{list-at}

@@ -1,5 +1,4 @@
 -- What the borrow checker leaves of `show_function`.
--- Assumes nothing.
 use denote.Ref.{now}
 use mathlib.Core.Path.{sym}
 use native.Mathlib.Omega.{arith}

@@ -1,5 +1,4 @@
 -- What the borrow checker leaves of `show_item`.
--- Assumes nothing.
 use Rattle.shows.proofs.Returns.{item-plain, item-argument, item-field, item-binding}
 use borrow.Author.Needs.{needs}
 use Prim.Native.Nat.{ℕ}

@@ -1,5 +1,4 @@
 -- What the borrow checker leaves of `show_items`.
--- Assumes nothing.
 use native.Mathlib.Omega.{arith}
 use Rattle.shows.proofs.Steps.{step-told, list-onward, items-stopped, items-empty, items-ended, items-onward}
 use borrow.Author.Needs.{needs}

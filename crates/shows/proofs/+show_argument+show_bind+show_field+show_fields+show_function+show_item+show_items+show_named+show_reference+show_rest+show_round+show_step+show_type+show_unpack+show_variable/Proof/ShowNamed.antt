@@ -1,5 +1,4 @@
 -- What the borrow checker leaves of `show_named`.
--- Assumes nothing.
 use denote.Ref.{now}
 use native.Mathlib.Omega.{arith}
 use Rattle.lines.specs.Line.{shown}

@@ -1,5 +1,4 @@
 -- What the borrow checker leaves of `show_rest`.
--- Assumes nothing.
 use Prim.Native.Nat.{_-_, _<_, _≤_}
 use mathlib.Core.Path.{_∙_}
 use native.Mathlib.Omega.{arith}

@@ -1,5 +1,4 @@
 -- What the borrow checker leaves of `show_step`.
--- Assumes nothing.
 use denote.Ref.{now}
 use mathlib.Core.Path.{sym, refl, _∙_}
 use native.Mathlib.Omega.{arith}

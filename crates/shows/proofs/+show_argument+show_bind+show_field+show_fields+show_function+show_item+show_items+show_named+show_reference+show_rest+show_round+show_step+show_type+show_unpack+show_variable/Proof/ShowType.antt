@@ -1,5 +1,4 @@
 -- What the borrow checker leaves of `show_type`.
--- Assumes nothing.
 use Rattle.lines.specs.Line.{shown}
 use Rattle.shows.specs.Shown.{isFunction}
 use Rattle.shows.proofs.Showing.{shows-as}

@@ -1,5 +1,4 @@
 -- What the borrow checker leaves of `show_unpack`.
--- Assumes nothing.
 use denote.Ref.{now}
 use mathlib.Core.Path.{_∙_}
 use native.Mathlib.Omega.{arith}

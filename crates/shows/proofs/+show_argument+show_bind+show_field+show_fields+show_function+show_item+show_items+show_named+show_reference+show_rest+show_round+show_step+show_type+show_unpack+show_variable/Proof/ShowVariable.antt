@@ -1,5 +1,4 @@
 -- What the borrow checker leaves of `show_variable`.
--- Assumes nothing.
 use mathlib.Core.Path.{sym, _∙_}
 use Rattle.shows.proofs.Binding.{variable-failed, variable-unpack, variable-shown}
 use borrow.Author.Needs.{needs}

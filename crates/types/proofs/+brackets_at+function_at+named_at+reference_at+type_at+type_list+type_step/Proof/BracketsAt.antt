@@ -1,5 +1,4 @@
 -- What the borrow checker leaves of `brackets_at`.
--- Assumes nothing.
 use Rattle.types.proofs.Returns.{type-room, brk-stopped, brk-closed, first-small, first-inside, brk-failed, others-small, others-inside, brk-tuple, tuple-told}
 use Rattle.names.proofs.Opening.{here}
 use Rattle.names.proofs.Listing.{told, step-told}

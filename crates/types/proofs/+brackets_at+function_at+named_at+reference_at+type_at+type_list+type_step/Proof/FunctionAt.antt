@@ -1,5 +1,4 @@
 -- What the borrow checker leaves of `function_at`.
--- Assumes nothing.
 use Rattle.types.proofs.Returns.{type-room, type-small, fun-failed, args-next, args-small, fun-type-failed, fun-read}
 use Rattle.names.proofs.Opening.{here}
 use Rattle.names.proofs.Listing.{told}

@@ -1,5 +1,4 @@
 -- What the borrow checker leaves of `named_at`.
--- Assumes nothing.
 use Rattle.types.proofs.Returns.{type-room, of-chain, name-failed, name-next, name-small, plain-read, args-failed, targs-small, targs-inside, applied-read}
 use Rattle.names.proofs.Opening.{here}
 use Rattle.names.proofs.Listing.{told}

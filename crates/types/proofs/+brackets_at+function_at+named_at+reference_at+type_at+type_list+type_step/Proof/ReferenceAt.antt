@@ -1,5 +1,4 @@
 -- What the borrow checker leaves of `reference_at`.
--- Assumes nothing.
 use Rattle.types.proofs.Returns.{ref-refused, ref-failed, ref-read, type-small, type-room}
 use Rattle.names.proofs.Opening.{here}
 use Rattle.names.proofs.Listing.{told}

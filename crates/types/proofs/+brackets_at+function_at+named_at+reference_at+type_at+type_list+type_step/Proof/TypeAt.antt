@@ -1,5 +1,4 @@
 -- What the borrow checker leaves of `type_at`.
--- Assumes nothing.
 use Rattle.records.specs.Stored.{stored}
 use Rattle.names.proofs.Steps.{gives-no, gives-as}
 use Rattle.types.proofs.Returns.{type-is-deep, type-is-brackets, type-is-reference, type-is-mutable, type-is-function, type-is-named}

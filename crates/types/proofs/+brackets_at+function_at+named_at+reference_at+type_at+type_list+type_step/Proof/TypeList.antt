@@ -1,5 +1,4 @@
 -- What the borrow checker leaves of `type_list`.
--- Assumes nothing.
 use Rattle.names.proofs.Listing.{Going, going-first, going-stopped, going-last, going-item, item-step, last-small, step-told}
 use Rattle.types.proofs.Sure.{read-type-sure}
 use Rattle.types.specs.Types.{readType}

@@ -1,5 +1,4 @@
 -- What the borrow checker leaves of `type_step`.
--- Assumes nothing.
 use Rattle.records.specs.Stored.{stored}
 use Rattle.names.proofs.Listing.{told, step-refused, step-wrong, step-empty, step-failed, step-item}
 use Rattle.names.proofs.Steps.{found-token}

@@ -1,0 +1,149 @@
+-- Which refusals the token call and the comment call can meet.
+use mathlib.Core.Path.{_≡_, refl, sym, _∙_, subst}
+use mathlib.Core.Bool.{Bool, true, false, cond, _&&_, _||_}
+use mathlib.Core.List.{List, [], _∷_}
+use Prim.Native.Nat.{ℕ, _+_, _≤_}
+use borrow.Author.Tests.{eqb-true}
+use lib.Dec.{eqb, ltb}
+use lib.ListN.{length, drop, getD}
+use Rattle.classes.specs.Bytes.{bytes, begins}
+use Rattle.classes.specs.Class.{isDigit, isLetter, isAscii}
+use Rattle.classes.specs.Run.{runLen}
+use Rattle.classes.proofs.Bools.{false-true, and-left, and-right}
+use Rattle.gap.specs.Gap.{End, clear, broken, gap, docOf}
+use Rattle.gap.specs.declared.FirstDoc.{FirstDoc}
+use Rattle.gap.specs.declared.FirstDoc.the-variants.{Found as DocFound, Nothing as NoDoc, BrokenFirst}
+use Rattle.words.specs.Search.{markOf, suffixLen}
+use Rattle.words.specs.Quote.{quoteFrom}
+use Rattle.words.specs.declared.Quote.{Quote}
+use Rattle.words.specs.declared.Quote.the-variants.{Found as Closing, Missing}
+use Rattle.tokens.specs.Refusals.{TextTooLong, StartPastEnd, StringNotAscii, NoToken, among, lexRefusals, tokenRefusals, commentRefusals}
+use Rattle.tokens.specs.Token.{Front, front, fault, typed, decimal, hexTyped, hexLen, hexNumber, number, stringBy, string, opensString, stringRefusal, name, word, mark, findToken, Scanned, tok, bad, placed, behindGap, lex}
+use Rattle.tokens.specs.Answers.{refusal}
+use Rattle.tokens.specs.Calls.{textLimit, admitted, lexed, nextToken, commentOf, nextComment}
+use Rattle.tokens.specs.declared.Refusal.{Refusal}
+use Rattle.tokens.specs.declared.Lexed.{Lexed}
+use Rattle.tokens.specs.declared.Lexed.the-variants.{Found, Refused}
+use Rattle.tokens.specs.declared.DocComment.{DocComment}
+use Rattle.tokens.specs.declared.DocComment.the-variants.{Doc, Nothing, Broken}
+use Rattle.tokens.proofs.Again.{admitted-in}
+
+-- every number of one set is one of another: of two sets that are written out, `refl` says so
+unfoldable pub subset : List ℕ → List ℕ → Bool
+subset [] ys = true
+subset (x ∷ xs) ys = among ys x && subset xs ys
+
+pub among-subset : (xs ys : List ℕ) → subset xs ys ≡ true → (n : ℕ) → among xs n ≡ true → among ys n ≡ true
+unfolding subset among
+among-subset [] ys h n g = false-true _ g
+among-subset (x ∷ xs) ys h n g = go (eqb x n) refl g (among-subset xs ys (and-right (among ys x) (subset xs ys) h) n)
+  where
+    go : (b : Bool) → eqb x n ≡ b → b || among xs n ≡ true → (among xs n ≡ true → among ys n ≡ true) → among ys n ≡ true
+    go true e f later = subst (λ (m : ℕ). among ys m ≡ true) (eqb-true x n e) (and-left (among ys x) (subset xs ys) h)
+    go false e f later = later f
+
+-- what the bytes of a text refuse has a number of the set
+abbrev Met : Front → Type 0
+Met (front k n) = Unit {0}
+Met (fault m i j) = among lexRefusals m ≡ true
+
+abbrev pub LexMet : Scanned → Type 0
+LexMet (tok k s e w r) = Unit {0}
+LexMet (bad r) = among lexRefusals (r .number) ≡ true
+
+met-cond : (b : Bool) (x y : Front) → Met x → Met y → Met (cond b x y)
+met-cond true x y f g = f
+met-cond false x y f g = g
+
+number-met : (s : List ℕ) → Met (number s)
+unfolding number hexNumber hexTyped decimal typed
+number-met s = met-cond (begins (bytes "0x") s) _ _ (met-cond (eqb (hexLen s + suffixLen (drop (hexLen s) s)) 2) (front 1 1) _ tt tt) tt
+
+string-met : (m h : ℕ) (q : Quote) → among lexRefusals m ≡ true → Met (stringBy m h q)
+unfolding stringBy among
+string-met m h (Missing e) p = p
+string-met m h (Closing q) p = met-cond (ltb h q) (fault StringNotAscii h (h + 1)) (front 3 (q + 1)) refl tt
+
+string-refusal-met : (a : ℕ) → among lexRefusals (stringRefusal a) ≡ true
+unfolding stringRefusal among
+string-refusal-met a = go (eqb a 120)
+  where
+    go : (b : Bool) → among lexRefusals (cond b 7 8) ≡ true
+    go true = refl
+    go false = refl
+
+word-met : (s : List ℕ) → Met (word s)
+unfolding word string name
+word-met s =
+    met-cond (opensString (getD s 0 0) (getD s 1 0)) _ _
+    (string-met (stringRefusal (getD s 0 0)) (2 + runLen isAscii (drop 2 s)) (quoteFrom false 2 (drop 2 s)) (string-refusal-met (getD s 0 0))) tt
+
+find-met : (s : List ℕ) → Met (findToken s)
+unfolding findToken mark among
+find-met [] = tt
+find-met (a ∷ s) =
+    met-cond (isDigit a) _ _ (number-met (a ∷ s))
+    (met-cond (isLetter a) _ _ (word-met (a ∷ s)) (met-cond (eqb (markOf (a ∷ s) .len) 0) (fault NoToken 0 0) (front (markOf (a ∷ s) .kind) (markOf (a ∷ s) .len)) refl tt))
+
+placed-met : (p : ℕ) (s : List ℕ) (x : Front) → Met x → LexMet (placed p s x)
+unfolding placed
+placed-met p s (front k n) h = tt
+placed-met p s (fault m i j) h = h
+
+gap-met : (e : End) → LexMet (behindGap e)
+unfolding behindGap among
+gap-met (clear p s) = placed-met p s (findToken s) (find-met s)
+gap-met (broken o q) = refl
+
+-- the bytes of a text say one of 5 to 9
+pub lex-met : (p : ℕ) (s : List ℕ) → LexMet (lex p s)
+unfolding lex
+lex-met p s = gap-met (gap 0 p s .last)
+
+-- a fact of refusals 1 and 2 and of what the text has
+admitted-met : {A : Type 0} (P : A → Type 0) (refuse : Refusal → A) (text : List ℕ) (at : ℕ) (a : A)
+    → P (refuse (refusal TextTooLong 0 0)) → P (refuse (refusal StartPastEnd 0 0)) → P a → P (admitted refuse text at a)
+unfolding admitted
+admitted-met P refuse text at a f g h = go (ltb textLimit (length text)) (ltb (length text) at)
+  where
+    go : (b c : Bool) → P (cond b (refuse (refusal TextTooLong 0 0)) (cond c (refuse (refusal StartPastEnd 0 0)) a))
+    go true c = f
+    go false true = g
+    go false false = h
+
+abbrev TokenMet : List ℕ → Lexed → Type 0
+TokenMet set (Found t) = Unit {0}
+TokenMet set (Refused r) = among set (r .number) ≡ true
+
+abbrev CommentMet : DocComment → Type 0
+CommentMet (Doc c) = Unit {0}
+CommentMet Nothing = Unit {0}
+CommentMet (Broken r) = among commentRefusals (r .number) ≡ true
+
+lexed-met : (set : List ℕ) → subset lexRefusals set ≡ true → (l : Scanned) → LexMet l → TokenMet set (lexed l)
+unfolding lexed
+lexed-met set i (tok k s e w r) h = tt
+lexed-met set i (bad r) h = among-subset lexRefusals set i (r .number) h
+
+comment-met : (d : FirstDoc) → CommentMet (commentOf d)
+unfolding commentOf among
+comment-met (DocFound c) = tt
+comment-met NoDoc = tt
+comment-met (BrokenFirst o q) = refl
+
+-- a token call is refused with 1, 2 or 5 to 9
+pub token-refusals : (text : List ℕ) (at : ℕ) (r : Refusal) → nextToken text at ≡ Refused r → among tokenRefusals (r .number) ≡ true
+unfolding nextToken subset among
+token-refusals text at r e =
+    subst (TokenMet tokenRefusals) e (admitted-met (TokenMet tokenRefusals) Refused text at _ refl refl (lexed-met tokenRefusals refl (lex at (drop at text)) (lex-met at (drop at text))))
+
+-- and with 5 to 9 where the caller is not to blame
+pub token-text-refusals : (text : List ℕ) (at : ℕ) → length text ≤ textLimit → at ≤ length text → (r : Refusal) → nextToken text at ≡ Refused r → among lexRefusals (r .number) ≡ true
+unfolding nextToken subset among
+token-text-refusals text at h g r e =
+    subst (TokenMet lexRefusals) (sym (admitted-in Refused text at (lexed (lex at (drop at text))) h g) ∙ e) (lexed-met lexRefusals refl (lex at (drop at text)) (lex-met at (drop at text)))
+
+-- a comment call is refused with 1, 2 or 6
+pub comment-refusals : (text : List ℕ) (at : ℕ) (r : Refusal) → nextComment text at ≡ Broken r → among commentRefusals (r .number) ≡ true
+unfolding nextComment among
+comment-refusals text at r e = subst CommentMet e (admitted-met CommentMet Broken text at _ refl refl (comment-met (docOf (gap 0 at (drop at text)))))
