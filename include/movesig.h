@@ -100,7 +100,7 @@ enum movesig_result {
 enum movesig_item {
     MOVESIG_NAME = 1,      /* a, a::b, a::b::c; the first part may be a number */
     MOVESIG_VALUE = 2,     /* @0x1, @a, 1, 1u8, true, false, x"00", b"text" */
-    MOVESIG_TYPE = 3,      /* a::b<T>, &T, &mut T, (), (T, U), |T, U| V */
+    MOVESIG_TYPE = 3,      /* a::b<T>, &T, &mut T, (), (T), (T, U), |T, U| V */
     MOVESIG_BIND_LIST = 4, /* x, or (x, S {f: y}) */
     MOVESIG_LAMBDA_BIND_LIST = 5 /* |x, y| */
 };
@@ -124,7 +124,8 @@ uint32_t movesig_next_comment(const uint8_t *text, size_t len, size_t at, uint64
  *
  * The tree is one record with its children: two bytes each, the low one first, for the length of the
  * record with all its children, for its kind (enum movesig_record), its start and its end; then the
- * children, each a record again. */
+ * children, each a record again. Brackets round one type are a record of their own, 16, which trees
+ * written by earlier versions do not have. */
 uint32_t movesig_read(uint64_t kind, const uint8_t *text, size_t len, size_t at, uint8_t *out, size_t room,
                       uint64_t answer[6]);
 
@@ -136,14 +137,14 @@ uint32_t movesig_read(uint64_t kind, const uint8_t *text, size_t len, size_t at,
  * gives the same tree but for the spans, and itself as its line.
  *
  * Leaves stand as spelled; then `@0x1`, `a::b`, `T<a, b>`, `& T`, `&mut T`, `()`, `(a, b)`, `|a, b| r`,
- * `| | r` without arguments, and `(|a| b)` where a function type is directly an argument of another;
+ * `| | r` without arguments, and `(T)` where brackets are written round one type, and only there;
  * bindings `x`, `S {f: x, g: y}`, `S<u8> {f: x}`; the lists `(x, y)` and `|x, y|`, empty `()` and `| |`. */
 uint32_t movesig_display(uint64_t kind, const uint8_t *text, size_t len, size_t at, uint8_t *line, size_t room,
                          uint64_t answer[6]);
 
 /* The kinds of records of a tree. Behind each its children in order; `leaf` has none, and its spelling is
  * the bytes of its span. `first` is an address or a name; a chain is one of 3 to 5; a type one of 10 to
- * 15; a binding one of 20 to 22. */
+ * 16; a binding one of 20 to 22. */
 enum movesig_record {
     MOVESIG_REC_NAME = 1,               /* leaf */
     MOVESIG_REC_ADDRESS = 2,            /* leaf: a number as a name's first part or behind `@` */
@@ -157,6 +158,7 @@ enum movesig_record {
     MOVESIG_REC_FUNCTION = 13,          /* types, the result last: `|T, U| V` */
     MOVESIG_REC_UNIT = 14,              /* none, and no spelling: `()` */
     MOVESIG_REC_TUPLE = 15,             /* two types or more: `(T, U)` */
+    MOVESIG_REC_BRACKETS = 16,          /* type: `(T)` */
     MOVESIG_REC_VARIABLE = 20,          /* leaf: `x` */
     MOVESIG_REC_STRUCT = 21,            /* chain, then its fields: `S {f: x}` */
     MOVESIG_REC_STRUCT_TYPED = 22,      /* chain, then its types, then its fields: `S<T> {f: x}` */

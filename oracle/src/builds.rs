@@ -61,9 +61,9 @@ mod tests {
     #[test]
     fn equal_builds() {
         for (kind, one, other) in [
-            (ItemKind::Type, "a", " ( /* c */ a , ) "),
+            (ItemKind::Type, "(a)", " ( /* c */ a , ) "),
             (ItemKind::Type, "a<>", "a"),
-            (ItemKind::Type, "( )", "((/* c */))"),
+            (ItemKind::Type, "(( ))", "((/* c */))"),
             (ItemKind::BindList, "S{f}", "( S { f : f , } , )"),
             (ItemKind::Name, "a::b::c", "a :: b\n::c"),
         ] {
@@ -75,6 +75,10 @@ mod tests {
     fn different_builds() {
         for (kind, one, other) in [
             (ItemKind::Type, "a", "b"),
+            (ItemKind::Type, "a", "(a)"),
+            (ItemKind::Type, "(a)", "((a))"),
+            (ItemKind::Type, "()", "(())"),
+            (ItemKind::Type, "|a|b", "|a|(b)"),
             (ItemKind::Type, "&mut a", "& a"),
             (ItemKind::Type, "(a,b,c)", "(a,(b,c))"),
             (ItemKind::Type, "((a,b),c)", "(a,(b,c))"),

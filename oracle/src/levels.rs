@@ -5,8 +5,11 @@
 //! counts as the item of its list, and its binding adds none. A level is tested when
 //! its item is due: when the list has ruled out a close and a comma, or at once
 //! behind `&`, `&mut` and a function's closing `|`.
+//!
+//! The same walk finds the brackets round one type, which the Rust's tree has not.
 
 use crate::{
+    brackets::{Brackets, Span},
     files::THE_FILE,
     parser::lexer::{Lexer, Tok},
     parsing::ItemKind,
@@ -34,41 +37,62 @@ pub fn strike(kind: ItemKind, text_from_base: &str, base: usize) -> Option<(usiz
     if text.len() < LEVELS || text.iter().filter(|byte| opens(byte)).count() < LEVELS {
         return None;
     }
-    match walk(kind, text_from_base) {
+    match Walker::new(text_from_base).walk(kind) {
         Err(Stop::TooDeep(start, end)) => Some((base + start, base + end)),
         Ok(()) | Err(Stop::Fault) => None,
     }
 }
 
-fn walk(kind: ItemKind, text: &str) -> Walked {
-    let lexer = Lexer::new(text, THE_FILE);
-    let mut walker = Walker { lexer };
-    walker.advance()?;
-    match kind {
-        // They have no levels.
-        ItemKind::Name | ItemKind::Value => Ok(()),
-        ItemKind::Type => walker.item_type(1),
-        ItemKind::BindList if walker.is(Tok::LParen) => {
-            walker.list(Tok::RParen, 1, Walker::item_bind)
-        }
-        ItemKind::BindList => walker.item_bind(1),
-        ItemKind::LambdaBindList if walker.is(Tok::Pipe) => {
-            walker.list(Tok::Pipe, 1, Walker::item_bind)
-        }
-        ItemKind::LambdaBindList => Err(Stop::Fault),
+/// The brackets round one type in an item that the Rust reads from the text. Those
+/// that stand deeper than 64 levels are left out.
+pub fn brackets(kind: ItemKind, text_from_base: &str) -> Brackets {
+    let mut walker = Walker::new(text_from_base);
+    if text_from_base.contains('(') {
+        // Where the levels end, so does the walk.
+        let _ = walker.walk(kind);
     }
+    walker.brackets
 }
 
 struct Walker<'t> {
     lexer: Lexer<'t>,
+    /// Where the last token that was taken ends.
+    end: usize,
+    brackets: Brackets,
 }
 
-impl Walker<'_> {
+impl<'t> Walker<'t> {
+    fn new(text: &'t str) -> Walker<'t> {
+        Walker {
+            lexer: Lexer::new(text, THE_FILE),
+            end: 0,
+            brackets: Brackets::default(),
+        }
+    }
+
+    fn walk(&mut self, kind: ItemKind) -> Walked {
+        self.advance()?;
+        match kind {
+            // They have no levels.
+            ItemKind::Name | ItemKind::Value => Ok(()),
+            ItemKind::Type => self.item_type(1),
+            ItemKind::BindList if self.is(Tok::LParen) => {
+                self.list(Tok::RParen, 1, Walker::item_bind).map(|_| ())
+            }
+            ItemKind::BindList => self.item_bind(1),
+            ItemKind::LambdaBindList if self.is(Tok::Pipe) => {
+                self.list(Tok::Pipe, 1, Walker::item_bind).map(|_| ())
+            }
+            ItemKind::LambdaBindList => Err(Stop::Fault),
+        }
+    }
+
     fn is(&self, token: Tok) -> bool {
         self.lexer.peek() == token
     }
 
     fn advance(&mut self) -> Walked {
+        self.end = self.lexer.end_loc();
         self.lexer.advance().map_err(|_| Stop::Fault)
     }
 
@@ -88,18 +112,26 @@ impl Walker<'_> {
         Ok(())
     }
 
-    /// A list from its opening token to its closing one.
-    fn list(&mut self, close: Tok, level: usize, item: fn(&mut Self, usize) -> Walked) -> Walked {
+    /// A list from its opening token to its closing one; gives the spans of its items.
+    fn list(
+        &mut self,
+        close: Tok,
+        level: usize,
+        item: fn(&mut Self, usize) -> Walked,
+    ) -> Walked<Vec<Span>> {
+        let mut items = vec![];
         self.advance()?;
         loop {
             self.split(close);
             if self.is(close) {
-                return self.advance();
+                return self.advance().map(|()| items);
             }
             if self.is(Tok::Comma) {
                 return Err(Stop::Fault);
             }
+            let start = self.lexer.start_loc();
             item(self, level)?;
+            items.push((start, self.end));
             self.split(close);
             if !self.is(close) {
                 self.take(Tok::Comma)?;
@@ -116,7 +148,14 @@ impl Walker<'_> {
     fn item_type(&mut self, level: usize) -> Walked {
         self.due(level)?;
         match self.lexer.peek() {
-            Tok::LParen => self.list(Tok::RParen, level + 1, Walker::item_type),
+            Tok::LParen => {
+                let start = self.lexer.start_loc();
+                let items = self.list(Tok::RParen, level + 1, Walker::item_type)?;
+                if let [inner] = items[..] {
+                    self.brackets.put((start, self.end), inner);
+                }
+                Ok(())
+            }
             Tok::Amp | Tok::AmpMut => {
                 self.advance()?;
                 self.item_type(level + 1)
@@ -174,6 +213,7 @@ impl Walker<'_> {
             return Err(Stop::Fault);
         }
         self.list(Tok::RBrace, level + 1, Walker::item_field)
+            .map(|_| ())
     }
 
     fn item_field(&mut self, level: usize) -> Walked {
@@ -214,7 +254,7 @@ mod tests {
         every_text("a0<>(|,&:{}) ", 5, &mut |text| {
             for kind in [ItemKind::Type, ItemKind::BindList, ItemKind::LambdaBindList] {
                 let accepted = parse(kind, text, 0).answer.unwrap().result == 0;
-                let walked = walk(kind, text);
+                let walked = Walker::new(text).walk(kind);
                 let expected = if accepted { Ok(()) } else { Err(Stop::Fault) };
                 assert_eq!(walked, expected, "{kind:?} '{text}'");
             }

@@ -12,6 +12,7 @@ pub use shims::{
 };
 
 pub mod answer;
+pub mod brackets;
 pub mod builds;
 pub mod displays;
 pub mod expected;

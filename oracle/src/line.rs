@@ -1,12 +1,14 @@
-//! The display line of the specification, written from the Rust's trees.
+//! The display line of the specification, written from the Rust's trees. Brackets are shown
+//! where they were written and nowhere else (docs/DIFFERENCES.md).
 
 use crate::{
+    brackets::{Brackets, Span},
     location::Loc,
     parser::ast::{
         Bind, Bind_, Field, LeadingNameAccess, NameAccessChain, NameAccessChain_, Type, Type_,
         Value, Value_,
     },
-    parsing::Item,
+    parsing::{Item, Parsed},
     shared::{Identifier, Name},
 };
 
@@ -14,24 +16,26 @@ use crate::{
 pub fn line_of(item: &Item, text: &[u8]) -> Vec<u8> {
     let mut line = Line {
         text,
+        brackets: &item.brackets,
         bytes: vec![],
     };
-    match item {
-        Item::Name(chain) => line.chain(chain),
-        Item::Value(value) => line.value(value),
-        Item::Type(given) => line.type_(given),
-        Item::BindList(list) => {
+    match &item.parsed {
+        Parsed::Name(chain) => line.chain(chain),
+        Parsed::Value(value) => line.value(value),
+        Parsed::Type(given) => line.type_(given),
+        Parsed::BindList(list) => {
             line.push("(");
             line.list(&list.value, Line::bind);
             line.push(")")
         }
-        Item::LambdaBindList(list) => line.bars(&list.value, Line::bind),
+        Parsed::LambdaBindList(list) => line.bars(&list.value, Line::bind),
     }
     line.bytes
 }
 
 struct Line<'t> {
     text: &'t [u8],
+    brackets: &'t Brackets,
     bytes: Vec<u8>,
 }
 
@@ -106,6 +110,17 @@ impl Line<'_> {
     }
 
     fn type_(&mut self, given: &Type) {
+        let span = (given.loc.start() as usize, given.loc.end() as usize);
+        self.type_at(given, span)
+    }
+
+    /// A type that has this span, its brackets counted.
+    fn type_at(&mut self, given: &Type, span: Span) {
+        if let Some(inner) = self.brackets.inside(span) {
+            self.push("(");
+            self.type_at(given, inner);
+            return self.push(")");
+        }
         match &given.value {
             Type_::Apply(chain, arguments) => {
                 self.chain(chain);
@@ -118,7 +133,7 @@ impl Line<'_> {
                 self.type_(inner)
             }
             Type_::Fun(arguments, result) => {
-                self.bars(arguments, Line::argument);
+                self.bars(arguments, Line::type_);
                 self.push(" ");
                 self.type_(result)
             }
@@ -135,16 +150,6 @@ impl Line<'_> {
         self.push("<");
         self.list(types, Line::type_);
         self.push(">")
-    }
-
-    /// An argument of a function type.
-    fn argument(&mut self, given: &Type) {
-        if !matches!(given.value, Type_::Fun(..)) {
-            return self.type_(given);
-        }
-        self.push("(");
-        self.type_(given);
-        self.push(")")
     }
 
     fn bind(&mut self, bind: &Bind) {
@@ -193,21 +198,21 @@ mod tests {
         shown(ItemKind::Value, " b\"a  b\" ", "b\"a  b\"");
         shown(ItemKind::Value, "true", "true");
         for (text, line) in [
-            ("( ( ) )", "()"),
-            ("((a,))", "a"),
-            ("((a,b),)", "(a, b)"),
+            ("( ( ) )", "(())"),
+            ("((a,))", "((a))"),
+            ("((a,b),)", "((a, b))"),
             ("((a,b),c)", "((a, b), c)"),
             ("a<>", "a"),
             ("a<b<c>>", "a<b<c>>"),
-            ("a<(|b|c)>", "a<|b| c>"),
+            ("a<(|b|c)>", "a<(|b| c)>"),
             ("&a", "& a"),
             ("&mut", "& mut"),
             ("&mut &mut a", "&mut &mut a"),
             ("| | a", "| | a"),
-            ("|a,|(|b|c)", "|a| |b| c"),
-            ("|((| |(a)),),()|b", "|(| | a), ()| b"),
-            ("|&(|a|b)|c", "|& |a| b| c"),
-            ("|(a,(|b|c))|d", "|(a, |b| c)| d"),
+            ("|a,|(|b|c)", "|a| (|b| c)"),
+            ("|((| |(a)),),()|b", "|((| | (a))), ()| b"),
+            ("|&(|a|b)|c", "|& (|a| b)| c"),
+            ("|(a,(|b|c))|d", "|(a, (|b| c))| d"),
         ] {
             shown(ItemKind::Type, text, line);
         }

@@ -3,11 +3,13 @@
 
 use crate::{
     answer::Answer,
+    brackets::Brackets,
     diagnostics::{
         codes::{Code, Syntax},
         Diagnostic,
     },
     files::THE_FILE,
+    levels::brackets,
     location::Loc,
     parser::{
         ast::{BindList, NameAccessChain, Type, Value},
@@ -45,9 +47,15 @@ impl ItemKind {
     }
 }
 
-/// An item as the Rust's own tree.
+/// An item: the Rust's own tree, and the brackets round one type, which it has not.
 #[derive(Clone, PartialEq, Debug)]
-pub enum Item {
+pub struct Item {
+    pub parsed: Parsed,
+    pub brackets: Brackets,
+}
+
+#[derive(Clone, PartialEq, Debug)]
+pub enum Parsed {
     Name(NameAccessChain),
     Value(Value),
     Type(Type),
@@ -70,11 +78,15 @@ pub struct Parse {
 /// Reads an item of the text from `base` on, all places raised by `base`.
 pub fn parse(kind: ItemKind, text_from_base: &str, base: usize) -> Parse {
     let mut lexer = Lexer::new(text_from_base, THE_FILE);
-    let mut item = None;
+    let mut parsed = None;
     let outcome = caught(|| {
         lexer.advance()?;
-        item = item_of(kind, &mut lexer)?;
-        Ok(item.is_some())
+        parsed = item_of(kind, &mut lexer)?;
+        Ok(parsed.is_some())
+    });
+    let item = parsed.map(|parsed| Item {
+        parsed,
+        brackets: brackets(kind, text_from_base),
     });
     let tree = item.as_ref().map_or(vec![], |item| Tree::of(item, base));
     let (start, end) = (base + lexer.start_loc(), base + lexer.end_loc());
@@ -92,14 +104,15 @@ pub fn parse(kind: ItemKind, text_from_base: &str, base: usize) -> Parse {
 }
 
 /// The item that the lexer stands before; None where the Rust finds no value.
-fn item_of(kind: ItemKind, lexer: &mut Lexer) -> Result<Option<Item>, Diagnostic> {
+fn item_of(kind: ItemKind, lexer: &mut Lexer) -> Result<Option<Parsed>, Diagnostic> {
     Ok(match kind {
-        ItemKind::Name => Some(Item::Name(syntax::read_name(lexer)?)),
-        ItemKind::Value => syntax::read_value(lexer)?.map(Item::Value),
-        ItemKind::Type => Some(Item::Type(syntax::read_type(lexer)?)),
-        ItemKind::BindList => Some(Item::BindList(syntax::read_bind_list(lexer)?)),
+        ItemKind::Name => Some(Parsed::Name(syntax::read_name(lexer)?)),
+        ItemKind::Value => syntax::read_value(lexer)?.map(Parsed::Value),
+        ItemKind::Type => Some(Parsed::Type(syntax::read_type(lexer)?)),
+        ItemKind::BindList => Some(Parsed::BindList(syntax::read_bind_list(lexer)?)),
         ItemKind::LambdaBindList => {
-            Some(Item::LambdaBindList(syntax::read_lambda_bind_list(lexer)?))
+            let list = syntax::read_lambda_bind_list(lexer)?;
+            Some(Parsed::LambdaBindList(list))
         }
     })
 }

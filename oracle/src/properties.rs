@@ -540,8 +540,8 @@ mod tests {
             let fault = properties.check(3, &Text::new(text.as_bytes()), 0);
             assert!(fault.is_none());
         }
-        assert_eq!(properties.pairs(), (10, 3));
-        assert_eq!(properties.lines(), 3);
-        assert_eq!(properties.tally.read_back, 3);
+        assert_eq!(properties.pairs(), (10, 1));
+        assert_eq!(properties.lines(), 4);
+        assert_eq!(properties.tally.read_back, 4);
     }
 }

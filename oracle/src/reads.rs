@@ -342,8 +342,11 @@ mod tests {
         accepted(VALUE, "@0x1::a", &[[30, 0, 4], [2, 1, 4]], [23, 4, 6]);
         accepted(VALUE, "x\"0\"", &[[34, 0, 4]], [0, 4, 4]);
         accepted(TYPE, "a<>>>", &[[10, 0, 3], [3, 0, 1]], [34, 3, 5]);
-        accepted(TYPE, "(u8,)", &[[10, 0, 5], [3, 1, 3]], [0, 5, 5]);
-        accepted(TYPE, "( ( ) )", &[[14, 0, 7]], [0, 7, 7]);
+        let one = [[16, 0, 8], [10, 2, 4], [3, 2, 4]];
+        accepted(TYPE, "( u8 , )", &one, [0, 8, 8]);
+        let twice = [[16, 0, 5], [16, 1, 4], [10, 2, 3], [3, 2, 3]];
+        accepted(TYPE, "((a))", &twice, [0, 5, 5]);
+        accepted(TYPE, "( ( ) )", &[[16, 0, 7], [14, 2, 5]], [0, 7, 7]);
         accepted(TYPE, "a<<b>", &name(0, 1), [27, 1, 3]);
         let argument = [[10, 0, 4], [3, 0, 1], [10, 2, 3], [3, 2, 3]];
         accepted(TYPE, "a<b>>=", &argument, [33, 4, 6]);

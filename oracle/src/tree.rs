@@ -1,46 +1,63 @@
-//! The stored tree of the specification, built from the Rust's trees.
+//! The stored tree of the specification, built from the Rust's trees, with a record of kind 16
+//! for brackets round one type (docs/DIFFERENCES.md).
 
 use crate::{
+    brackets::{unbracketed, Brackets, Span},
     location::Loc,
     parser::ast::{
         Bind, BindList, Bind_, Field, LeadingNameAccess, LeadingNameAccess_, NameAccessChain,
         NameAccessChain_, Type, Type_, Value, Value_,
     },
-    parsing::Item,
+    parsing::{Item, Parsed},
+    reads::LONGEST_WRITTEN,
     shared::{Identifier, Name},
 };
 
 /// Records, one behind the other. All their places are raised by `base`.
-pub struct Tree {
+pub struct Tree<'i> {
     base: usize,
+    brackets: &'i Brackets,
     bytes: Vec<u8>,
 }
-
-type Span = (usize, usize);
 
 fn span(loc: Loc) -> Span {
     (loc.start() as usize, loc.end() as usize)
 }
 
-impl Tree {
+impl Tree<'_> {
+    /// The stored tree. Without its records of kind 16 it must be the Rust's.
     pub fn of(item: &Item, base: usize) -> Vec<u8> {
+        let tree = Tree::with(&item.brackets, &item.parsed, base);
+        if item.brackets.count() > 0 {
+            let rust = Tree::with(&Brackets::default(), &item.parsed, base);
+            let brackets = 8 * item.brackets.count();
+            assert_eq!(tree.len(), rust.len() + brackets, "{item:?}");
+            if tree.len() <= LONGEST_WRITTEN {
+                assert_eq!(unbracketed(&tree), rust, "{item:?}");
+            }
+        }
+        tree
+    }
+
+    fn with(brackets: &Brackets, parsed: &Parsed, base: usize) -> Vec<u8> {
         let mut tree = Tree {
             base,
+            brackets,
             bytes: vec![],
         };
-        match item {
-            Item::Name(chain) => tree.chain(chain),
-            Item::Value(value) => tree.value(value),
-            Item::Type(given) => tree.type_(given),
-            Item::BindList(list) => tree.list(25, list),
-            Item::LambdaBindList(list) => tree.list(26, list),
+        match parsed {
+            Parsed::Name(chain) => tree.chain(chain),
+            Parsed::Value(value) => tree.value(value),
+            Parsed::Type(given) => tree.type_(given),
+            Parsed::BindList(list) => tree.list(25, list),
+            Parsed::LambdaBindList(list) => tree.list(26, list),
         }
         tree.bytes
     }
 
     /// One record. Its length is only right where it fits two bytes; where it does
     /// not, the tree is refused and none of its bytes are looked at.
-    fn record(&mut self, kind: u16, (start, end): Span, children: impl FnOnce(&mut Tree)) {
+    fn record(&mut self, kind: u16, (start, end): Span, children: impl FnOnce(&mut Self)) {
         let at = self.bytes.len();
         let [start, end] = [(self.base + start) as u16, (self.base + end) as u16];
         for number in [0, kind, start, end] {
@@ -97,7 +114,14 @@ impl Tree {
     }
 
     fn type_(&mut self, given: &Type) {
-        let span = span(given.loc);
+        self.type_at(given, span(given.loc))
+    }
+
+    /// A type that has this span, its brackets counted.
+    fn type_at(&mut self, given: &Type, span: Span) {
+        if let Some(inner) = self.brackets.inside(span) {
+            return self.record(16, span, |tree| tree.type_at(given, inner));
+        }
         match &given.value {
             Type_::Apply(chain, arguments) => self.record(10, span, |tree| {
                 tree.chain(chain);

@@ -34,7 +34,7 @@ use Rattle.names.proofs.Listing.{Opened, opened, gives-refused, then-refused, t
 use Rattle.types.specs.Types.{readType}
 use Rattle.types.specs.Written.{tooDeep}
 use Rattle.types.proofs.Sure.{read-type-sure}
-use Rattle.binds.specs.Binds.{isStruct, fields, structOver, unpacked, bindOver, fieldOver, readField, readBind, readBindList, readLambdaList}
+use Rattle.binds.specs.Binds.{isStruct, fields, structOver, unpacked, bindOver, fieldOver, readField, readBind, bindListOver, lambdaListOver, readBindList, readLambdaList}
 use Rattle.binds.specs.Written.{readPart, variableOf, shortOf, writtenLen, headed, putHead}
 use Rattle.binds.proofs.Sure.{fields-sure, field-sure, bind-bad, read-bind-sure}
 
@@ -398,29 +398,29 @@ module _ (text : List ℕ) (a : Token) where
       all-written text (h .fits) pos l m (a .end) (binds close) (behind-sure text (readPart false 64) (part-sure text false 64) close (a .start) c (omega (arith, h .standing .1, h .standing .2)) (a .end) (h .standing .2)) p g
 
   pub lambda-other : (l m : List ℕ) (p : Parsed) → (a .kind ≡ 59 → ⊥) → p ≡ unexpected a → Gives stored (readLambdaList (scanned text a)) 0 l m p
-  unfolding readLambdaList look when
+  unfolding lambdaListOver readLambdaList look when
   lambda-other l m p k e = gives-no stored (readLambdaList (scanned text a)) 0 l m (refusal 10 (a .start) (a .end)) p e (rw (ne-eqb (a .kind) 59 k))
 
   module _ (l m w : List ℕ) (p r : Parsed) where
     pub bracketed-binds : a .kind ≡ 11 → Gives storedAll (binds 12) 8 l m p → (r ≡ headed 0 p) × (w ≡ putHead 25 (a .start) 0 0 p m) → Gives stored (readBindList (scanned text a)) 0 l w r
-    unfolding readBindList look when readPart
+    unfolding bindListOver readBindList look when readPart
     bracketed-binds k g c =
         gives-headed storedAll (readBindList (scanned text a)) (binds 12) RecBindList (a .start) (λ ts. ts) [] (rw (eq-eqb (a .kind) 11 k)) (λ ts. refl) 0 8 0 l l m w p r refl refl refl g c
 
     pub one-bind : (a .kind ≡ 11 → ⊥) → Gives stored (readBind 64 (scanned text a)) 8 l m p → (r ≡ headed 0 p) × (w ≡ putHead 25 (a .start) 0 0 p m) → Gives stored (readBindList (scanned text a)) 0 l w r
-    unfolding readBindList look when storedAll
+    unfolding bindListOver readBindList look when storedAll
     one-bind k g c =
         gives-headed stored (readBindList (scanned text a)) (readBind 64 (scanned text a)) RecBindList (a .start) (λ t. more t none) [] (rw (ne-eqb (a .kind) 11 k)) (λ t. append-nil (stored t)) 0 8 0 l l m w p r refl refl refl g c
 
     pub lambda-binds : a .kind ≡ 59 → Gives storedAll (binds 59) 8 l m p → (r ≡ headed 0 p) × (w ≡ putHead 26 (a .start) 0 0 p m) → Gives stored (readLambdaList (scanned text a)) 0 l w r
-    unfolding readLambdaList look when readPart
+    unfolding lambdaListOver readLambdaList look when readPart
     lambda-binds k g c =
         gives-headed storedAll (readLambdaList (scanned text a)) (binds 59) RecLambdaBindList (a .start) (λ ts. ts) [] (rw (eq-eqb (a .kind) 59 k)) (λ ts. refl) 0 8 0 l l m w p r refl refl refl g c
 
 pub bind-list-bads : (r : Refusal) → readBindList (bad r) ≡ no r
-unfolding readBindList look
+unfolding bindListOver readBindList look
 bind-list-bads r = refl
 
 pub lambda-list-bads : (r : Refusal) → readLambdaList (bad r) ≡ no r
-unfolding readLambdaList look
+unfolding lambdaListOver readLambdaList look
 lambda-list-bads r = refl

@@ -21,7 +21,7 @@ use Rattle.names.proofs.Sure.{On, Read, Reads, Sure, SureAll, Reader, look-sure
 use Rattle.names.proofs.Parts.{leaf-read, at-token, chain-from, from-first}
 use Rattle.types.specs.Types.{levels, readType}
 use Rattle.types.proofs.Sure.{node-read, plain, applied, read-type-sure}
-use Rattle.binds.specs.Binds.{isStruct, fields, structOver, unpacked, bindOver, fieldOver, readField, readBind, readBindList, readLambdaList}
+use Rattle.binds.specs.Binds.{isStruct, fields, structOver, unpacked, bindOver, fieldOver, readField, readBind, bindListOver, lambdaListOver, readBindList, readLambdaList}
 
 -- one list behind another
 joined-size : (ts us : Trees) → length (storedAll (joined ts us)) ≡ length (storedAll ts) + length (storedAll us)
@@ -181,7 +181,7 @@ module _ (text : List ℕ) where
       (λ r a. subst (SureAll text e) a a₁)
 
   pub bind-list-sure : Reader text readBindList
-  unfolding readBindList look
+  unfolding bindListOver readBindList look
   bind-list-sure =
       from-first text 0 readBindList (λ r. refl) λ at k s e w r l g.
       when-sure text (Sure text 0 s) (eqb k LParen) _ _
@@ -193,7 +193,7 @@ module _ (text : List ℕ) where
       (λ r₂ a. subst (Sure text 16 s) a a₁))
 
   pub lambda-list-sure : Reader text readLambdaList
-  unfolding readLambdaList look
+  unfolding lambdaListOver readLambdaList look
   lambda-list-sure =
       from-first text 0 readLambdaList (λ r. refl) λ at k s e w r l g.
       when-sure text (Sure text 0 s) (eqb k Pipe) _ _

@@ -11,7 +11,7 @@ use Rattle.records.specs.Tree.{Tree, leaf, node, Trees, none, more, joined}
 use Rattle.words.specs.Kinds.{Identifier, LParen, RParen, Colon, ColonColon, Less, Greater, LBrace, Pipe, RBrace}
 use Rattle.names.specs.Reading.{Ans, ok, no, then, look, when, listBehind}
 use Rattle.names.specs.Names.{chain}
-use Rattle.types.specs.Types.{levels, readType}
+use Rattle.types.specs.Types.{levels, readType, rustType}
 
 -- behind an identifier: the binding is no variable
 abbrev pub isStruct : ℕ → Bool
@@ -66,17 +66,34 @@ unfoldable pub readBind : ℕ → Scanned → Ans Tree
 readBind zero l = look l λ k s e w r. no (refusal TooDeep s e)
 readBind (suc n) l = bindOver (readType n) (readField n (readBind n)) l
 
--- bindings in brackets, or one alone
-unfoldable pub readBindList : Scanned → Ans Tree
-readBindList l =
+-- bindings in brackets, or one alone, over the reader of one; and those of a lambda
+unfoldable pub bindListOver : (Scanned → Ans Tree) → Scanned → Ans Tree
+bindListOver bind l =
     look l λ k s e w r.
     when (eqb k LParen)
-    (λ _. then (listBehind (readBind levels) RParen s e r) λ ts q u. ok (node RecBindList s q ts) q u)
-    λ _. then (readBind levels l) λ t q u. ok (node RecBindList s q (more t none)) q u
+    (λ _. then (listBehind bind RParen s e r) λ ts q u. ok (node RecBindList s q ts) q u)
+    λ _. then (bind l) λ t q u. ok (node RecBindList s q (more t none)) q u
 
-unfoldable pub readLambdaList : Scanned → Ans Tree
-readLambdaList l =
+unfoldable pub lambdaListOver : (Scanned → Ans Tree) → Scanned → Ans Tree
+lambdaListOver bind l =
     look l λ k s e w r.
     when (eqb k Pipe)
-    (λ _. then (listBehind (readBind levels) Pipe s e r) λ ts q u. ok (node RecLambdaBindList s q ts) q u)
+    (λ _. then (listBehind bind Pipe s e r) λ ts q u. ok (node RecLambdaBindList s q ts) q u)
     λ _. no (refusal UnexpectedToken s e)
+
+unfoldable pub readBindList : Scanned → Ans Tree
+readBindList l = bindListOver (readBind levels) l
+
+unfoldable pub readLambdaList : Scanned → Ans Tree
+readLambdaList l = lambdaListOver (readBind levels) l
+
+-- the same as the Rust has them
+unfoldable pub rustBind : ℕ → Scanned → Ans Tree
+rustBind zero l = look l λ k s e w r. no (refusal TooDeep s e)
+rustBind (suc n) l = bindOver (rustType n) (readField n (rustBind n)) l
+
+unfoldable pub rustBindList : Scanned → Ans Tree
+rustBindList l = bindListOver (rustBind levels) l
+
+unfoldable pub rustLambdaList : Scanned → Ans Tree
+rustLambdaList l = lambdaListOver (rustBind levels) l

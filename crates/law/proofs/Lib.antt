@@ -3,3 +3,4 @@ pub mod Readers
 pub mod Raised
 pub mod Checked
 pub mod Deeper
+pub mod Unbracketed

@@ -10,14 +10,14 @@ use Rattle.classes.proofs.Bools.{false-true}
 use Rattle.tokens.specs.Answers.{refusal}
 use Rattle.tokens.specs.Token.{Scanned, lex}
 use Rattle.records.specs.Kinds.{RecName, RecAddress, RecRef, RecRefMut}
-use Rattle.records.specs.Tree.{Tree, leaf, Trees, behind, joined, respan}
+use Rattle.records.specs.Tree.{Tree, leaf, Trees, behind, joined}
 use Rattle.words.specs.Kinds.{NumValue, NumTypedValue, ByteStringValue, Identifier, ColonColon, False, True, AtSign, Amp, AmpMut, LParen, RParen, Colon, Less, Greater, Pipe, LBrace, RBrace}
 use Rattle.names.specs.Reading.{Ans, no, listBehind}
 use Rattle.names.specs.Names.{firstPart, isFirst, lastPart, thirdPart, secondPart, chain}
 use Rattle.names.specs.Values.{leafKind, leafValue, addressValue, value}
-use Rattle.types.specs.Types.{levels, bracketed, withArguments, named, brackets, reference, function, typeOver, readType}
+use Rattle.types.specs.Types.{levels, inBrackets, bracketed, withArguments, named, brackets, reference, function, typeOver, readType}
 use Rattle.types.proofs.Sure.{read-type-sure}
-use Rattle.binds.specs.Binds.{isStruct, fields, structOver, unpacked, bindOver, fieldOver, readField, readBind, readBindList, readLambdaList}
+use Rattle.binds.specs.Binds.{isStruct, fields, structOver, unpacked, bindOver, fieldOver, readField, readBind, bindListOver, lambdaListOver, readBindList, readLambdaList}
 use Rattle.binds.proofs.Sure.{field-sure, read-bind-sure}
 use Rattle.law.specs.Related.{Frame, Alike, leaves, nodes, AllAlike, nones, mores, Goes, Step, Met, Rel, oks, nos, RelReader, Lawful}
 use Rattle.law.proofs.Ways.{goes, Frugal, refused-rel, look-rel, when-rel, then-rel, behind-rel}
@@ -121,15 +121,10 @@ module _ (F : Frame) (L : Lawful F) where
       (λ _. oks (leaves (L .kinds (leafKind k (getD w 0 0)) (leaf-small k (getD w 0 0))) (d .from) (d .to)) n)))
 
   -- trees put together
-  respan-rel : (s e s₂ e₂ : ℕ) {t t₂ : Tree} → F .start s s₂ → F .end e e₂ → Alike F t t₂ → Alike F (respan s e t) (respan s₂ e₂ t₂)
-  unfolding respan
-  respan-rel s e s₂ e₂ at to (leaves c x y) = leaves c at to
-  respan-rel s e s₂ e₂ at to (nodes c x y xs) = nodes c at to xs
-
-  bracketed-rel : (s e s₂ e₂ : ℕ) {ts us : Trees} → F .start s s₂ → F .end e e₂ → AllAlike F ts us → Alike F (bracketed s e ts) (bracketed s₂ e₂ us)
+  bracketed-rel : (s e s₂ e₂ : ℕ) {ts us : Trees} → F .start s s₂ → F .end e e₂ → AllAlike F ts us → Alike F (bracketed inBrackets s e ts) (bracketed inBrackets s₂ e₂ us)
   unfolding bracketed
   bracketed-rel s e s₂ e₂ at to nones = leaves (L .kinds 14 (omega arith)) at to
-  bracketed-rel s e s₂ e₂ at to (mores x nones) = respan-rel s e s₂ e₂ at to x
+  bracketed-rel s e s₂ e₂ at to (mores x nones) = nodes (L .kinds 16 (omega arith)) at to (mores x nones)
   bracketed-rel s e s₂ e₂ at to (mores x (mores y ys)) = nodes (L .kinds 15 (omega arith)) at to (mores x (mores y ys))
 
   after-rel : {ts us : Trees} {t u : Tree} → AllAlike F ts us → Alike F t u → AllAlike F (behind ts t) (behind us u)
@@ -166,7 +161,7 @@ module _ (F : Frame) (L : Lawful F) where
         then-rel F L _ _ (alike (lex q u) (lex q₂ u₂) (L .next q u q₂ u₂ n)) λ t t₂ q u q₂ u₂ x n.
         oks (nodes (L .kinds 13 (omega arith)) at (L .ended q u q₂ u₂ n) (after-rel xs x)) n
 
-    pub type-over-rel : RelReader F (typeOver item) (typeOver item₂)
+    pub type-over-rel : RelReader F (typeOver item inBrackets) (typeOver item₂ inBrackets)
     unfolding typeOver brackets named
     type-over-rel l l₂ m =
         look-rel F L _ _ m λ k s e w r s₂ e₂ r₂ d.
@@ -253,7 +248,7 @@ module _ (F : Frame) (L : Lawful F) where
   bound-rel close g s s₂ at e r e₂ r₂ n = items-rel (readBind levels) (readBind levels) (bind-rel levels) (λ text. read-bind-sure text levels) (λ text. read-bind-sure text levels) close g s s₂ at e r e₂ r₂ n
 
   pub bind-list-rel : RelReader F readBindList readBindList
-  unfolding readBindList
+  unfolding bindListOver readBindList
   bind-list-rel l l₂ m =
       look-rel F L _ _ m λ k s e w r s₂ e₂ r₂ d.
       when-rel F L (eqb k LParen) _ _ _ _
@@ -261,7 +256,7 @@ module _ (F : Frame) (L : Lawful F) where
       (λ _. then-rel F L _ _ (bind-rel levels l l₂ m) λ t t₂ q u q₂ u₂ x n. oks (nodes (L .kinds 25 (omega arith)) (d .from) (L .ended q u q₂ u₂ n) (mores x nones)) n)
 
   pub lambda-list-rel : RelReader F readLambdaList readLambdaList
-  unfolding readLambdaList
+  unfolding lambdaListOver readLambdaList
   lambda-list-rel l l₂ m =
       look-rel F L _ _ m λ k s e w r s₂ e₂ r₂ d.
       when-rel F L (eqb k Pipe) _ _ _ _

@@ -10,7 +10,7 @@ use borrow.Rule.Slice.PartMut.{midOf, postOf, putMid}
 use lib.ListN.{length, take, drop, length-drop, drop-of-length-le}
 use lib.Seq.{sets, take-all, length-take-le}
 use Rattle.buffer.proofs.Sets.{sets-out}
-use Rattle.records.proofs.Shift.{sets-front}
+use Rattle.records.proofs.Runs.{sets-front}
 use Rattle.tokens.specs.Calls.{nextToken}
 use Rattle.tokens.specs.declared.Refusal.{Refusal}
 use Rattle.tokens.specs.declared.Token.{Token}

@@ -1,16 +1,16 @@
 -- Pieces of a line, one behind the other.
 use mathlib.Core.Path.{_≡_, refl, ap, sym, _∙_}
 use mathlib.Core.Bool.{Bool, true, false}
-use mathlib.Core.List.{List, [], _∷_, _++_, append-nil}
-use Prim.Native.Nat.{ℕ, _+_, _-_, _≤_}
+use mathlib.Core.List.{List, [], _∷_, _++_}
+use Prim.Native.Nat.{ℕ, _+_, _≤_}
 use native.Mathlib.Omega.{arith}
 use borrow.Author.Tests.{ltb-true, ltb-false}
 use lib.Dec.{ltb}
-use lib.ListN.{length, set, take, drop, length-append, length-drop}
-use lib.Seq.{sets, length-sets, take-all}
+use lib.ListN.{length, set, length-append}
+use lib.Seq.{sets, length-sets}
 use Rattle.buffer.proofs.Sets.{sets-append, sets-out}
-use Rattle.records.proofs.Shift.{sets-below, shifted-pieces}
-use Rattle.lines.specs.Placed.{last, cap, Placed, opened}
+use Rattle.records.proofs.Runs.{sets-below}
+use Rattle.lines.specs.Placed.{last, cap, Placed}
 
 -- a write at the largest position or behind it is a write nowhere
 pub capped : (l xs : List ℕ) (p : ℕ) → length l ≤ last → sets l (cap p) xs ≡ sets l p xs
@@ -50,28 +50,6 @@ placed-before l m n xs i j b h f e =
       holds =
           e ∙ ap (λ (x : List ℕ). set x i b) (f .holds ∙ capped l xs (i + 1) h)
           ∙ sets-below (b ∷ []) xs l i (i + 1) (omega arith) ∙ sym (sets-append (b ∷ []) xs l i);
-    }
-
--- a piece in brackets: what was written is moved up by one behind the opening bracket
-moved-part : (m : List ℕ) (i j n : ℕ) → length m ≤ last → j ≡ cap (i + n) → take (j - i) (drop i m) ≡ take n (drop i m)
-moved-part m i j n h e = go (ltb (i + n) last) refl
-  where
-    go : (b : Bool) → ltb (i + n) last ≡ b → take (j - i) (drop i m) ≡ take n (drop i m)
-    go true f = let g = ltb-true (i + n) last f in let z : j - i ≡ n = omega arith in rw z
-    go false f =
-        let g = ltb-false (i + n) last f in
-        take-all (j - i) (drop i m) (omega (arith, length-drop i m)) ∙ sym (take-all n (drop i m) (omega (arith, length-drop i m)))
-
-pub placed-opened : (l m o xs : List ℕ) (i j k : ℕ) → length l ≤ last → Placed l i xs j m → k ≡ cap (j + 1) → o ≡ opened i j m → Placed l i (40 ∷ xs) k o
-unfolding opened
-placed-opened l m o xs i j k h f e g =
-    let a = placed-long l m xs i j f in
-    let w : o ≡ sets (sets m (i + 1) (take (length xs) (drop i m))) i (40 ∷ []) = g ∙ rw (moved-part m i j (length xs) (omega (arith, a, h)) (f .ends)) in
-    record {
-      ends = omega (arith, f .ends, e);
-      holds =
-          shifted-pieces 1 l m m (sets m (i + 1) (take (length xs) (drop i m))) o xs [] (40 ∷ []) i refl (f .holds) refl refl w
-          ∙ ap (λ (x : List ℕ). sets l i (40 ∷ x)) (append-nil xs);
     }
 
 -- the same bytes under another name

@@ -1,10 +1,10 @@
--- The display line of a build, by the specification.
+-- The display line of a build, by the specification. Brackets are shown where they were written and nowhere else.
 use Prim.Native.Nat.{ℕ}
 use mathlib.Core.Bool.{Bool, not, cond, _||_}
 use mathlib.Core.List.{List, [], _∷_, _++_}
 use lib.Dec.{eqb}
 use Rattle.classes.specs.Bytes.{bytes}
-use Rattle.records.specs.Kinds.{RecTwoPart, RecThreePart, RecPair, RecType, RecRef, RecRefMut, RecFunction, RecUnit, RecTuple, RecStruct, RecStructTyped, RecField, RecBindList, RecLambdaBindList, RecAddressValue}
+use Rattle.records.specs.Kinds.{RecTwoPart, RecThreePart, RecPair, RecType, RecRef, RecRefMut, RecFunction, RecUnit, RecTuple, RecBrackets, RecStruct, RecStructTyped, RecField, RecBindList, RecLambdaBindList, RecAddressValue}
 use Rattle.records.specs.Tree.{Tree, Build, spelled, made, Builds, bnone, bmore, build}
 
 -- a child: its kind and its line
@@ -12,17 +12,10 @@ pub record Piece : Type 0 where
   pub kind : ℕ
   pub text : List ℕ
 
--- the lines of children, as they stand and as arguments of a function type: there a function type stands in brackets
+-- the lines of children
 unfoldable pub plain : List Piece → List (List ℕ)
 plain [] = []
 plain (p ∷ ps) = p .text ∷ plain ps
-
-unfoldable pub argument : Piece → List ℕ
-argument p = cond (eqb (p .kind) RecFunction) (bytes "(" ++ (p .text ++ bytes ")")) (p .text)
-
-unfoldable pub arguments : List Piece → List (List ℕ)
-arguments [] = []
-arguments (p ∷ ps) = argument p ∷ arguments ps
 
 -- `a, b, c`: the first, and each other behind a comma
 unfoldable pub others : List (List ℕ) → List ℕ
@@ -88,8 +81,8 @@ shape k ps =
     (cond (eqb k RecType) (first ps ++ angles (plain (later ps)))
     (cond (eqb k RecRef) (bytes "& " ++ first ps)
     (cond (eqb k RecRefMut) (bytes "&mut " ++ first ps)
-    (cond (eqb k RecFunction) (bars (arguments (initial ps)) ++ (bytes " " ++ final ps))
-    (cond (eqb k RecTuple || eqb k RecBindList) (brackets (plain ps))
+    (cond (eqb k RecFunction) (bars (plain (initial ps)) ++ (bytes " " ++ final ps))
+    (cond (eqb k RecTuple || (eqb k RecBrackets || eqb k RecBindList)) (brackets (plain ps))
     (cond (eqb k RecStruct) (first ps ++ braces (plain (later ps)))
     (cond (eqb k RecStructTyped)
     (first ps ++ (bytes "<" ++ (commas (plain (select isType (later ps))) ++ (bytes ">" ++ braces (plain (select isField (later ps)))))))

@@ -1,8 +1,8 @@
 -- What a function that writes a piece of a line leaves in a lent buffer, and where the line goes on.
-use Prim.Native.Nat.{ℕ, _+_, _-_, min}
+use Prim.Native.Nat.{ℕ, _+_, min}
 use mathlib.Core.Path.{_≡_}
-use mathlib.Core.List.{List, [], _∷_}
-use lib.ListN.{length, take, drop}
+use mathlib.Core.List.{List}
+use lib.ListN.{length}
 use lib.Seq.{sets}
 
 -- the largest position; a buffer is no longer than this, so that what is written there or behind it is written nowhere
@@ -17,7 +17,3 @@ cap n = min n last
 pub record Placed (entry : List ℕ) (pos : ℕ) (bytes : List ℕ) (end : ℕ) (exit : List ℕ) : Type 0 where
   pub ends : end ≡ cap (pos + length bytes)
   pub holds : exit ≡ sets entry pos bytes
-
--- the bytes from `pos` to `end` moved up by one, behind a `(`
-unfoldable pub opened : ℕ → ℕ → List ℕ → List ℕ
-opened pos end l = sets (sets l (pos + 1) (take (end - pos) (drop pos l))) pos (40 ∷ [])

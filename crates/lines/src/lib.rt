@@ -3,11 +3,11 @@
 ghost use mathlib.Core.Path.{_≡_};
 ghost use mathlib.Core.Bool.{cond};
 ghost use mathlib.Core.List.{[], _∷_};
-ghost use Prim.Native.Nat.{_+_, _-_};
+ghost use Prim.Native.Nat.{_+_};
 ghost use lib.Seq.{sets};
 ghost use Rattle.classes.specs.Bytes.{bytes};
 ghost use Rattle.names.specs.Parsed.{wordOf};
-ghost use Rattle.lines.specs.Placed.{cap, Placed, opened};
+ghost use Rattle.lines.specs.Placed.{cap, Placed};
 ghost use Rattle.lines.specs.Words.{isPast, words};
 use tokens::Lexed;
 use tokens::Token;
@@ -93,26 +93,6 @@ pub fn put_word(text: &[u8], t: Token, out: &mut [u8], pos: usize) -> usize
     }
     copy_at(out, pos, &text[s..e]);
     behind(pos, e - s)
-}
-
-// How far `end` is behind pos, 0 where it is not.
-fn from_to(pos: usize, end: usize) -> usize
-    ensures { λ r. ⌜ r ≡ end - pos ⌝ }
-{
-    if pos < end {
-        return end - pos;
-    }
-    0
-}
-
-// Moves the bytes from pos to `end` up by one and writes `(` before them.
-pub fn open_bracket(out: &mut [u8], pos: usize, end: usize) -> usize
-    ensures answer { λ r. ⌜ r ≡ cap (end + 1) ⌝ }
-    ensures bytes { λ r. ⌜ now (out .exit) ≡ opened pos end (now (out .entry)) ⌝ }
-{
-    records::shift_up(out, pos, from_to(pos, end), 1);
-    buffer::put(out, pos, 40);
-    behind(end, 1)
 }
 
 // Whether a token is EOF or ends behind `to`.

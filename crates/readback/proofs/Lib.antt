@@ -6,5 +6,6 @@ pub mod Names
 pub mod Types
 pub mod Binds
 pub mod Round
+pub mod Arguments
 pub mod Theorem
 pub mod Examples

@@ -13,45 +13,31 @@ use Rattle.records.specs.Tree.{Tree, Trees, none, more, Build, Builds, bnone, b
 use Rattle.words.specs.Kinds.{Comma, Greater, GreaterGreater}
 use Rattle.names.specs.Reading.{Ans, when, closes, stays, closing, afterItem, list, listBehind}
 use Rattle.binds.specs.Binds.{isStruct}
-use Rattle.lines.specs.Line.{plain, argument, arguments, others, commas, line, pieces}
-use Rattle.lines.proofs.Parting.{All, piece}
+use Rattle.lines.specs.Line.{plain, others, commas, line, pieces}
+use Rattle.lines.proofs.Parting.{All}
 use Rattle.readback.proofs.Words.{differs, Good, lex-good}
 use Rattle.names.proofs.Every.{Every, then-every, look-every, when-every, closed-every}
 use Rattle.readback.proofs.Answers.{Gives, gives, gives-then, gives-look, gives-look-by, gives-true, gives-false, gives-closes, gives-stays}
 use Rattle.readback.proofs.Marks.{First, Ends, ends-comma, lex-blank, lex-comma}
 
--- the lines of builds with commas between them, in front of y; `sel` gives the line of one
-abbrev pub rest : (Build → List ℕ) → Builds → List ℕ → List ℕ
-rest sel bnone y = y
-rest sel (bmore b bs) y = 44 ∷ 32 ∷ (sel b ++ rest sel bs y)
+-- the lines of builds with commas between them, in front of y
+abbrev pub rest : Builds → List ℕ → List ℕ
+rest bnone y = y
+rest (bmore b bs) y = 44 ∷ 32 ∷ (line b ++ rest bs y)
 
-abbrev pub join : (Build → List ℕ) → Builds → List ℕ → List ℕ
-join sel bnone y = y
-join sel (bmore b bs) y = sel b ++ rest sel bs y
+abbrev pub join : Builds → List ℕ → List ℕ
+join bnone y = y
+join (bmore b bs) y = line b ++ rest bs y
 
--- a build as an argument of a function type
-abbrev pub argLine : Build → List ℕ
-argLine b = argument (piece b)
-
-others-plain : (bs : Builds) (y : List ℕ) → others (plain (pieces bs)) ++ y ≡ rest line bs y
+others-plain : (bs : Builds) (y : List ℕ) → others (plain (pieces bs)) ++ y ≡ rest bs y
 unfolding plain others line
 others-plain bnone y = refl
 others-plain (bmore b bs) y = ap (λ (x : List ℕ). 44 ∷ 32 ∷ x) (append-assoc (line b) (others (plain (pieces bs))) y ∙ ap (_++_ (line b)) (others-plain bs y))
 
-pub commas-plain : (bs : Builds) (y : List ℕ) → commas (plain (pieces bs)) ++ y ≡ join line bs y
+pub commas-plain : (bs : Builds) (y : List ℕ) → commas (plain (pieces bs)) ++ y ≡ join bs y
 unfolding plain commas line
 commas-plain bnone y = refl
 commas-plain (bmore b bs) y = append-assoc (line b) (others (plain (pieces bs))) y ∙ ap (_++_ (line b)) (others-plain bs y)
-
-others-arguments : (bs : Builds) (y : List ℕ) → others (arguments (pieces bs)) ++ y ≡ rest argLine bs y
-unfolding arguments others line
-others-arguments bnone y = refl
-others-arguments (bmore b bs) y = ap (λ (x : List ℕ). 44 ∷ 32 ∷ x) (append-assoc (argLine b) (others (arguments (pieces bs))) y ∙ ap (_++_ (argLine b)) (others-arguments bs y))
-
-pub commas-arguments : (bs : Builds) (y : List ℕ) → commas (arguments (pieces bs)) ++ y ≡ join argLine bs y
-unfolding arguments commas line
-commas-arguments bnone y = refl
-commas-arguments (bmore b bs) y = append-assoc (argLine b) (others (arguments (pieces bs))) y ∙ ap (_++_ (argLine b)) (others-arguments bs y)
 
 -- y is a closing mark and z
 abbrev pub ClosesTo : ℕ → List ℕ → Scanned → Type 0
@@ -83,30 +69,29 @@ stays-open : (close k s e : ℕ) (r : List ℕ) → eqb k close ≡ false → eq
 unfolding closing when
 stays-open close k s e r h i = rw (h, i, and-false (eqb close Greater))
 
-module _ (sel : Build → List ℕ) where
-  rest-grows : (y : List ℕ) (bs : Builds) → count bs + length y ≤ length (rest sel bs y)
-  rest-grows y bnone = omega arith
-  rest-grows y (bmore b bs) = omega (arith, rest-grows y bs, length-append (sel b) (rest sel bs y))
+rest-grows : (y : List ℕ) (bs : Builds) → count bs + length y ≤ length (rest bs y)
+rest-grows y bnone = omega arith
+rest-grows y (bmore b bs) = omega (arith, rest-grows y bs, length-append (line b) (rest bs y))
 
-  join-grows : (y : List ℕ) → 0 < length y → (bs : Builds) → count bs ≤ length (join sel bs y)
-  join-grows y h bnone = omega arith
-  join-grows y h (bmore b bs) = omega (arith, rest-grows y bs, length-append (sel b) (rest sel bs y))
+join-grows : (y : List ℕ) → 0 < length y → (bs : Builds) → count bs ≤ length (join bs y)
+join-grows y h bnone = omega arith
+join-grows y h (bmore b bs) = omega (arith, rest-grows y bs, length-append (line b) (rest bs y))
 
-module _ (item : Scanned → Ans Tree) (F : ℕ → Bool) (sel : Build → List ℕ) where
+module _ (item : Scanned → Ans Tree) (F : ℕ → Bool) where
   abbrev ItemBack : Build → Type 0
-  ItemBack b = Reads item F (sel b) b
+  ItemBack b = Reads item F (line b) b
 
   module _ (close : ℕ) (apart : Apart close F) (o : ℕ) (y z : List ℕ) (cl : Closed close y z) where
     Back : Builds → Type 0
-    Back bs = (f : ℕ) → count bs ≤ f → (p : ℕ) → Gives builds bs z (list item close o (suc f) (lex p (join sel bs y)))
+    Back bs = (f : ℕ) → count bs ≤ f → (p : ℕ) → Gives builds bs z (list item close o (suc f) (lex p (join bs y)))
 
-    rest-ends : (bs : Builds) → Ends isStruct (rest sel bs y)
+    rest-ends : (bs : Builds) → Ends isStruct (rest bs y)
     rest-ends bnone = cl .ends
     rest-ends (bmore b bs) = ends-comma isStruct refl _
 
     -- what follows an item
     after-back : (t : Tree) (bs : Builds) → Back bs → (f : ℕ) → suc (count bs) ≤ f → (q : ℕ)
-        → Gives builds (bmore (build t) bs) z (afterItem (list item close o f) close o t q (rest sel bs y))
+        → Gives builds (bmore (build t) bs) z (afterItem (list item close o f) close o t q (rest bs y))
     unfolding Back afterItem builds
     after-back t bnone ih f h q =
         gives-look-by (ClosesTo close z) (lex q y) _ (cl .shuts q) (λ r x. x) λ k s e w r x.
@@ -114,7 +99,7 @@ module _ (item : Scanned → Ans Tree) (F : ℕ → Bool) (sel : Build → List 
     after-back t (bmore b bs) ih zero h q = absurd (not-suc-le-zero h)
     after-back t (bmore b bs) ih (suc f) h q =
         gives-look _ (lex-comma q _) (gives-stays _ _ (stays-open close Comma _ _ _ (apart .commaOpen) refl) (gives-true _ _ _ refl
-        (gives-then _ (rw (lex-blank (q + 1) (join sel (bmore b bs) y)) (ih f (le-of-suc-le-suc h) (suc (q + 1)))) λ ts q₃ e₃. gives (more t ts) q₃ (ap (bmore (build t)) e₃))))
+        (gives-then _ (rw (lex-blank (q + 1) (join (bmore b bs) y)) (ih f (le-of-suc-le-suc h) (suc (q + 1)))) λ ts q₃ e₃. gives (more t ts) q₃ (ap (bmore (build t)) e₃))))
 
     list-back : (bs : Builds) → All ItemBack bs → Back bs
     unfolding Back list builds
@@ -127,17 +112,17 @@ module _ (item : Scanned → Ans Tree) (F : ℕ → Bool) (sel : Build → List 
         (gives-then _ (a .0 .back p _ (rest-ends bs)) λ t q e. rw (← e) (after-back t bs (list-back bs (a .1)) f h q)))
 
     -- the list behind its opening mark
-    pub list-reads : (bs : Builds) → All ItemBack bs → (p : ℕ) → Gives builds bs z (listBehind item close o p (join sel bs y))
+    pub list-reads : (bs : Builds) → All ItemBack bs → (p : ℕ) → Gives builds bs z (listBehind item close o p (join bs y))
     unfolding Back listBehind
-    list-reads bs a p = list-back bs a (length (join sel bs y)) (join-grows sel y (cl .long) bs) p
+    list-reads bs a p = list-back bs a (length (join bs y)) (join-grows y (cl .long) bs) p
 
     -- the same behind a blank
-    pub list-reads-blank : (bs : Builds) → All ItemBack bs → (p : ℕ) → Gives builds bs z (listBehind item close o p (32 ∷ join sel bs y))
+    pub list-reads-blank : (bs : Builds) → All ItemBack bs → (p : ℕ) → Gives builds bs z (listBehind item close o p (32 ∷ join bs y))
     unfolding Back listBehind
-    list-reads-blank bs a p = rw (lex-blank p (join sel bs y)) (list-back bs a (suc (length (join sel bs y))) (omega (arith, join-grows sel y (cl .long) bs)) (suc p))
+    list-reads-blank bs a p = rw (lex-blank p (join bs y)) (list-back bs a (suc (length (join bs y))) (omega (arith, join-grows y (cl .long) bs)) (suc p))
 
     -- what it begins with, where it has an item
-    pub list-first : (b : Build) (bs : Builds) → All ItemBack (bmore b bs) → First F (lex 0 (join sel (bmore b bs) y))
+    pub list-first : (b : Build) (bs : Builds) → All ItemBack (bmore b bs) → First F (lex 0 (join (bmore b bs) y))
     list-first b bs a = a .0 .first 0 _ (rest-ends bs)
 
 -- reading a list: what each item is sure of, all are

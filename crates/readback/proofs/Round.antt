@@ -24,7 +24,7 @@ use Rattle.names.specs.Values.{value}
 use Rattle.names.proofs.Sure.{Sure as Placed, Read}
 use Rattle.types.specs.Types.{levels, readType}
 use Rattle.binds.specs.Binds.{isStruct, readBindList, readLambdaList}
-use Rattle.reader.specs.Items.{Item, item, refused, noKind, readKind, followed, finished, readItem}
+use Rattle.reader.specs.Items.{Item, item, refused, noKind, kindOver, readKind, followed, finished, itemOver, readItem}
 use Rattle.reader.specs.Calls.{answerLimit, tooLong, answered, roomed, written, read, readValues}
 use Rattle.reader.proofs.Room.{roomed-fits}
 use Rattle.reader.proofs.Sure.{kind-sure}
@@ -48,7 +48,7 @@ alone one b h = rw append-nil at h
 
 -- whatever is read as an item of a kind
 kind-alone : (kind : ℕ) (l : Scanned) → Good l → Every (λ (t : Tree). Alone (readKind kind) (build t)) (readKind kind l)
-unfolding readKind
+unfolding kindOver readKind
 kind-alone kind l g =
     when-every _ _ _ _
     (λ c. map-every (λ (t : Tree). Chain (build t)) _ (chain l) (λ t h. gives-true _ _ _ c (alone chain (build t) (h .back 0 [] (ends-nil colons refl)))) (chain-sure l g)) λ c₁.
@@ -56,7 +56,7 @@ kind-alone kind l g =
     (λ c. map-every (λ (t : Tree). ValueBack (build t)) _ (value l) (λ t h. gives-false _ _ _ c₁ (gives-true _ _ _ c (alone value (build t) (h 0 [] (ends-nil colons refl))))) (value-sure l g)) λ c₂.
     when-every _ _ _ _
     (λ c. map-every (λ (t : Tree). Typed levels (build t)) _ (readType levels l)
-    (λ t h. gives-false _ _ _ c₁ (gives-false _ _ _ c₂ (gives-true _ _ _ c (alone (readType levels) (build t) (h .plainly levels (omega arith) .back 0 [] (ends-nil isStruct refl)))))) (type-sure levels l g)) λ c₃.
+    (λ t h. gives-false _ _ _ c₁ (gives-false _ _ _ c₂ (gives-true _ _ _ c (alone (readType levels) (build t) (h .plainly .back 0 [] (ends-nil isStruct refl)))))) (type-sure levels l g)) λ c₃.
     when-every _ _ _ _
     (λ c. map-every (λ (t : Tree). ListBack (build t)) _ (readBindList l)
     (λ t h. gives-false _ _ _ c₁ (gives-false _ _ _ c₂ (gives-false _ _ _ c₃ (gives-true _ _ _ c (alone readBindList (build t) (h 0 [])))))) (list-sure l g)) λ c₄.
@@ -79,13 +79,16 @@ unfolding finished
 finished-tree P (ok x q u) t n s h = subst P (followed-tree x (lex q u) t n h) s
 finished-tree P (no r) t n s h = let z : _≡_ {A = ℕ} 0 1 = cc in absurd (omega arith)
 
-item-alone : (kind : ℕ) (text : List ℕ) (at : ℕ) (t : Tree) (n : Token) → readItem kind text at ≡ item t n → (noKind kind ≡ false) × Alone (readKind kind) (build t)
-unfolding readItem
-item-alone kind text at t n e =
+pub item-read : (P : Tree → Type 0) (kind : ℕ) (text : List ℕ) (at : ℕ) (t : Tree) (n : Token) → Every P (readKind kind (lex at (drop at text))) → readItem kind text at ≡ item t n → (noKind kind ≡ false) × P t
+unfolding itemOver readItem
+item-read P kind text at t n h e =
     let a = chosen (ltb textLimit (length text)) _ _ t n e in
     let b = chosen (ltb (length text) at) _ _ t n (a .1) in
     let c = chosen (noKind kind) _ _ t n (b .1) in
-    (c .0, finished-tree (λ (t : Tree). Alone (readKind kind) (build t)) (readKind kind (lex at (drop at text))) t n (kind-alone kind (lex at (drop at text)) (lex-good at (drop at text))) (c .1))
+    (c .0, finished-tree P (readKind kind (lex at (drop at text))) t n h (c .1))
+
+item-alone : (kind : ℕ) (text : List ℕ) (at : ℕ) (t : Tree) (n : Token) → readItem kind text at ≡ item t n → (noKind kind ≡ false) × Alone (readKind kind) (build t)
+item-alone kind text at t n = item-read (λ (t : Tree). Alone (readKind kind) (build t)) kind text at t n (kind-alone kind (lex at (drop at text)) (lex-good at (drop at text)))
 
 -- what is read to the last byte of a text ends at its length, and EOF follows
 ended : (kind : ℕ) (text : List ℕ) (x : Tree) (q : ℕ) → readKind kind (lex 0 text) ≡ ok x q [] → q ≡ length text
@@ -100,7 +103,7 @@ at-end x q = ap (λ (e : ℕ). item x (token EOF q e)) (add-zero q)
 
 whole : (kind : ℕ) (text : List ℕ) (x : Tree) → length text ≤ textLimit → noKind kind ≡ false → readKind kind (lex 0 text) ≡ ok x (length text) []
     → readItem kind text 0 ≡ item x (eofAt (length text))
-unfolding readItem when
+unfolding itemOver readItem when
 whole kind text x h k e = rw (le-ltb textLimit (length text) h, le-ltb (length text) 0 (omega arith), k, e) (at-end x (length text))
 
 -- the line of what was read, read back

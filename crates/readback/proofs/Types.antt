@@ -2,27 +2,26 @@
 use mathlib.Core.Path.{_≡_, refl, subst, sym, ap, ap₂, _∙_}
 use mathlib.Core.Bool.{Bool, true, false, _&&_, _||_}
 use mathlib.Core.List.{List, [], _∷_, _++_, append-assoc}
-use Prim.Native.Nat.{ℕ, zero, suc, _+_, _≤_}
-use native.Mathlib.Nat.{le-of-suc-le-suc, not-suc-le-zero}
+use Prim.Native.Nat.{ℕ, zero, suc, _+_}
 use native.Mathlib.Omega.{arith}
 use lib.Dec.{eqb}
 use Rattle.classes.specs.Bytes.{bytes}
 use Rattle.classes.proofs.Bools.{false-true, or-left, or-right}
 use Rattle.tokens.specs.Token.{Scanned, tok, bad, lex}
-use Rattle.records.specs.Kinds.{RecType, RecRef, RecRefMut, RecFunction, RecUnit, RecTuple}
-use Rattle.records.specs.Tree.{Tree, leaf, node, Trees, none, more, behind, respan, Build, spelled, made, Builds, bnone, bmore, build, builds}
+use Rattle.records.specs.Kinds.{RecType, RecRef, RecRefMut, RecFunction, RecUnit, RecTuple, RecBrackets}
+use Rattle.records.specs.Tree.{Tree, node, Trees, none, more, behind, Build, spelled, made, Builds, bnone, bmore, build, builds}
 use Rattle.words.specs.Kinds.{Amp, AmpMut, LParen, RParen, Less, Greater, Pipe, LBrace, ColonColon}
 use Rattle.names.specs.Reading.{Ans, ok, then, when, closes, stays, closing, listBehind}
 use Rattle.names.specs.Names.{isFirst}
-use Rattle.types.specs.Types.{bracketed, withArguments, named, brackets, reference, function, typeOver, readType}
+use Rattle.types.specs.Types.{inBrackets, bracketed, withArguments, named, brackets, reference, function, typeOver, readType}
 use Rattle.binds.specs.Binds.{isStruct}
-use Rattle.lines.specs.Line.{Piece, plain, argument, arguments, commas, bars, angles, brackets as inBrackets, first as firstLine, later, isField, shape, kindOf, line, pieces}
+use Rattle.lines.specs.Line.{Piece, plain, commas, bars, angles, brackets as inRound, first as firstLine, later, isField, shape, kindOf, line, pieces}
 use Rattle.lines.proofs.Parting.{All, bbehind, builds-behind, initial-behind, final-behind}
 use Rattle.readback.proofs.Words.{Stops, differs, Good, lex-good}
 use Rattle.names.proofs.Every.{Every, map-every, then-every, look-every, when-every}
 use Rattle.readback.proofs.Answers.{Gives, gives, gives-then, gives-look, gives-look-by, gives-true, gives-false}
 use Rattle.readback.proofs.Marks.{lexer, widens, lex-blank, lex-open, lex-amp, lex-ampmut, lex-less, lex-bar, lex-greater, First, no-bar, no-wider, After, Ends, ends-close, ends-less, ends-bar, ends-greater}
-use Rattle.readback.proofs.Lists.{join, argLine, commas-plain, commas-arguments, ClosesTo, Closed, Reads, Apart, list-reads, list-reads-blank, list-first, Stays, behind-sure}
+use Rattle.readback.proofs.Lists.{join, commas-plain, ClosesTo, Closed, Reads, Apart, list-reads, list-reads-blank, list-first, Stays, behind-sure}
 use Rattle.readback.proofs.Names.{colons, Chain, chain-sure}
 
 -- the tokens that begin a type which is no function type as it stands; and those that begin any type
@@ -74,7 +73,7 @@ name-begins (bad r) x = x
 -- the lines, in front of what follows
 abbrev angled : Builds → List ℕ → List ℕ
 angled bnone z = z
-angled (bmore b bs) z = 60 ∷ join line (bmore b bs) (62 ∷ z)
+angled (bmore b bs) z = 60 ∷ join (bmore b bs) (62 ∷ z)
 
 -- marks round a list
 pub round : (xs : List ℕ) (a : ℕ) (z : List ℕ) → (xs ++ (a ∷ [])) ++ z ≡ xs ++ (a ∷ z)
@@ -87,14 +86,6 @@ type-line c (bmore b bs) z =
     append-assoc (line c) (60 ∷ (commas (plain (pieces (bmore b bs))) ++ (62 ∷ []))) z
     ∙ ap (λ (x : List ℕ). line c ++ (60 ∷ x)) (round (commas (plain (pieces (bmore b bs)))) 62 z ∙ commas-plain (bmore b bs) (62 ∷ z))
 
-tuple-line : (bs : Builds) (z : List ℕ) → line (made RecTuple bs) ++ z ≡ 40 ∷ join line bs (41 ∷ z)
-unfolding line shape inBrackets
-tuple-line bs z = ap (_∷_ 40) (round (commas (plain (pieces bs))) 41 z ∙ commas-plain bs (41 ∷ z))
-
-unit-line : (z : List ℕ) → line (spelled RecUnit []) ++ z ≡ 40 ∷ 41 ∷ z
-unfolding line
-unit-line z = refl
-
 ref-line : (b : Build) (z : List ℕ) → line (made RecRef (bmore b bnone)) ++ z ≡ 38 ∷ 32 ∷ (line b ++ z)
 unfolding line shape firstLine
 ref-line b z = refl
@@ -106,54 +97,43 @@ mut-line b z = refl
 -- `|a, b|`, and `| |`
 abbrev barred : Builds → List ℕ → List ℕ
 barred bnone y = 124 ∷ 32 ∷ 124 ∷ y
-barred (bmore b bs) y = 124 ∷ join argLine (bmore b bs) (124 ∷ y)
+barred (bmore b bs) y = 124 ∷ join (bmore b bs) (124 ∷ y)
 
-bars-line : (bs : Builds) (y : List ℕ) → bars (arguments (pieces bs)) ++ y ≡ barred bs y
-unfolding bars arguments pieces
+bars-line : (bs : Builds) (y : List ℕ) → bars (plain (pieces bs)) ++ y ≡ barred bs y
+unfolding bars plain pieces
 bars-line bnone y = refl
-bars-line (bmore b bs) y = ap (_∷_ 124) (round (commas (arguments (pieces (bmore b bs)))) 124 y ∙ commas-arguments (bmore b bs) (124 ∷ y))
+bars-line (bmore b bs) y = ap (_∷_ 124) (round (commas (plain (pieces (bmore b bs)))) 124 y ∙ commas-plain (bmore b bs) (124 ∷ y))
 
 function-line : (bs : Builds) (r : Build) (z : List ℕ) → line (made RecFunction (bbehind bs r)) ++ z ≡ barred bs (32 ∷ (line r ++ z))
 unfolding line shape
 function-line bs r z =
-    ap₂ (λ (x : List Piece) (y : List ℕ). (bars (arguments x) ++ (32 ∷ y)) ++ z) (initial-behind bs r) (final-behind bs r)
-    ∙ append-assoc (bars (arguments (pieces bs))) (32 ∷ line r) z ∙ bars-line bs (32 ∷ (line r ++ z))
-
--- as an argument of a function type: a function type in brackets, any other as it stands
-arg-plain : (b : Build) → eqb (kindOf b) RecFunction ≡ false → argLine b ≡ line b
-unfolding argument
-arg-plain b h = rw h
-
-arg-function : (bs : Builds) (z : List ℕ) → argLine (made RecFunction bs) ++ z ≡ 40 ∷ (line (made RecFunction bs) ++ (41 ∷ z))
-unfolding argument kindOf
-arg-function bs z = ap (_∷_ 40) (round (line (made RecFunction bs)) 41 z)
+    ap₂ (λ (x : List Piece) (y : List ℕ). (bars (plain x) ++ (32 ∷ y)) ++ z) (initial-behind bs r) (final-behind bs r)
+    ∙ append-assoc (bars (plain (pieces bs))) (32 ∷ line r) z ∙ bars-line bs (32 ∷ (line r ++ z))
 
 -- brackets, of builds
 abbrev grouped : Builds → Build
 grouped bnone = spelled RecUnit []
-grouped (bmore b bnone) = b
+grouped (bmore b bnone) = made RecBrackets (bmore b bnone)
 grouped (bmore b (bmore c bs)) = made RecTuple (bmore b (bmore c bs))
 
-respan-build : (s e : ℕ) (t : Tree) → build (respan s e t) ≡ build t
-unfolding respan build
-respan-build s e (leaf k s₀ e₀ w) = refl
-respan-build s e (node k s₀ e₀ ts) = refl
-
-bracketed-build : (s e : ℕ) (ts : Trees) → build (bracketed s e ts) ≡ grouped (builds ts)
+bracketed-build : (s e : ℕ) (ts : Trees) → build (bracketed inBrackets s e ts) ≡ grouped (builds ts)
 unfolding bracketed build
 bracketed-build s e none = refl
-bracketed-build s e (more t none) = respan-build s e t
+bracketed-build s e (more t none) = refl
 bracketed-build s e (more t (more u ts)) = refl
 
--- a type as it stands, with m levels left; one that begins with no `|`; and as an argument of a function type
+grouped-line : (bs : Builds) (z : List ℕ) → line (grouped bs) ++ z ≡ 40 ∷ join bs (41 ∷ z)
+unfolding line shape inRound
+grouped-line bnone z = refl
+grouped-line (bmore b bnone) z = ap (_∷_ 40) (round (commas (plain (pieces (bmore b bnone)))) 41 z ∙ commas-plain (bmore b bnone) (41 ∷ z))
+grouped-line (bmore b (bmore c bs)) z = ap (_∷_ 40) (round (commas (plain (pieces (bmore b (bmore c bs))))) 41 z ∙ commas-plain (bmore b (bmore c bs)) (41 ∷ z))
+
+-- a type with m levels left, and one whose line begins with no `|`
 abbrev pub Plain : ℕ → Build → Type 0
 Plain m b = Reads (readType m) beginsType (line b) b
 
 abbrev Firm : ℕ → Build → Type 0
 Firm m b = Reads (readType m) beginsArg (line b) b
-
-abbrev InArg : ℕ → Build → Type 0
-InArg m b = Reads (readType m) beginsArg (argLine b) b
 
 weaken : {item : Scanned → Ans Tree} {w : List ℕ} {b : Build} → Reads item beginsArg w b → Reads item beginsType w b
 weaken h = record { first = λ p z d. go (lex p _) (h .first p z d); back = h .back }
@@ -167,10 +147,10 @@ angled-ends bnone z d = to-colons d
 angled-ends (bmore b bs) z d = ends-less colons refl refl refl refl _
 
 -- `<` before an item of a list of types
-pub opens-angle : (m : ℕ) (b : Build) (bs : Builds) (z : List ℕ) → Stops (λ b. eqb b 61) z → All (Plain m) (bmore b bs) → Stops widens (join line (bmore b bs) (62 ∷ z))
+pub opens-angle : (m : ℕ) (b : Build) (bs : Builds) (z : List ℕ) → Stops (λ b. eqb b 61) z → All (Plain m) (bmore b bs) → Stops widens (join (bmore b bs) (62 ∷ z))
 opens-angle m b bs z h a =
-    no-wider beginsType refl refl refl refl refl refl refl (join line (bmore b bs) (62 ∷ z))
-    (list-first (readType m) beginsType line Greater apart-greater 0 (62 ∷ z) z (closed-greater z h) b bs a)
+    no-wider beginsType refl refl refl refl refl refl refl (join (bmore b bs) (62 ∷ z))
+    (list-first (readType m) beginsType Greater apart-greater 0 (62 ∷ z) z (closed-greater z h) b bs a)
 
 module _ (m : ℕ) where
   -- the arguments of a type
@@ -182,7 +162,7 @@ module _ (m : ℕ) where
       gives-false _ _ _ (or-right (eqb k LBrace) (eqb k Less) (or-left (eqb k LBrace || eqb k Less) (eqb k ColonColon) x)) (gives _ _ refl)
   arguments-back (bmore b bs) a t st q z d =
       gives-look _ (lex-less q _ (opens-angle m b bs z (d .noEqual) a)) (gives-true _ _ _ refl
-      (gives-then _ (list-reads (readType m) beginsType line Greater apart-greater q (62 ∷ z) z (closed-greater z (d .noEqual)) (bmore b bs) a (q + 1)) λ ts q₃ e₃.
+      (gives-then _ (list-reads (readType m) beginsType Greater apart-greater q (62 ∷ z) z (closed-greater z (d .noEqual)) (bmore b bs) a (q + 1)) λ ts q₃ e₃.
       gives _ _ (ap (λ (x : Builds). made RecType (bmore (build t) x)) e₃)))
 
   type-back : (c : Build) (bs : Builds) → Chain c → All (Plain m) bs → Firm (suc m) (made RecType (bmore c bs))
@@ -195,23 +175,13 @@ module _ (m : ℕ) where
         (gives-then _ (h .back p (angled bs z) (angled-ends bs z d)) λ t q e₂. rw (← e₂) (arguments-back bs a t s q z d))))));
   }
 
-  -- brackets round what a line shows as it stands
-  group-back : (w : List ℕ) (bs : Builds) → ((z : List ℕ) → w ++ z ≡ 40 ∷ join line bs (41 ∷ z)) → All (Plain m) bs → Reads (readType (suc m)) beginsArg w (grouped bs)
+  group-back : (bs : Builds) → All (Plain m) bs → Firm (suc m) (grouped bs)
   unfolding readType typeOver brackets
-  group-back w bs l a = record {
-    first = λ p z d. rw (l z, lex-open p (join line bs (41 ∷ z))) refl;
-    back = λ p z d. rw (l z) (gives-look _ (lex-open p _) (gives-true _ _ _ refl
-        (gives-then _ (list-reads (readType m) beginsType line RParen apart-close p (41 ∷ z) z (closed-close z) bs a (p + 1)) λ ts q e. gives _ _ (bracketed-build p q ts ∙ ap grouped e))));
+  group-back bs a = record {
+    first = λ p z d. rw (grouped-line bs z, lex-open p (join bs (41 ∷ z))) refl;
+    back = λ p z d. rw (grouped-line bs z) (gives-look _ (lex-open p _) (gives-true _ _ _ refl
+        (gives-then _ (list-reads (readType m) beginsType RParen apart-close p (41 ∷ z) z (closed-close z) bs a (p + 1)) λ ts q e. gives _ _ (bracketed-build p q ts ∙ ap grouped e))));
   }
-
-  unit-back : Firm (suc m) (spelled RecUnit [])
-  unit-back = group-back (line (spelled RecUnit [])) bnone unit-line tt
-
-  tuple-back : (b c : Build) (bs : Builds) → All (Plain m) (bmore b (bmore c bs)) → Firm (suc m) (made RecTuple (bmore b (bmore c bs)))
-  tuple-back b c bs a = group-back (line (made RecTuple (bmore b (bmore c bs)))) (bmore b (bmore c bs)) (tuple-line (bmore b (bmore c bs))) a
-
-  bracket-back : (bs : Builds) → Plain m (made RecFunction bs) → InArg (suc m) (made RecFunction bs)
-  bracket-back bs h = group-back (argLine (made RecFunction bs)) (bmore (made RecFunction bs) bnone) (arg-function bs) (h, tt)
 
   ref-back : (b : Build) → Plain m b → Firm (suc m) (made RecRef (bmore b bnone))
   unfolding readType typeOver reference build
@@ -237,90 +207,58 @@ module _ (m : ℕ) where
       gives-then _ (rw (lex-blank q (line r ++ z)) (h .back (suc q) z d)) λ t q₂ e₂. gives _ _ (ap (made RecFunction) (builds-behind ts t ∙ ap₂ bbehind e e₂))
 
   -- the first `|` before an argument
-  opens-bar : (b : Build) (bs : Builds) (y : List ℕ) → All (InArg m) (bmore b bs) → Stops (λ a. eqb a 124) (join argLine (bmore b bs) (124 ∷ 32 ∷ y))
+  opens-bar : (b : Build) (bs : Builds) (y : List ℕ) → All (Firm m) (bmore b bs) → Stops (λ a. eqb a 124) (join (bmore b bs) (124 ∷ 32 ∷ y))
   opens-bar b bs y a =
-      no-bar beginsArg refl refl (join argLine (bmore b bs) (124 ∷ 32 ∷ y))
-      (list-first (readType m) beginsArg argLine Pipe apart-bar 0 (124 ∷ 32 ∷ y) (32 ∷ y) (closed-bar (32 ∷ y) refl) b bs a)
+      no-bar beginsArg refl refl (join (bmore b bs) (124 ∷ 32 ∷ y))
+      (list-first (readType m) beginsArg Pipe apart-bar 0 (124 ∷ 32 ∷ y) (32 ∷ y) (closed-bar (32 ∷ y) refl) b bs a)
 
-  function-back : (bs : Builds) (r : Build) → All (InArg m) bs → Plain m r → Plain (suc m) (made RecFunction (bbehind bs r))
+  function-back : (bs : Builds) (r : Build) → All (Firm m) bs → Plain m r → Plain (suc m) (made RecFunction (bbehind bs r))
   unfolding readType typeOver function
   function-back bnone r a h = record {
     first = λ p z d. rw (function-line bnone r z, lex-bar p (32 ∷ 124 ∷ 32 ∷ (line r ++ z)) refl) refl;
     back = λ p z d. rw (function-line bnone r z) (gives-look _ (lex-bar p _ refl) (gives-false _ _ _ refl (gives-false _ _ _ refl (gives-false _ _ _ refl (gives-true _ _ _ refl
-        (gives-then _ (list-reads-blank (readType m) beginsArg argLine Pipe apart-bar p (124 ∷ 32 ∷ (line r ++ z)) (32 ∷ (line r ++ z)) (closed-bar (32 ∷ (line r ++ z)) refl) bnone tt (p + 1)) λ ts q e.
+        (gives-then _ (list-reads-blank (readType m) beginsArg Pipe apart-bar p (124 ∷ 32 ∷ (line r ++ z)) (32 ∷ (line r ++ z)) (closed-bar (32 ∷ (line r ++ z)) refl) bnone tt (p + 1)) λ ts q e.
         result-back bnone r h p ts e q z d))))));
   }
   function-back (bmore b bs) r a h = record {
-    first = λ p z d. rw (function-line (bmore b bs) r z, lex-bar p (join argLine (bmore b bs) (124 ∷ 32 ∷ (line r ++ z))) (opens-bar b bs (line r ++ z) a)) refl;
+    first = λ p z d. rw (function-line (bmore b bs) r z, lex-bar p (join (bmore b bs) (124 ∷ 32 ∷ (line r ++ z))) (opens-bar b bs (line r ++ z) a)) refl;
     back = λ p z d. rw (function-line (bmore b bs) r z) (gives-look _ (lex-bar p _ (opens-bar b bs (line r ++ z) a)) (gives-false _ _ _ refl (gives-false _ _ _ refl (gives-false _ _ _ refl (gives-true _ _ _ refl
-        (gives-then _ (list-reads (readType m) beginsArg argLine Pipe apart-bar p (124 ∷ 32 ∷ (line r ++ z)) (32 ∷ (line r ++ z)) (closed-bar (32 ∷ (line r ++ z)) refl) (bmore b bs) a (p + 1)) λ ts q e.
+        (gives-then _ (list-reads (readType m) beginsArg Pipe apart-bar p (124 ∷ 32 ∷ (line r ++ z)) (32 ∷ (line r ++ z)) (closed-bar (32 ∷ (line r ++ z)) refl) (bmore b bs) a (p + 1)) λ ts q e.
         result-back (bmore b bs) r h p ts e q z d))))));
   }
 
--- with n levels left or more
-abbrev pub From : ℕ → (ℕ → Build → Type 0) → Build → Type 0
-From n P b = (m : ℕ) → n ≤ m → P m b
-
-pub up : (P : ℕ → Build → Type 0) (n : ℕ) (b : Build) → ((m : ℕ) → n ≤ m → P (suc m) b) → From (suc n) P b
-up P n b h zero l = absurd (not-suc-le-zero l)
-up P n b h (suc m) l = h m (le-of-suc-le-suc l)
-
-later-on : (P : ℕ → Build → Type 0) (n : ℕ) (b : Build) → From n P b → From (suc n) P b
-later-on P n b h m l = h m (omega arith)
-
--- what reading with n levels is sure of: the build reads back, and so it does as an argument with one level more; it is no field's
+-- what reading with n levels is sure of: the build reads back with as many, and it is no field's
 pub record Typed (n : ℕ) (b : Build) : Type 0 where
-  pub plainly : From n Plain b
-  pub argument : From (suc n) InArg b
+  pub plainly : Plain n b
   pub noField : isField (kindOf b) ≡ false
 
-abbrev NotBar : Scanned → Type 0
+abbrev pub NotBar : Scanned → Type 0
 NotBar (tok k s e w r) = eqb k Pipe ≡ false
 NotBar (bad r) = Unit {0}
 
--- what is read from a token that is no `|` reads back as an argument with as many levels
+-- what is read from a token that is no `|` has a line that begins with none
 record Both (n : ℕ) (l : Scanned) (b : Build) : Type 0 where
   typed : Typed n b
-  arg : NotBar l → From n InArg b
-
-pub all-from : (P : ℕ → Build → Type 0) (n m : ℕ) → n ≤ m → (bs : Builds) → All (From n P) bs → All (P m) bs
-all-from P n m l bnone a = tt
-all-from P n m l (bmore b bs) a = (a .0 m l, all-from P n m l bs (a .1))
+  firm : NotBar l → Firm n b
 
 pub all-map : (P Q : Build → Type 0) → ((b : Build) → P b → Q b) → (bs : Builds) → All P bs → All Q bs
 all-map P Q f bnone a = tt
 all-map P Q f (bmore b bs) a = (f b (a .0), all-map P Q f bs (a .1))
 
-pub plains : (n m : ℕ) → n ≤ m → (bs : Builds) → All (Typed n) bs → All (Plain m) bs
-plains n m l bs a = all-from Plain n m l bs (all-map (Typed n) (From n Plain) (λ b h. h .plainly) bs a)
+pub plains : (n : ℕ) (bs : Builds) → All (Typed n) bs → All (Plain n) bs
+plains n bs a = all-map (Typed n) (Plain n) (λ b h. h .plainly) bs a
 
--- what begins with no `|` as it stands
-from-firm : (n : ℕ) (l : Scanned) (b : Build) → isField (kindOf b) ≡ false → eqb (kindOf b) RecFunction ≡ false → From n Firm b → Both n l b
-from-firm n l b f e h =
-    let i : From n InArg b = λ m j. subst (λ (w : List ℕ). Reads (readType m) beginsArg w b) (sym (arg-plain b e)) (h m j) in
-    record { typed = record { plainly = λ m j. weaken (h m j); argument = later-on InArg n b i; noField = f }; arg = λ x. i }
+from-firm : (n : ℕ) (l : Scanned) (b : Build) → isField (kindOf b) ≡ false → Firm n b → Both n l b
+from-firm n l b f h = record { typed = record { plainly = weaken h; noField = f }; firm = λ x. h }
 
-type-both : (n : ℕ) (l : Scanned) (c : Build) (bs : Builds) → Chain c → All (Typed n) bs → Both (suc n) l (made RecType (bmore c bs))
+grouped-no-field : (bs : Builds) → isField (kindOf (grouped bs)) ≡ false
 unfolding isField kindOf
-type-both n l c bs h a = from-firm (suc n) l _ refl refl (up Firm n _ λ m i. type-back m c bs h (plains n m i bs a))
-
-group-both : (n : ℕ) (l : Scanned) (bs : Builds) → All (Typed n) bs → Both (suc n) l (grouped bs)
-unfolding isField kindOf
-group-both n l bnone a = from-firm (suc n) l _ refl refl (up Firm n _ λ m i. unit-back m)
-group-both n l (bmore b bnone) a = record {
-  typed = record { plainly = later-on Plain n b (a .0 .plainly); argument = later-on InArg (suc n) b (a .0 .argument); noField = a .0 .noField };
-  arg = λ x. a .0 .argument;
-}
-group-both n l (bmore b (bmore c bs)) a = from-firm (suc n) l _ refl refl (up Firm n _ λ m i. tuple-back m b c bs (plains n m i (bmore b (bmore c bs)) a))
-
-function-both : (n : ℕ) (l : Scanned) → (NotBar l → ⊥) → (bs : Builds) (r : Build) → All (From n InArg) bs → Typed n r → Both (suc n) l (made RecFunction (bbehind bs r))
-unfolding isField kindOf
-function-both n l x bs r a h =
-    let f : From (suc n) Plain (made RecFunction (bbehind bs r)) = up Plain n _ λ m i. function-back m bs r (all-from InArg n m i bs a) (h .plainly m i) in
-    record { typed = record { plainly = f; argument = up InArg (suc n) _ λ m i. bracket-back m (bbehind bs r) (f m i); noField = refl }; arg = λ y. absurd (x y) }
+grouped-no-field bnone = refl
+grouped-no-field (bmore b bnone) = refl
+grouped-no-field (bmore b (bmore c bs)) = refl
 
 -- an item of a list that closes with `|` begins with none
-stays-bar : (l : Scanned) → Stays Pipe l → NotBar l
+pub stays-bar : (l : Scanned) → Stays Pipe l → NotBar l
 unfolding closing when
 stays-bar (tok k s e w r) x = go (eqb k Pipe) refl x
   where
@@ -333,30 +271,31 @@ module _ (n : ℕ) (ih : (l : Scanned) → Good l → Every (λ (t : Tree). Both
   typed-sure : (l : Scanned) → Good l → Every (λ (t : Tree). Typed n (build t)) (readType n l)
   typed-sure l g = map-every (λ (t : Tree). Both n l (build t)) (λ (t : Tree). Typed n (build t)) (readType n l) (λ t h. h .typed) (ih l g)
 
-  arg-sure : (l : Scanned) → Good l → Stays Pipe l → Every (λ (t : Tree). From n InArg (build t)) (readType n l)
-  arg-sure l g x = map-every (λ (t : Tree). Both n l (build t)) (λ (t : Tree). From n InArg (build t)) (readType n l) (λ t h. h .arg (stays-bar l x)) (ih l g)
+  firm-sure : (l : Scanned) → Good l → Stays Pipe l → Every (λ (t : Tree). Firm n (build t)) (readType n l)
+  firm-sure l g x = map-every (λ (t : Tree). Both n l (build t)) (λ (t : Tree). Firm n (build t)) (readType n l) (λ t h. h .firm (stays-bar l x)) (ih l g)
 
   list-typed : (close o e : ℕ) (r : List ℕ) → Every (λ (ts : Trees). All (Typed n) (builds ts)) (listBehind (readType n) close o e r)
   list-typed close o e r = behind-sure (readType n) close o (Typed n) (λ l g x. typed-sure l g) e r
 
-  over-sure : (l : Scanned) → Good l → Every (λ (t : Tree). Both (suc n) l (build t)) (typeOver (readType n) l)
+  over-sure : (l : Scanned) → Good l → Every (λ (t : Tree). Both (suc n) l (build t)) (typeOver (readType n) inBrackets l)
   unfolding typeOver brackets reference function named withArguments build isField kindOf
   over-sure l g =
       look-every _ l _ λ k s e w r d.
       when-every _ _ _ _
-      (λ c. then-every (λ (ts : Trees). All (Typed n) (builds ts)) _ _ _ (list-typed RParen s e r) λ ts q u a. rw (bracketed-build s q ts) (group-both n l (builds ts) a)) λ c₁.
+      (λ c. then-every (λ (ts : Trees). All (Typed n) (builds ts)) _ _ _ (list-typed RParen s e r) λ ts q u a.
+      rw (bracketed-build s q ts) (from-firm (suc n) l _ (grouped-no-field (builds ts)) (group-back n (builds ts) (plains n (builds ts) a)))) λ c₁.
       when-every _ _ _ _
-      (λ c. then-every (λ (t : Tree). Typed n (build t)) _ _ _ (typed-sure (lex e r) (lex-good e r)) λ t q u h. from-firm (suc n) l _ refl refl (up Firm n _ λ m i. ref-back m (build t) (h .plainly m i))) λ c₂.
+      (λ c. then-every (λ (t : Tree). Typed n (build t)) _ _ _ (typed-sure (lex e r) (lex-good e r)) λ t q u h. from-firm (suc n) l _ refl (ref-back n (build t) (h .plainly))) λ c₂.
       when-every _ _ _ _
-      (λ c. then-every (λ (t : Tree). Typed n (build t)) _ _ _ (typed-sure (lex e r) (lex-good e r)) λ t q u h. from-firm (suc n) l _ refl refl (up Firm n _ λ m i. mut-back m (build t) (h .plainly m i))) λ c₃.
+      (λ c. then-every (λ (t : Tree). Typed n (build t)) _ _ _ (typed-sure (lex e r) (lex-good e r)) λ t q u h. from-firm (suc n) l _ refl (mut-back n (build t) (h .plainly))) λ c₃.
       when-every _ _ _ _
-      (λ c. then-every (λ (ts : Trees). All (From n InArg) (builds ts)) _ _ _ (behind-sure (readType n) Pipe s (From n InArg) arg-sure e r) λ ts q u a.
+      (λ c. then-every (λ (ts : Trees). All (Firm n) (builds ts)) _ _ _ (behind-sure (readType n) Pipe s (Firm n) firm-sure e r) λ ts q u a.
       then-every (λ (t : Tree). Typed n (build t)) _ _ _ (typed-sure (lex q u) (lex-good q u)) λ t q₂ u₂ h.
-      rw (builds-behind ts t) (function-both n l (λ y. false-true _ (sym (subst NotBar d y) ∙ c)) (builds ts) (build t) a h)) λ c₄.
+      rw (builds-behind ts t) (record { typed = record { plainly = function-back n (builds ts) (build t) a (h .plainly); noField = refl }; firm = λ y. false-true _ (sym (subst NotBar d y) ∙ c) })) λ c₄.
       then-every (λ (t : Tree). Chain (build t)) _ _ _ (chain-sure l g) λ c q u h.
       look-every _ (lex q u) _ λ k₂ s₂ e₂ w₂ r₂ d₂.
-      when-every _ _ _ _ (λ y. then-every (λ (ts : Trees). All (Typed n) (builds ts)) _ _ _ (list-typed Greater s₂ e₂ r₂) λ ts q₃ u₃ a. type-both n l (build c) (builds ts) h a)
-      λ y. type-both n l (build c) bnone h tt
+      when-every _ _ _ _ (λ y. then-every (λ (ts : Trees). All (Typed n) (builds ts)) _ _ _ (list-typed Greater s₂ e₂ r₂) λ ts q₃ u₃ a. from-firm (suc n) l _ refl (type-back n (build c) (builds ts) h (plains n (builds ts) a)))
+      λ y. from-firm (suc n) l _ refl (type-back n (build c) bnone h tt)
 
 both-sure : (n : ℕ) (l : Scanned) → Good l → Every (λ (t : Tree). Both n l (build t)) (readType n l)
 unfolding readType

@@ -19,7 +19,7 @@ use Rattle.tokens.specs.declared.Lexed.the-variants.{Found}
 use Rattle.tokens.proofs.Again.{admitted-in}
 use Rattle.records.specs.Tree.{Tree}
 use Rattle.records.specs.Stored.{stored}
-use Rattle.records.proofs.Shift.{sets-front}
+use Rattle.records.proofs.Runs.{sets-front}
 use Rattle.names.specs.Reading.{Ans, ok, no, when}
 use Rattle.names.specs.Names.{chain}
 use Rattle.names.specs.Values.{value}
@@ -33,7 +33,7 @@ use Rattle.types.specs.Types.{levels, readType}
 use Rattle.binds.specs.Binds.{readBindList, readLambdaList}
 use Rattle.reader.specs.declared.Answer.{Answer}
 use Rattle.reader.specs.declared.Answer.the-variants.{Item as Accepted, Refused as Rejected}
-use Rattle.reader.specs.Items.{item, refused, noKind, readKind, followed, finished, readItem}
+use Rattle.reader.specs.Items.{item, refused, noKind, kindOver, readKind, followed, finished, itemOver, readItem}
 use Rattle.reader.specs.Calls.{tooLong, copied, roomed, written, answered, read, readBuffer}
 
 -- an item by its kind: which reader reads it
@@ -43,26 +43,26 @@ module _ (kind : ℕ) (text : List ℕ) (at : ℕ) where
   by-kind one e = ap (admitted no text at) e
 
   pub kind-name : kind ≡ 1 → admittedPart (readKind kind) text at ≡ admittedPart chain text at
-  unfolding readKind when
+  unfolding kindOver readKind when
   kind-name k = by-kind chain (rw (eq-eqb kind 1 k))
 
   module _ (k₁ : kind ≡ 1 → ⊥) where
     pub kind-value : kind ≡ 2 → admittedPart (readKind kind) text at ≡ admittedPart value text at
-    unfolding readKind when
+    unfolding kindOver readKind when
     kind-value k = by-kind value (rw (ne-eqb kind 1 k₁, eq-eqb kind 2 k))
 
     module _ (k₂ : kind ≡ 2 → ⊥) where
       pub kind-type : kind ≡ 3 → admittedPart (readKind kind) text at ≡ admittedPart (readType levels) text at
-      unfolding readKind when
+      unfolding kindOver readKind when
       kind-type k = by-kind (readType levels) (rw (ne-eqb kind 1 k₁, ne-eqb kind 2 k₂, eq-eqb kind 3 k))
 
       module _ (k₃ : kind ≡ 3 → ⊥) where
         pub kind-bind : kind ≡ 4 → admittedPart (readKind kind) text at ≡ admittedPart readBindList text at
-        unfolding readKind when
+        unfolding kindOver readKind when
         kind-bind k = by-kind readBindList (rw (ne-eqb kind 1 k₁, ne-eqb kind 2 k₂, ne-eqb kind 3 k₃, eq-eqb kind 4 k))
 
         pub kind-lambda : (kind ≡ 4 → ⊥) → admittedPart (readKind kind) text at ≡ admittedPart readLambdaList text at
-        unfolding readKind when
+        unfolding kindOver readKind when
         kind-lambda k = by-kind readLambdaList (rw (ne-eqb kind 1 k₁, ne-eqb kind 2 k₂, ne-eqb kind 3 k₃, ne-eqb kind 4 k))
 
 -- the answer of the whole call, and the buffer l that becomes m
@@ -76,16 +76,16 @@ call-by kind text at l a r e f = rw (e, f) (refl, refl)
 -- the refusals of the caller
 module _ (kind : ℕ) (text : List ℕ) (at : ℕ) where
   pub item-text : textLimit < length text → readItem kind text at ≡ refused (refusal 1 0 0)
-  unfolding readItem when
+  unfolding itemOver readItem when
   item-text h = rw (lt-ltb textLimit (length text) h)
 
   module _ (h : length text ≤ textLimit) where
     pub item-offset : length text < at → readItem kind text at ≡ refused (refusal 2 0 0)
-    unfolding readItem when
+    unfolding itemOver readItem when
     item-offset g = rw (le-ltb textLimit (length text) h, lt-ltb (length text) at g)
 
     pub item-kind : at ≤ length text → (b : Bool) → b ≡ noKind kind → b ≡ true → readItem kind text at ≡ refused (refusal 3 0 0)
-    unfolding readItem when
+    unfolding itemOver readItem when
     item-kind g b z k = rw (le-ltb textLimit (length text) h, le-ltb (length text) at g, sym z ∙ k)
 
 module _ (kind : ℕ) (text : List ℕ) (at : ℕ) (l : List ℕ) (a : Answer) where
@@ -132,7 +132,7 @@ module _ (kind : ℕ) (text : List ℕ) (at : ℕ) (h : length text ≤ textLimi
   found = admittedPart (readKind kind) text at
 
   pub goes : readItem kind text at ≡ finished found
-  unfolding readItem when admittedPart
+  unfolding itemOver readItem when admittedPart
   goes = rw (le-ltb textLimit (length text) h, le-ltb (length text) at g, k) (ap finished (sym (admitted-in no text at (readKind kind (lex at (drop at text))) h g)))
 
   pub call-refused : (l : List ℕ) (r : Refusal) → Refused r ≡ given stored found → Call kind text at l l (Rejected r)

@@ -5,3 +5,4 @@ pub mod Shift
 pub mod RefusalSets
 pub mod Faithful
 pub mod Answers
+pub mod Rust

@@ -16,7 +16,7 @@ use Rattle.records.specs.Stored.{stored, Kinds}
 use Rattle.names.specs.Reading.{Ans, ok, no}
 use Rattle.names.proofs.Sure.{when-sure}
 use Rattle.law.proofs.Checked.{textRefusals, Checked, checked-reader}
-use Rattle.reader.specs.Items.{Item, item, refused, noKind, readKind, followed, finished, readItem}
+use Rattle.reader.specs.Items.{Item, item, refused, noKind, readKind, followed, finished, itemOver, readItem}
 use Rattle.reader.specs.Calls.{itemRefusals, tooLong, roomed, read}
 use Rattle.reader.proofs.Alike.{kind-rel}
 
@@ -35,7 +35,7 @@ finished-told text h (ok t q u) g = go (lex q u) (lex-met q u)
 finished-told text h (no r) g = among-subset textRefusals itemRefusals refl (r .number) g
 
 pub item-told : (kind : ℕ) (text : List ℕ) (at : ℕ) → Told text (readItem kind text at)
-unfolding readItem among
+unfolding itemOver readItem among
 item-told kind text at =
     let P : Item → Type 0 = Told text in
     when-sure text P (ltb textLimit (length text)) _ _ (λ _. refl)

@@ -17,7 +17,7 @@ use Rattle.names.specs.Reading.{Ans, ok, no, when}
 use Rattle.names.specs.Raise.{raiseAns}
 use Rattle.law.proofs.Raised.{RaisedReader, raised-reader}
 use Rattle.reader.proofs.Alike.{kind-rel}
-use Rattle.reader.specs.Items.{noKind, readKind, followed, finished, readItem}
+use Rattle.reader.specs.Items.{noKind, readKind, followed, finished, itemOver, readItem}
 use Rattle.reader.specs.Raise.{raiseItem}
 
 module _ (k : ℕ) where
@@ -37,7 +37,7 @@ module _ (k : ℕ) where
 -- for a text that is not too long, an offset in it and one of the five kinds; the caller's refusals have the place (0,0)
 pub item-from : (kind : ℕ) (text : List ℕ) (at : ℕ) → length text ≤ textLimit → at ≤ length text → noKind kind ≡ false
     → readItem kind text at ≡ raiseItem at (readItem kind (drop at text) 0)
-unfolding readItem when
+unfolding itemOver readItem when
 item-from kind text at h g f =
     let d : length (drop at text) ≤ textLimit = omega (arith, length-drop at text) in
     rw (le-ltb textLimit (length text) h, le-ltb (length text) at g, f, le-ltb textLimit (length (drop at text)) d, le-ltb (length (drop at text)) 0 (omega arith))

@@ -17,11 +17,11 @@ use Rattle.names.proofs.Parts.{chain-sure, value-sure}
 use Rattle.types.proofs.Sure.{read-type-sure}
 use Rattle.types.specs.Types.{levels}
 use Rattle.binds.proofs.Sure.{bind-list-sure, lambda-list-sure}
-use Rattle.reader.specs.Items.{Item, item, refused, noKind, readKind, followed, finished, readItem}
+use Rattle.reader.specs.Items.{Item, item, refused, noKind, kindOver, readKind, followed, finished, itemOver, readItem}
 
 module _ (text : List ℕ) where
   pub kind-sure : (kind : ℕ) → Reader text (readKind kind)
-  unfolding readKind
+  unfolding kindOver readKind
   kind-sure kind at h =
       let P : Ans Tree → Type 0 = Sure text 0 at in
       when-sure text P (eqb kind 1) _ _ (λ _. chain-sure text at h)
@@ -71,7 +71,7 @@ module _ (text : List ℕ) where
   nowhere n = ((omega arith, omega arith), (omega arith, omega arith))
 
   pub item-held : (kind at : ℕ) → Held at (readItem kind text at)
-  unfolding readItem
+  unfolding itemOver readItem
   item-held kind at =
       let P : Item → Type 0 = Held at in
       when-sure text P (ltb textLimit (length text)) _ _ (λ _. nowhere 1)

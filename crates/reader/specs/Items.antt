@@ -11,11 +11,12 @@ use Rattle.tokens.specs.Calls.{textLimit}
 use Rattle.tokens.specs.declared.Refusal.{Refusal}
 use Rattle.tokens.specs.declared.Token.{Token}
 use Rattle.records.specs.Tree.{Tree}
+use Rattle.records.specs.Rust.{unbracketed}
 use Rattle.names.specs.Reading.{Ans, ok, no, when}
 use Rattle.names.specs.Names.{chain}
 use Rattle.names.specs.Values.{value}
-use Rattle.types.specs.Types.{levels, readType}
-use Rattle.binds.specs.Binds.{readBindList, readLambdaList}
+use Rattle.types.specs.Types.{levels, readType, rustType}
+use Rattle.binds.specs.Binds.{readBindList, readLambdaList, rustBindList, rustLambdaList}
 
 -- an item's tree and the token that follows it, already read; or a refusal
 pub data Item : Type 0 where
@@ -26,14 +27,17 @@ pub data Item : Type 0 where
 abbrev pub noKind : ℕ → Bool
 noKind kind = eqb kind 0 || ltb 5 kind
 
--- 1 name, 2 value, 3 type, 4 binding list, 5 lambda binding list
-unfoldable pub readKind : ℕ → Scanned → Ans Tree
-readKind kind l =
+-- 1 name, 2 value, 3 type, 4 binding list, 5 lambda binding list; over the readers of the last three
+unfoldable pub kindOver : (type binds lambdaBinds : Scanned → Ans Tree) → ℕ → Scanned → Ans Tree
+kindOver type binds lambdaBinds kind l =
     when (eqb kind 1) (λ _. chain l) λ _.
     when (eqb kind 2) (λ _. value l) λ _.
-    when (eqb kind 3) (λ _. readType levels l) λ _.
-    when (eqb kind 4) (λ _. readBindList l) λ _.
-    readLambdaList l
+    when (eqb kind 3) (λ _. type l) λ _.
+    when (eqb kind 4) (λ _. binds l) λ _.
+    lambdaBinds l
+
+unfoldable pub readKind : ℕ → Scanned → Ans Tree
+readKind kind l = kindOver (readType levels) readBindList readLambdaList kind l
 
 unfoldable pub followed : Tree → Scanned → Item
 followed t (tok k s e w r) = item t (token k s e)
@@ -44,9 +48,24 @@ finished (ok t q u) = followed t (lex q u)
 finished (no r) = refused r
 
 -- refusals 1, 2 and 3, in this order; then what the text says
-unfoldable pub readItem : ℕ → List ℕ → ℕ → Item
-readItem kind text at =
+unfoldable pub itemOver : (ℕ → Scanned → Ans Tree) → ℕ → List ℕ → ℕ → Item
+itemOver one kind text at =
     when (ltb textLimit (length text)) (λ _. refused (refusal TextTooLong 0 0)) λ _.
     when (ltb (length text) at) (λ _. refused (refusal StartPastEnd 0 0)) λ _.
     when (noKind kind) (λ _. refused (refusal NoSuchKind 0 0)) λ _.
-    finished (readKind kind (lex at (drop at text)))
+    finished (one kind (lex at (drop at text)))
+
+unfoldable pub readItem : ℕ → List ℕ → ℕ → Item
+readItem kind text at = itemOver readKind kind text at
+
+-- the item as the Rust has it
+unfoldable pub rustKind : ℕ → Scanned → Ans Tree
+rustKind kind l = kindOver (rustType levels) rustBindList rustLambdaList kind l
+
+unfoldable pub rustItem : ℕ → List ℕ → ℕ → Item
+rustItem kind text at = itemOver rustKind kind text at
+
+-- an item with its tree unbracketed
+unfoldable pub unbracketedItem : Item → Item
+unbracketedItem (item t n) = item (unbracketed t) n
+unbracketedItem (refused r) = refused r

@@ -9,7 +9,7 @@ use Rattle.buffer.proofs.Sets.{sets-append}
 use Rattle.records.specs.Tree.{Tree, node, Trees, none, more}
 use Rattle.records.specs.Stored.{header, stored, storedAll}
 use Rattle.records.proofs.Pieces.{both, header-long}
-use Rattle.records.proofs.Shift.{sets-below}
+use Rattle.records.proofs.Runs.{sets-below}
 
 -- a record whose children are written first, behind the place of its head
 pub head-last : (l m n xs hs : List ℕ) (i : ℕ) → length hs ≡ 8 → m ≡ sets l (i + 8) xs → n ≡ sets m i hs → n ≡ sets l i (hs ++ xs)

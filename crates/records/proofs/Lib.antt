@@ -3,5 +3,5 @@ pub mod Sizes
 pub mod Injective
 pub mod Short
 pub mod Nesting
-pub mod Shift
+pub mod Runs
 pub mod Children

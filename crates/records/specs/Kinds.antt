@@ -39,6 +39,9 @@ RecUnit = 14
 abbrev pub RecTuple : ℕ
 RecTuple = 15
 
+abbrev pub RecBrackets : ℕ
+RecBrackets = 16
+
 -- bindings
 abbrev pub RecVariable : ℕ
 RecVariable = 20

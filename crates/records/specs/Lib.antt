@@ -1,4 +1,5 @@
 pub mod Kinds
 pub mod Tree
+pub mod Rust
 pub mod Stored
 pub mod Raise

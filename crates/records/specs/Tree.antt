@@ -39,11 +39,6 @@ unfoldable pub joined : Trees → Trees → Trees
 joined none us = us
 joined (more t ts) us = more t (joined ts us)
 
--- the same tree with another span
-unfoldable pub respan : ℕ → ℕ → Tree → Tree
-respan s e (leaf k s₀ e₀ w) = leaf k s e w
-respan s e (node k s₀ e₀ ts) = node k s e ts
-
 -- where a tree starts and ends
 unfoldable pub startOf : Tree → ℕ
 startOf (leaf k s e w) = s

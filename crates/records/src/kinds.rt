@@ -26,6 +26,8 @@ pub const REC_UNIT: usize = 14;
 
 pub const REC_TUPLE: usize = 15;
 
+pub const REC_BRACKETS: usize = 16;
+
 // Bindings.
 pub const REC_VARIABLE: usize = 20;
 

@@ -7,128 +7,81 @@ use lib.Dec.{eqb}
 use lib.ListN.{length}
 use Rattle.classes.specs.Bytes.{bytes}
 use Rattle.tokens.specs.Token.{Scanned, lex}
-use Rattle.records.specs.Kinds.{RecType, RecRef, RecRefMut, RecFunction, RecTuple, RecStruct, RecStructTyped, RecField, RecBindList, RecLambdaBindList}
-use Rattle.records.specs.Tree.{Tree, leaf, node, Trees, none, more, behind, joined, respan, Build, Builds, build, builds}
+use Rattle.records.specs.Kinds.{RecType, RecRef, RecRefMut, RecFunction, RecStruct, RecStructTyped, RecField, RecBindList, RecLambdaBindList}
+use Rattle.records.specs.Tree.{Tree, leaf, node, Trees, none, more, behind, joined, Build, Builds, build, builds}
 use Rattle.words.specs.Kinds.{Comma, Less, Amp, AmpMut, LParen, RParen, Greater, Pipe, Colon, Identifier}
 use Rattle.names.specs.Reading.{Ans, no, closing, afterItem, list, listBehind}
 use Rattle.names.specs.Names.{chain}
 use Rattle.names.proofs.Every.{Every, any-every, look-every, when-every, then-every, closed-every}
-use Rattle.types.specs.Types.{bracketed, withArguments, named, brackets, reference, function, typeOver, readType}
+use Rattle.types.specs.Types.{inBrackets, bracketed, withArguments, named, brackets, reference, function, typeOver, readType}
 use Rattle.binds.specs.Binds.{fieldOver, readField}
-use Rattle.lines.specs.Line.{Piece, plain, argument, arguments, others, commas, bars, angles, brackets as bracketsLine, braces, first, later, initial, final, select, isField, isType, shape, kindOf, line, pieces, shown}
+use Rattle.lines.specs.Line.{Piece, plain, others, commas, bars, angles, brackets as bracketsLine, braces, first, later, initial, final, select, isField, isType, shape, kindOf, line, pieces, shown}
 use Rattle.lines.proofs.Parting.{All, bbehind, builds-behind, initial-behind, final-behind, builds-joined, Is, types-of, fields-of}
-use Rattle.shows.specs.declared.Sort.{Sort}
-use Rattle.shows.specs.declared.Sort.the-variants.{Plain, Argument, Field, Binding}
-use Rattle.shows.specs.Shown.{isFunction, pieceOf, shownIn, formOf, restOf, itemsOf, isNone, bracesOf, barsEnd}
+use Rattle.shows.specs.Shown.{formOf, restOf, itemsOf, isNone, bracesOf, barsEnd}
 
--- lists as they stand, and as arguments of a function type
-module _ (s : Sort) (as-stands : (t : Tree) → shownIn s t ≡ shown t) where
-  others-plain : (ts : Trees) → others (plain (pieces (builds ts))) ≡ restOf s ts
-  unfolding others plain pieces builds restOf formOf shown
-  others-plain none = refl
-  others-plain (more t ts) = ap (λ (x : List ℕ). 44 ∷ 32 ∷ (shown t ++ x)) (others-plain ts) ∙ ap (λ (x : List ℕ). 44 ∷ 32 ∷ (x ++ restOf s ts)) (sym (as-stands t))
+-- lists
+others-items : (ts : Trees) → others (plain (pieces (builds ts))) ≡ restOf ts
+unfolding others plain pieces builds restOf formOf shown
+others-items none = refl
+others-items (more t ts) = ap (λ (x : List ℕ). 44 ∷ 32 ∷ (shown t ++ x)) (others-items ts)
 
-  commas-plain : (ts : Trees) → commas (plain (pieces (builds ts))) ≡ itemsOf s ts
-  unfolding commas plain pieces builds itemsOf formOf shown
-  commas-plain none = refl
-  commas-plain (more t ts) = ap (λ (x : List ℕ). shown t ++ x) (others-plain ts) ∙ ap (λ (x : List ℕ). x ++ restOf s ts) (sym (as-stands t))
-
-pub commas-types : (ts : Trees) → commas (plain (pieces (builds ts))) ≡ itemsOf Plain ts
-unfolding shownIn
-commas-types = commas-plain Plain (λ t. refl)
-
-pub commas-fields : (ts : Trees) → commas (plain (pieces (builds ts))) ≡ itemsOf Field ts
-unfolding shownIn
-commas-fields = commas-plain Field (λ t. refl)
-
-pub commas-bindings : (ts : Trees) → commas (plain (pieces (builds ts))) ≡ itemsOf Binding ts
-unfolding shownIn
-commas-bindings = commas-plain Binding (λ t. refl)
-
-others-arguments : (ts : Trees) → others (arguments (pieces (builds ts))) ≡ restOf Argument ts
-unfolding others arguments pieces builds restOf formOf shownIn shown
-others-arguments none = refl
-others-arguments (more t ts) = ap (λ (x : List ℕ). 44 ∷ 32 ∷ (argument (pieceOf t) ++ x)) (others-arguments ts)
-
-commas-arguments : (ts : Trees) → commas (arguments (pieces (builds ts))) ≡ itemsOf Argument ts
-unfolding commas arguments pieces builds itemsOf formOf shownIn shown
-commas-arguments none = refl
-commas-arguments (more t ts) = ap (λ (x : List ℕ). argument (pieceOf t) ++ x) (others-arguments ts)
+commas-items : (ts : Trees) → commas (plain (pieces (builds ts))) ≡ itemsOf ts
+unfolding commas plain pieces builds itemsOf formOf shown
+commas-items none = refl
+commas-items (more t ts) = ap (λ (x : List ℕ). shown t ++ x) (others-items ts)
 
 -- bars: the opening one, the items, and what ends them
-bars-arguments : (ts : Trees) → bars (arguments (pieces (builds ts))) ≡ bytes "|" ++ (itemsOf Argument ts ++ barsEnd (isNone ts))
-unfolding bars isNone arguments pieces builds commas
-bars-arguments none = ap (λ (x : List ℕ). 124 ∷ (x ++ bytes " |")) (commas-arguments none)
-bars-arguments (more t ts) = ap (λ (x : List ℕ). 124 ∷ (x ++ bytes "|")) (commas-arguments (more t ts))
-
-bars-bindings : (ts : Trees) → bars (plain (pieces (builds ts))) ≡ bytes "|" ++ (itemsOf Binding ts ++ barsEnd (isNone ts))
+bars-items : (ts : Trees) → bars (plain (pieces (builds ts))) ≡ bytes "|" ++ (itemsOf ts ++ barsEnd (isNone ts))
 unfolding bars isNone plain pieces builds commas
-bars-bindings none = ap (λ (x : List ℕ). 124 ∷ (x ++ bytes " |")) (commas-bindings none)
-bars-bindings (more t ts) = ap (λ (x : List ℕ). 124 ∷ (x ++ bytes "|")) (commas-bindings (more t ts))
+bars-items none = ap (λ (x : List ℕ). 124 ∷ (x ++ bytes " |")) (commas-items none)
+bars-items (more t ts) = ap (λ (x : List ℕ). 124 ∷ (x ++ bytes "|")) (commas-items (more t ts))
 
 -- a function type: its arguments and its result
-pub function-line : (s q : ℕ) (ts : Trees) (t : Tree) → shown (node RecFunction s q (behind ts t)) ≡ (bytes "|" ++ (itemsOf Argument ts ++ barsEnd (isNone ts))) ++ (bytes " " ++ shown t)
+pub function-line : (s q : ℕ) (ts : Trees) (t : Tree) → shown (node RecFunction s q (behind ts t)) ≡ (bytes "|" ++ (itemsOf ts ++ barsEnd (isNone ts))) ++ (bytes " " ++ shown t)
 unfolding shown build line shape
 function-line s q ts t =
-    ap (λ (bs : Builds). bars (arguments (initial (pieces bs))) ++ (bytes " " ++ final (pieces bs))) (builds-behind ts t)
-    ∙ ap (λ (x : List Piece). bars (arguments x) ++ (bytes " " ++ final (pieces (bbehind (builds ts) (build t))))) (initial-behind (builds ts) (build t))
-    ∙ ap (λ (x : List ℕ). bars (arguments (pieces (builds ts))) ++ (bytes " " ++ x)) (final-behind (builds ts) (build t))
-    ∙ ap (λ (x : List ℕ). x ++ (bytes " " ++ line (build t))) (bars-arguments ts)
+    ap (λ (bs : Builds). bars (plain (initial (pieces bs))) ++ (bytes " " ++ final (pieces bs))) (builds-behind ts t)
+    ∙ ap (λ (x : List Piece). bars (plain x) ++ (bytes " " ++ final (pieces (bbehind (builds ts) (build t))))) (initial-behind (builds ts) (build t))
+    ∙ ap (λ (x : List ℕ). bars (plain (pieces (builds ts))) ++ (bytes " " ++ x)) (final-behind (builds ts) (build t))
+    ∙ ap (λ (x : List ℕ). x ++ (bytes " " ++ line (build t))) (bars-items ts)
 
 -- types by their names
 pub named-line : (s q : ℕ) (c : Tree) → shown (node RecType s q (more c none)) ≡ shown c
 unfolding shown build builds line pieces shape first later plain angles
 named-line s q c = append-nil (line (build c))
 
-pub applied-line : (s q : ℕ) (c t : Tree) (ts : Trees) → shown (node RecType s q (more c (more t ts))) ≡ shown c ++ (bytes "<" ++ (itemsOf Plain (more t ts) ++ bytes ">"))
+pub applied-line : (s q : ℕ) (c t : Tree) (ts : Trees) → shown (node RecType s q (more c (more t ts))) ≡ shown c ++ (bytes "<" ++ (itemsOf (more t ts) ++ bytes ">"))
 unfolding shown build builds line pieces shape first later plain angles
-applied-line s q c t ts = ap (λ (x : List ℕ). line (build c) ++ (60 ∷ (x ++ bytes ">"))) (commas-types (more t ts))
+applied-line s q c t ts = ap (λ (x : List ℕ). line (build c) ++ (60 ∷ (x ++ bytes ">"))) (commas-items (more t ts))
 
 pub reference-line : (b : Bool) (s q : ℕ) (t : Tree) → shown (node (cond b RecRefMut RecRef) s q (more t none)) ≡ cond b (bytes "&mut ") (bytes "& ") ++ shown t
 unfolding shown build builds line pieces shape first
 reference-line true s q t = refl
 reference-line false s q t = refl
 
-pub reference-plain : (b : Bool) (s q : ℕ) (t : Tree) → isFunction (node (cond b RecRefMut RecRef) s q (more t none)) ≡ false
-unfolding isFunction build kindOf
-reference-plain true s q t = refl
-reference-plain false s q t = refl
-
 -- brackets
-pub respan-line : (s q : ℕ) (t : Tree) → shown (respan s q t) ≡ shown t
-unfolding shown respan build
-respan-line s q (leaf k s₀ e₀ w) = refl
-respan-line s q (node k s₀ e₀ ts) = refl
-
-pub respan-function : (s q : ℕ) (t : Tree) → isFunction (respan s q t) ≡ isFunction t
-unfolding isFunction respan build kindOf
-respan-function s q (leaf k s₀ e₀ w) = refl
-respan-function s q (node k s₀ e₀ ts) = refl
-
-pub tuple-line : (s q : ℕ) (t : Tree) (ts : Trees) → shown (node RecTuple s q (more t ts)) ≡ (bytes "(" ++ shown t) ++ (restOf Plain ts ++ bytes ")")
-unfolding shown build line shape bracketsLine itemsOf formOf shownIn
-tuple-line s q t ts = ap (λ (x : List ℕ). 40 ∷ (x ++ bytes ")")) (commas-types (more t ts)) ∙ ap (_∷_ 40) (append-assoc (line (build t)) (restOf Plain ts) (bytes ")"))
-
-pub argument-line : (t : Tree) → shownIn Argument t ≡ cond (isFunction t) (40 ∷ (shown t ++ bytes ")")) (shown t)
-unfolding shownIn argument isFunction
-argument-line t = refl
+pub round-line : (s q : ℕ) (ts : Trees) → shown (bracketed inBrackets s q ts) ≡ bytes "(" ++ (itemsOf ts ++ bytes ")")
+unfolding bracketed shown build line shape bracketsLine itemsOf
+round-line s q none = refl
+round-line s q (more t none) = ap (λ (x : List ℕ). 40 ∷ (x ++ bytes ")")) (commas-items (more t none))
+round-line s q (more t (more u ts)) = ap (λ (x : List ℕ). 40 ∷ (x ++ bytes ")")) (commas-items (more t (more u ts)))
 
 -- bindings
-pub list-line : (s q : ℕ) (ts : Trees) → shown (node RecBindList s q ts) ≡ bytes "(" ++ (itemsOf Binding ts ++ bytes ")")
+pub list-line : (s q : ℕ) (ts : Trees) → shown (node RecBindList s q ts) ≡ bytes "(" ++ (itemsOf ts ++ bytes ")")
 unfolding shown build line shape bracketsLine
-list-line s q ts = ap (λ (x : List ℕ). 40 ∷ (x ++ bytes ")")) (commas-bindings ts)
+list-line s q ts = ap (λ (x : List ℕ). 40 ∷ (x ++ bytes ")")) (commas-items ts)
 
 pub one-line : (s q : ℕ) (t : Tree) → shown (node RecBindList s q (more t none)) ≡ bytes "(" ++ (shown t ++ bytes ")")
-unfolding itemsOf formOf shownIn restOf
+unfolding itemsOf formOf restOf
 one-line s q t = list-line s q (more t none) ∙ ap (λ (x : List ℕ). 40 ∷ (x ++ bytes ")")) (append-nil (shown t))
 
-pub lambda-line : (s q : ℕ) (ts : Trees) → shown (node RecLambdaBindList s q ts) ≡ bytes "|" ++ (itemsOf Binding ts ++ barsEnd (isNone ts))
+pub lambda-line : (s q : ℕ) (ts : Trees) → shown (node RecLambdaBindList s q ts) ≡ bytes "|" ++ (itemsOf ts ++ barsEnd (isNone ts))
 unfolding shown build line shape
-lambda-line s q ts = bars-bindings ts
+lambda-line s q ts = bars-items ts
 
 pub struct-line : (s q : ℕ) (c : Tree) (fs : Trees) → shown (node RecStruct s q (more c fs)) ≡ shown c ++ bracesOf fs
 unfolding shown build builds line pieces shape first later braces bracesOf
-struct-line s q c fs = ap (λ (x : List ℕ). line (build c) ++ (32 ∷ 123 ∷ (x ++ bytes "}"))) (commas-fields fs)
+struct-line s q c fs = ap (λ (x : List ℕ). line (build c) ++ (32 ∷ 123 ∷ (x ++ bytes "}"))) (commas-items fs)
 
 pub field-line : (s q s₂ e₂ : ℕ) (w : List ℕ) (t : Tree) → shown (node RecField s q (more (leaf 1 s₂ e₂ w) (more t none))) ≡ (w ++ bytes ": ") ++ shown t
 unfolding shown build builds line pieces shape first later
@@ -151,17 +104,17 @@ all-builds P none a = tt
 all-builds P (more t ts) a = (a .0, all-builds P ts (a .1))
 
 pub with-line : (s q : ℕ) (c : Tree) (ts fs : Trees) → AllTrees NoField ts → AllTrees IsField fs
-    → shown (node RecStructTyped s q (more c (joined ts fs))) ≡ ((shown c ++ bytes "<") ++ (itemsOf Plain ts ++ bytes ">")) ++ bracesOf fs
+    → shown (node RecStructTyped s q (more c (joined ts fs))) ≡ ((shown c ++ bytes "<") ++ (itemsOf ts ++ bytes ">")) ++ bracesOf fs
 unfolding shown build builds line pieces shape first later braces bracesOf
 with-line s q c ts fs a b =
     let x : All (Is false) (builds ts) = all-builds (Is false) ts a in
     let y : All (Is true) (builds fs) = all-builds (Is true) fs b in
     ap (λ (bs : Builds). line (build c) ++ (60 ∷ (commas (plain (select isType (pieces bs))) ++ (62 ∷ 32 ∷ 123 ∷ (commas (plain (select isField (pieces bs))) ++ bytes "}"))))) (builds-joined ts fs)
     ∙ ap₂ (λ (u v : List Piece). line (build c) ++ (60 ∷ (commas (plain u) ++ (62 ∷ 32 ∷ 123 ∷ (commas (plain v) ++ bytes "}"))))) (types-of (builds ts) (builds fs) x y) (fields-of (builds ts) (builds fs) x y)
-    ∙ ap₂ (λ (u v : List ℕ). line (build c) ++ (60 ∷ (u ++ (62 ∷ 32 ∷ 123 ∷ (v ++ bytes "}"))))) (commas-types ts) (commas-fields fs)
-    ∙ sym (append-assoc (line (build c) ++ bytes "<") (itemsOf Plain ts ++ bytes ">") (32 ∷ 123 ∷ (itemsOf Field fs ++ bytes "}"))
-    ∙ append-assoc (line (build c)) (bytes "<") ((itemsOf Plain ts ++ bytes ">") ++ (32 ∷ 123 ∷ (itemsOf Field fs ++ bytes "}")))
-    ∙ ap (λ (x : List ℕ). line (build c) ++ (60 ∷ x)) (append-assoc (itemsOf Plain ts) (bytes ">") (32 ∷ 123 ∷ (itemsOf Field fs ++ bytes "}"))))
+    ∙ ap₂ (λ (u v : List ℕ). line (build c) ++ (60 ∷ (u ++ (62 ∷ 32 ∷ 123 ∷ (v ++ bytes "}"))))) (commas-items ts) (commas-items fs)
+    ∙ sym (append-assoc (line (build c) ++ bytes "<") (itemsOf ts ++ bytes ">") (32 ∷ 123 ∷ (itemsOf fs ++ bytes "}"))
+    ∙ append-assoc (line (build c)) (bytes "<") ((itemsOf ts ++ bytes ">") ++ (32 ∷ 123 ∷ (itemsOf fs ++ bytes "}")))
+    ∙ ap (λ (x : List ℕ). line (build c) ++ (60 ∷ x)) (append-assoc (itemsOf ts) (bytes ">") (32 ∷ 123 ∷ (itemsOf fs ++ bytes "}"))))
 
 -- no type is a field, and each item of a field list is one
 module _ (P : Tree → Type 0) (item : Scanned → Ans Tree) (each : (l : Scanned) → Every P (item l)) (close o : ℕ) where
@@ -183,12 +136,11 @@ module _ (P : Tree → Type 0) (item : Scanned → Ans Tree) (each : (l : Scanne
   unfolding listBehind
   behind-all e r = list-all (suc (length r)) (lex e r)
 
-bracketed-no-field : (s e : ℕ) (ts : Trees) → AllTrees NoField ts → NoField (bracketed s e ts)
-unfolding bracketed respan build kindOf isField
-bracketed-no-field s e none a = refl
-bracketed-no-field s e (more (leaf k s₀ e₀ w) none) a = a .0
-bracketed-no-field s e (more (node k s₀ e₀ us) none) a = a .0
-bracketed-no-field s e (more t (more u ts)) a = refl
+bracketed-no-field : (s e : ℕ) (ts : Trees) → NoField (bracketed inBrackets s e ts)
+unfolding bracketed build kindOf isField
+bracketed-no-field s e none = refl
+bracketed-no-field s e (more t none) = refl
+bracketed-no-field s e (more t (more u ts)) = refl
 
 pub type-no-field : (n : ℕ) (l : Scanned) → Every NoField (readType n l)
 unfolding readType typeOver brackets reference function named withArguments build kindOf isField
@@ -196,7 +148,7 @@ type-no-field zero l = look-every NoField l _ λ k s e w r _. tt
 type-no-field (suc n) l =
     look-every NoField l _ λ k s e w r _.
     when-every NoField (eqb k LParen) _ _
-    (λ _. then-every (AllTrees NoField) NoField (listBehind (readType n) RParen s e r) _ (behind-all NoField (readType n) (type-no-field n) RParen s e r) λ ts q u h. bracketed-no-field s q ts h) λ _.
+    (λ _. then-every (AllTrees NoField) NoField (listBehind (readType n) RParen s e r) _ (behind-all NoField (readType n) (type-no-field n) RParen s e r) λ ts q u h. bracketed-no-field s q ts) λ _.
     when-every NoField (eqb k Amp) _ _ (λ _. then-every NoField NoField (readType n (lex e r)) _ (type-no-field n (lex e r)) λ t q u h. refl) λ _.
     when-every NoField (eqb k AmpMut) _ _ (λ _. then-every NoField NoField (readType n (lex e r)) _ (type-no-field n (lex e r)) λ t q u h. refl) λ _.
     when-every NoField (eqb k Pipe) _ _

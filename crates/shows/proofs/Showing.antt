@@ -18,7 +18,7 @@ use Rattle.lines.proofs.Placing.{placed-both}
 use Rattle.shows.specs.declared.Drawn.{Drawn}
 use Rattle.shows.specs.declared.Shown.{Shown}
 use Rattle.shows.specs.declared.Shown.the-variants.{Line, Refused}
-use Rattle.shows.specs.Shown.{drawn, lined, shownAs, keptLine, flagged, marked, putMark, barsEnd, barred, putBar}
+use Rattle.shows.specs.Shown.{drawn, lined, shownAs, keptLine, marked, putMark, barsEnd, barred, putBar}
 
 -- what the code answers and writes at pos, for the reader's answer a, into the buffer l that becomes m
 abbrev pub Shows : {A : Type 0} → (A → List ℕ) → (A → Bool) → Ans A → ℕ → List ℕ → List ℕ → Shown → Type 0
@@ -132,14 +132,6 @@ module _ {A : Type 0} (one : A → List ℕ) (flag : A → Bool) (a : Ans A) (po
   shows-made two flag₂ F e f (Refused r) g =
       shows-fails two flag₂ (then a λ x q u. ok (F x q) q u) pos l n r
       (fails-then (λ x q u. ok (F x q) q u) a r (fails one flag a pos l n r g) (λ x q u h. late (F x q) q u r h))
-
-  -- with another flag
-  pub shows-flag : (f : Bool) (s : Shown) → Shows one flag a pos l n s → Shows one (λ _. f) a pos l n (flagged f s)
-  unfolding flagged
-  shows-flag f (Line d) g =
-      let w = drew one flag a pos l n d g in
-      shows-line one (λ _. f) a (w .what) (w .at) (w .rest) pos l n (drawn (d .pos) f (d .next)) (w .is) refl (w .next) (w .placed)
-  shows-flag f (Refused r) g = shows-fails one (λ _. f) a pos l n r (fails one flag a pos l n r g)
 
   -- with a mark behind it
   pub shows-mark : (b : ℕ) (o : List ℕ) → length l ≤ last → (s : Shown) → Shows one flag a pos l n s → o ≡ putMark b s n → Shows (λ x. one x ++ (b ∷ [])) (λ _. false) a pos l o (marked s)

@@ -13,55 +13,41 @@ use Rattle.tokens.specs.Calls.{textLimit, lexed}
 use Rattle.tokens.specs.declared.Token.{Token}
 use Rattle.tokens.specs.declared.Lexed.{Lexed}
 use Rattle.tokens.specs.declared.Lexed.the-variants.{Found, Refused as Bad}
-use Rattle.records.specs.Kinds.{RecFunction}
-use Rattle.records.specs.Tree.{Tree, Trees, none, more, build}
-use Rattle.lines.specs.Placed.{cap, opened}
+use Rattle.records.specs.Tree.{Tree, Trees, none, more}
+use Rattle.lines.specs.Placed.{cap}
 use Rattle.words.specs.Kinds.{Comma}
 use Rattle.names.specs.Reading.{Ans, ok, no, refusal₂}
 use Rattle.names.specs.Lists.{Passed, empty, ended, onward, closesList, closeEnd}
 use Rattle.types.specs.Types.{readType}
 use Rattle.binds.specs.Binds.{readField, readBind}
-use Rattle.lines.specs.Line.{Piece, argument, kindOf, shown}
+use Rattle.lines.specs.Line.{shown}
 use Rattle.shows.specs.declared.Drawn.{Drawn}
 use Rattle.shows.specs.declared.Shown.{Shown}
 use Rattle.shows.specs.declared.Shown.the-variants.{Line, Refused}
 use Rattle.shows.specs.declared.Sort.{Sort}
-use Rattle.shows.specs.declared.Sort.the-variants.{Plain, Argument, Field, Binding}
+use Rattle.shows.specs.declared.Sort.the-variants.{Plain, Field, Binding}
 use Rattle.shows.specs.declared.Passing.{Passing}
 use Rattle.shows.specs.declared.Pass.{Pass}
 use Rattle.shows.specs.declared.Pass.the-variants.{Empty, Ended, Onward, Refused as Stopped}
 
--- the reader of an item of each sort of list, and how the item is shown there
+-- the reader of an item of each sort of list
 unfoldable pub itemOf : Sort → ℕ → Scanned → Ans Tree
 itemOf Plain n = readType n
-itemOf Argument n = readType n
 itemOf Field n = readField n (readBind n)
 itemOf Binding n = readBind n
 
-unfoldable pub isFunction : Tree → Bool
-isFunction t = eqb (kindOf (build t)) RecFunction
-
-abbrev pub pieceOf : Tree → Piece
-pieceOf t = record { kind = kindOf (build t); text = shown t }
-
-unfoldable pub shownIn : Sort → Tree → List ℕ
-shownIn Plain t = shown t
-shownIn Argument t = argument (pieceOf t)
-shownIn Field t = shown t
-shownIn Binding t = shown t
-
 -- the first item of a list, and another one behind its comma
-unfoldable pub formOf : Bool → Sort → Tree → List ℕ
-formOf first s t = cond first [] (bytes ", ") ++ shownIn s t
+unfoldable pub formOf : Bool → Tree → List ℕ
+formOf first t = cond first [] (bytes ", ") ++ shown t
 
 -- the items behind the first one; all of them
-unfoldable pub restOf : Sort → Trees → List ℕ
-restOf s none = []
-restOf s (more t ts) = formOf false s t ++ restOf s ts
+unfoldable pub restOf : Trees → List ℕ
+restOf none = []
+restOf (more t ts) = formOf false t ++ restOf ts
 
-unfoldable pub itemsOf : Sort → Trees → List ℕ
-itemsOf s none = []
-itemsOf s (more t ts) = formOf true s t ++ restOf s ts
+unfoldable pub itemsOf : Trees → List ℕ
+itemsOf none = []
+itemsOf (more t ts) = formOf true t ++ restOf ts
 
 unfoldable pub isNone : Trees → Bool
 isNone none = true
@@ -72,7 +58,7 @@ never x = false
 
 -- the fields of a struct, in their braces
 unfoldable pub bracesOf : Trees → List ℕ
-bracesOf ts = bytes " {" ++ (itemsOf Field ts ++ bytes "}")
+bracesOf ts = bytes " {" ++ (itemsOf ts ++ bytes "}")
 
 -- where the line goes on, what is to be told, and the token that follows
 abbrev pub drawn : ℕ → Bool → Token → Drawn
@@ -93,13 +79,13 @@ keptLine (Line d) out = out
 keptLine (Refused r) out = []
 
 -- the same of a step of a list
-abbrev pub passing : ℕ → ℕ → Bool → Passing
-passing p q f = record { pos = p; at = q; flag = f }
+abbrev pub passing : ℕ → ℕ → Passing
+passing p q = record { pos = p; at = q }
 
 unfoldable pub passedAs : (Tree → List ℕ) → ℕ → Ans Passed → Pass
 passedAs one pos (ok empty q u) = Empty q
-passedAs one pos (ok (ended t) q u) = Ended (passing (cap (pos + length (one t))) q (isFunction t))
-passedAs one pos (ok (onward t) q u) = Onward (passing (cap (pos + length (one t))) q (isFunction t))
+passedAs one pos (ok (ended t) q u) = Ended (passing (cap (pos + length (one t))) q)
+passedAs one pos (ok (onward t) q u) = Onward (passing (cap (pos + length (one t))) q)
 passedAs one pos (no r) = Stopped r
 
 unfoldable pub keptPass : Pass → List ℕ → List ℕ
@@ -117,18 +103,13 @@ putPass one pos (no r) out = out
 -- the step that ends with an item, by the token behind it; the list opens at o
 unfoldable pub passAfter : ℕ → ℕ → Drawn → Pass
 passAfter close o d =
-    cond (closesList close (d .next .kind)) (Ended (passing (d .pos) (closeEnd close (d .next)) (d .flag)))
-    (cond (eqb (d .next .kind) Comma) (Onward (passing (d .pos) (d .next .end) (d .flag)))
+    cond (closesList close (d .next .kind)) (Ended (passing (d .pos) (closeEnd close (d .next))))
+    (cond (eqb (d .next .kind) Comma) (Onward (passing (d .pos) (d .next .end)))
     (Stopped (refusal₂ ListNotClosed (d .next .start) (d .next .start) o o)))
 
 -- the refusal of a token
 abbrev pub refusedAt : ℕ → Token → Shown
 refusedAt n t = Refused (refusal n (t .start) (t .end))
-
--- the same answer with another flag
-unfoldable pub flagged : Bool → Shown → Shown
-flagged f (Line d) = Line (drawn (d .pos) f (d .next))
-flagged f (Refused r) = Refused r
 
 -- a mark behind what was shown
 unfoldable pub marked : Shown → Shown
@@ -159,15 +140,6 @@ angled pos (Refused r) = Refused r
 unfoldable pub putAngles : ℕ → Shown → List ℕ → List ℕ
 putAngles pos (Line d) l = cond (d .flag) l (sets (sets l pos (60 ∷ [])) (d .pos) (62 ∷ []))
 putAngles pos (Refused r) l = l
-
--- an argument of a function type that was shown from pos on, in brackets where it is a function type
-unfoldable pub enclosed : Shown → Shown
-enclosed (Line d) = Line (drawn (cond (d .flag) (cap (cap (d .pos + 1) + 1)) (d .pos)) (d .flag) (d .next))
-enclosed (Refused r) = Refused r
-
-unfoldable pub putBrackets : ℕ → Shown → List ℕ → List ℕ
-putBrackets pos (Line d) l = cond (d .flag) (sets (opened pos (d .pos) l) (cap (d .pos + 1)) (41 ∷ [])) l
-putBrackets pos (Refused r) l = l
 
 -- where a list goes on in a text that is not too long
 abbrev pub InText : List ℕ → ℕ → ℕ → Type 0

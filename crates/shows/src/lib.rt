@@ -13,11 +13,10 @@ ghost use Rattle.names.specs.Names.{chain};
 ghost use Rattle.names.specs.Values.{value};
 ghost use Rattle.names.specs.Parsed.{Stands, scanned, put, admittedPart};
 ghost use Rattle.names.specs.Lists.{listStep};
-ghost use Rattle.types.specs.Types.{levels, readType, named, brackets, reference, function};
+ghost use Rattle.types.specs.Types.{levels, inBrackets, readType, named, brackets, reference, function};
 ghost use Rattle.binds.specs.Binds.{fields, unpacked, bindOver, readField, readBind, readBindList, readLambdaList};
 ghost use Rattle.lines.specs.Line.{shown};
-ghost use Rattle.shows.specs.declared.Sort.the-variants.{Argument};
-ghost use Rattle.shows.specs.Shown.{itemOf, isFunction, shownIn, formOf, restOf, itemsOf, isNone, never, bracesOf, lined, shownAs, keptLine, passedAs, keptPass, putPass, passAfter, refusedAt, flagged, marked, putMark, barred, putBar, angled, putAngles, enclosed, putBrackets, InText};
+ghost use Rattle.shows.specs.Shown.{itemOf, formOf, restOf, itemsOf, isNone, never, bracesOf, lined, shownAs, keptLine, passedAs, keptPass, putPass, passAfter, refusedAt, marked, putMark, barred, putBar, angled, putAngles, InText};
 use names::Parsed;
 use names::Part;
 use names::Step;
@@ -41,8 +40,8 @@ use words::kinds::PIPE;
 use words::kinds::R_BRACE;
 use words::kinds::R_PAREN;
 
-// What was shown: where the line goes on, and the token that follows. The flag tells of a type whether it
-// is a function type, and of a list whether it has no item.
+// What was shown: where the line goes on, and the token that follows. The flag tells of a list whether it
+// has no item.
 pub struct Drawn {
     pub pos: usize,
     pub flag: bool,
@@ -54,20 +53,17 @@ pub enum Shown {
     Refused(Refusal),
 }
 
-// The sorts of items that lists have: types, types that are arguments of a function type, fields, bindings.
+// The sorts of items that lists have: types, fields, bindings.
 pub enum Sort {
     Plain,
-    Argument,
     Field,
     Binding,
 }
 
-// A step of a list behind an item: where the line and the reading go on, and whether the item is a function
-// type.
+// A step of a list behind an item: where the line and the reading go on.
 pub struct Passing {
     pub pos: usize,
     pub at: usize,
-    pub flag: bool,
 }
 
 // One step of a list: it closed before an item, and reading goes on at an offset; it closed behind an item;
@@ -98,23 +94,6 @@ fn finish(text: &[u8], q: usize, pos: usize, flag: bool) -> Shown
             flag: flag,
             next: t,
         }),
-    }
-}
-
-// The same answer with another flag.
-fn with_flag(s: Shown, flag: bool) -> Shown
-    ensures { λ r. ⌜ r ≡ flagged flag s ⌝ }
-{
-    match s {
-        Shown::Refused(r) => Shown::Refused(r),
-        Shown::Line(d) => {
-            let n = d.next;
-            Shown::Line(Drawn {
-                pos: d.pos,
-                flag: flag,
-                next: n,
-            })
-        }
     }
 }
 
@@ -184,29 +163,6 @@ fn put_angles(s: Shown, pos: usize, out: &mut [u8]) -> Shown
     }
 }
 
-// Sets a function type that is an argument of a function type in brackets: it was shown from pos on.
-fn put_brackets(s: Shown, pos: usize, out: &mut [u8]) -> Shown
-    ensures answer { λ r. ⌜ r ≡ enclosed s ⌝ }
-    ensures bytes { λ r. ⌜ now (out .exit) ≡ putBrackets pos s (now (out .entry)) ⌝ }
-{
-    match s {
-        Shown::Refused(r) => Shown::Refused(r),
-        Shown::Line(d) => {
-            let n = d.next;
-            if d.flag {
-                let p = lines::open_bracket(out, pos, d.pos);
-                let e = lines::put_mark(out, p, 41);
-                return Shown::Line(Drawn {
-                    pos: e,
-                    flag: true,
-                    next: n,
-                });
-            }
-            Shown::Line(d)
-        }
-    }
-}
-
 // The step that ends with an item, by the token behind it; the list opens at o.
 fn after_item(close: u8, o: usize, d: Drawn) -> Pass
     ensures { λ r. ⌜ r ≡ passAfter close o d ⌝ }
@@ -220,16 +176,8 @@ fn after_item(close: u8, o: usize, d: Drawn) -> Pass
     let s = names::item_step(close, o, p);
     match s {
         Step::Refused(r) => Pass::Refused(r),
-        Step::Last(pos, q) => Pass::Ended(Passing {
-            pos: pos,
-            at: q,
-            flag: d.flag,
-        }),
-        Step::Item(pos, e) => Pass::Onward(Passing {
-            pos: pos,
-            at: e,
-            flag: d.flag,
-        }),
+        Step::Last(pos, q) => Pass::Ended(Passing { pos: pos, at: q }),
+        Step::Item(pos, e) => Pass::Onward(Passing { pos: pos, at: e }),
     }
 }
 
@@ -280,7 +228,7 @@ fn show_value(text: &[u8], a: Token, out: &mut [u8]) -> Shown
 // The type whose first token is a, where `left` levels are left, its own among them.
 fn show_type(text: &[u8], a: Token, left: usize, out: &mut [u8], pos: usize) -> Shown
     requires { ⌜ Stands (now text) a ⌝ }
-    ensures answer { λ r. ⌜ r ≡ shownAs shown isFunction pos (readType left (scanned (now (text .entry)) a)) ⌝ }
+    ensures answer { λ r. ⌜ r ≡ shownAs shown never pos (readType left (scanned (now (text .entry)) a)) ⌝ }
     ensures bytes { λ r. ⌜ keptLine r (now (out .exit)) ≡ keptLine r (put shown pos (readType left (scanned (now (text .entry)) a)) (now (out .entry))) ⌝ }
 {
     if left == 0 {
@@ -304,7 +252,7 @@ fn show_type(text: &[u8], a: Token, left: usize, out: &mut [u8], pos: usize) -> 
 // The type that the name at a begins, with its arguments.
 fn show_named(text: &[u8], a: Token, left: usize, out: &mut [u8], pos: usize) -> Shown
     requires { ⌜ Stands (now text) a ⌝ }
-    ensures answer { λ r. ⌜ r ≡ shownAs shown isFunction pos (named (readType left) (a .start) (scanned (now (text .entry)) a)) ⌝ }
+    ensures answer { λ r. ⌜ r ≡ shownAs shown never pos (named (readType left) (a .start) (scanned (now (text .entry)) a)) ⌝ }
     ensures bytes { λ r. ⌜ keptLine r (now (out .exit)) ≡ keptLine r (put shown pos (named (readType left) (a .start) (scanned (now (text .entry)) a)) (now (out .entry))) ⌝ }
 {
     let c = show_chain(text, a, out, pos);
@@ -322,46 +270,16 @@ fn show_named(text: &[u8], a: Token, left: usize, out: &mut [u8], pos: usize) ->
     }
 }
 
-// What stands in round brackets that a opens: the unit, a type, which is shown without them, or a tuple.
+// The brackets that a opens round none, one or more types.
 fn show_round(text: &[u8], a: Token, left: usize, out: &mut [u8], pos: usize) -> Shown
     requires { ⌜ Stands (now text) a ⌝ }
     requires { ⌜ 0 < a .kind ⌝ }
-    ensures answer { λ r. ⌜ r ≡ shownAs shown isFunction pos (brackets (readType left) (a .start) (a .end) (drop (a .end) (now (text .entry)))) ⌝ }
-    ensures bytes { λ r. ⌜ keptLine r (now (out .exit)) ≡ keptLine r (put shown pos (brackets (readType left) (a .start) (a .end) (drop (a .end) (now (text .entry)))) (now (out .entry))) ⌝ }
+    ensures answer { λ r. ⌜ r ≡ shownAs shown never pos (brackets (readType left) inBrackets (a .start) (a .end) (drop (a .end) (now (text .entry)))) ⌝ }
+    ensures bytes { λ r. ⌜ keptLine r (now (out .exit)) ≡ keptLine r (put shown pos (brackets (readType left) inBrackets (a .start) (a .end) (drop (a .end) (now (text .entry)))) (now (out .entry))) ⌝ }
 {
-    let s = show_step(
-        text,
-        a.start,
-        a.end,
-        R_PAREN,
-        Sort::Plain,
-        true,
-        left,
-        out,
-        pos,
-    );
-    match s {
-        Pass::Refused(r) => Shown::Refused(r),
-        Pass::Empty(q) => {
-            let p = lines::put_marks(out, pos, 40, 41);
-            finish(text, q, p, false)
-        }
-        Pass::Ended(f) => finish(text, f.at, f.pos, f.flag),
-        Pass::Onward(f) => {
-            let l = tokens::next_token(text, f.at);
-            match l {
-                Lexed::Refused(r) => Shown::Refused(r),
-                Lexed::Found(b) => {
-                    if b.kind == R_PAREN {
-                        return finish(text, b.end, f.pos, f.flag);
-                    }
-                    let p = lines::open_bracket(out, pos, f.pos);
-                    let t = show_rest(text, a.start, f.at, R_PAREN, Sort::Plain, left, out, p);
-                    mark_behind(t, 41, out)
-                }
-            }
-        }
-    }
+    let p = lines::put_mark(out, pos, b'(');
+    let l = show_items(text, a.start, a.end, R_PAREN, Sort::Plain, left, out, p);
+    mark_behind(l, b')', out)
 }
 
 // The reference that a begins.
@@ -375,7 +293,7 @@ fn show_reference(
 ) -> Shown
     requires { ⌜ Stands (now text) a ⌝ }
     requires { ⌜ 0 < a .kind ⌝ }
-    ensures answer { λ r. ⌜ r ≡ shownAs shown isFunction pos (reference (readType left) (cond mutable 12 11) (a .start) (a .end) (drop (a .end) (now (text .entry)))) ⌝ }
+    ensures answer { λ r. ⌜ r ≡ shownAs shown never pos (reference (readType left) (cond mutable 12 11) (a .start) (a .end) (drop (a .end) (now (text .entry)))) ⌝ }
     ensures bytes { λ r. ⌜ keptLine r (now (out .exit)) ≡ keptLine r (put shown pos (reference (readType left) (cond mutable 12 11) (a .start) (a .end) (drop (a .end) (now (text .entry)))) (now (out .entry))) ⌝ }
 {
     let l = tokens::next_token(text, a.end);
@@ -383,8 +301,7 @@ fn show_reference(
         Lexed::Refused(r) => Shown::Refused(r),
         Lexed::Found(b) => {
             let p = lines::put_reference(out, pos, mutable);
-            let t = show_type(text, b, left, out, p);
-            with_flag(t, false)
+            show_type(text, b, left, out, p)
         }
     }
 }
@@ -393,19 +310,18 @@ fn show_reference(
 fn show_function(text: &[u8], a: Token, left: usize, out: &mut [u8], pos: usize) -> Shown
     requires { ⌜ Stands (now text) a ⌝ }
     requires { ⌜ 0 < a .kind ⌝ }
-    ensures answer { λ r. ⌜ r ≡ shownAs shown isFunction pos (function (readType left) (a .start) (a .end) (drop (a .end) (now (text .entry)))) ⌝ }
+    ensures answer { λ r. ⌜ r ≡ shownAs shown never pos (function (readType left) (a .start) (a .end) (drop (a .end) (now (text .entry)))) ⌝ }
     ensures bytes { λ r. ⌜ keptLine r (now (out .exit)) ≡ keptLine r (put shown pos (function (readType left) (a .start) (a .end) (drop (a .end) (now (text .entry)))) (now (out .entry))) ⌝ }
 {
     let p = lines::put_mark(out, pos, 124);
-    let l = show_items(text, a.start, a.end, PIPE, Sort::Argument, left, out, p);
+    let l = show_items(text, a.start, a.end, PIPE, Sort::Plain, left, out, p);
     match l {
         Shown::Refused(r) => Shown::Refused(r),
         Shown::Line(i) => {
             let b = i.next;
             let q = lines::close_bars(out, i.pos, i.flag);
             let s = lines::put_mark(out, q, 32);
-            let t = show_type(text, b, left, out, s);
-            with_flag(t, true)
+            show_type(text, b, left, out, s)
         }
     }
 }
@@ -413,7 +329,7 @@ fn show_function(text: &[u8], a: Token, left: usize, out: &mut [u8], pos: usize)
 // The binding whose first token is a, where `left` levels are left, its own among them.
 fn show_bind(text: &[u8], a: Token, left: usize, out: &mut [u8], pos: usize) -> Shown
     requires { ⌜ Stands (now text) a ⌝ }
-    ensures answer { λ r. ⌜ r ≡ shownAs shown isFunction pos (readBind left (scanned (now (text .entry)) a)) ⌝ }
+    ensures answer { λ r. ⌜ r ≡ shownAs shown never pos (readBind left (scanned (now (text .entry)) a)) ⌝ }
     ensures bytes { λ r. ⌜ keptLine r (now (out .exit)) ≡ keptLine r (put shown pos (readBind left (scanned (now (text .entry)) a)) (now (out .entry))) ⌝ }
 {
     if left == 0 {
@@ -429,7 +345,7 @@ fn show_bind(text: &[u8], a: Token, left: usize, out: &mut [u8], pos: usize) -> 
 fn show_variable(text: &[u8], a: Token, left: usize, out: &mut [u8], pos: usize) -> Shown
     requires { ⌜ Stands (now text) a ⌝ }
     requires { ⌜ a .kind ≡ 4 ⌝ }
-    ensures answer { λ r. ⌜ r ≡ shownAs shown isFunction pos (bindOver (readType left) (readField left (readBind left)) (scanned (now (text .entry)) a)) ⌝ }
+    ensures answer { λ r. ⌜ r ≡ shownAs shown never pos (bindOver (readType left) (readField left (readBind left)) (scanned (now (text .entry)) a)) ⌝ }
     ensures bytes { λ r. ⌜ keptLine r (now (out .exit)) ≡ keptLine r (put shown pos (bindOver (readType left) (readField left (readBind left)) (scanned (now (text .entry)) a)) (now (out .entry))) ⌝ }
 {
     let l = tokens::next_token(text, a.end);
@@ -452,7 +368,7 @@ fn show_variable(text: &[u8], a: Token, left: usize, out: &mut [u8], pos: usize)
 // The struct that the name at a begins, with its types, if any, and its fields.
 fn show_unpack(text: &[u8], a: Token, left: usize, out: &mut [u8], pos: usize) -> Shown
     requires { ⌜ Stands (now text) a ⌝ }
-    ensures answer { λ r. ⌜ r ≡ shownAs shown isFunction pos (unpacked (readType left) (readField left (readBind left)) (a .start) (scanned (now (text .entry)) a)) ⌝ }
+    ensures answer { λ r. ⌜ r ≡ shownAs shown never pos (unpacked (readType left) (readField left (readBind left)) (a .start) (scanned (now (text .entry)) a)) ⌝ }
     ensures bytes { λ r. ⌜ keptLine r (now (out .exit)) ≡ keptLine r (put shown pos (unpacked (readType left) (readField left (readBind left)) (a .start) (scanned (now (text .entry)) a)) (now (out .entry))) ⌝ }
 {
     let c = show_chain(text, a, out, pos);
@@ -495,7 +411,7 @@ fn show_fields(text: &[u8], b: Token, left: usize, out: &mut [u8], pos: usize) -
 // name is shown in full.
 fn show_field(text: &[u8], a: Token, left: usize, out: &mut [u8], pos: usize) -> Shown
     requires { ⌜ Stands (now text) a ⌝ }
-    ensures answer { λ r. ⌜ r ≡ shownAs shown isFunction pos (readField left (readBind left) (scanned (now (text .entry)) a)) ⌝ }
+    ensures answer { λ r. ⌜ r ≡ shownAs shown never pos (readField left (readBind left) (scanned (now (text .entry)) a)) ⌝ }
     ensures bytes { λ r. ⌜ keptLine r (now (out .exit)) ≡ keptLine r (put shown pos (readField left (readBind left) (scanned (now (text .entry)) a)) (now (out .entry))) ⌝ }
 {
     if left == 0 {
@@ -521,34 +437,20 @@ fn show_field(text: &[u8], a: Token, left: usize, out: &mut [u8], pos: usize) ->
             let m = tokens::next_token(text, n.end);
             match m {
                 Lexed::Refused(r) => Shown::Refused(r),
-                Lexed::Found(b) => {
-                    let f = show_bind(text, b, left, out, q);
-                    with_flag(f, false)
-                }
+                Lexed::Found(b) => show_bind(text, b, left, out, q),
             }
         }
     }
 }
 
-// An argument of a function type whose first token is a.
-fn show_argument(text: &[u8], a: Token, left: usize, out: &mut [u8], pos: usize) -> Shown
-    requires { ⌜ Stands (now text) a ⌝ }
-    ensures answer { λ r. ⌜ r ≡ shownAs (shownIn Argument) isFunction pos (readType left (scanned (now (text .entry)) a)) ⌝ }
-    ensures bytes { λ r. ⌜ keptLine r (now (out .exit)) ≡ keptLine r (put (shownIn Argument) pos (readType left (scanned (now (text .entry)) a)) (now (out .entry))) ⌝ }
-{
-    let t = show_type(text, a, left, out, pos);
-    put_brackets(t, pos, out)
-}
-
 // An item of a list whose first token is a.
 fn show_item(text: &[u8], a: Token, sort: Sort, left: usize, out: &mut [u8], pos: usize) -> Shown
     requires { ⌜ Stands (now text) a ⌝ }
-    ensures answer { λ r. ⌜ r ≡ shownAs (shownIn sort) isFunction pos (itemOf sort left (scanned (now (text .entry)) a)) ⌝ }
-    ensures bytes { λ r. ⌜ keptLine r (now (out .exit)) ≡ keptLine r (put (shownIn sort) pos (itemOf sort left (scanned (now (text .entry)) a)) (now (out .entry))) ⌝ }
+    ensures answer { λ r. ⌜ r ≡ shownAs shown never pos (itemOf sort left (scanned (now (text .entry)) a)) ⌝ }
+    ensures bytes { λ r. ⌜ keptLine r (now (out .exit)) ≡ keptLine r (put shown pos (itemOf sort left (scanned (now (text .entry)) a)) (now (out .entry))) ⌝ }
 {
     match sort {
         Sort::Plain => show_type(text, a, left, out, pos),
-        Sort::Argument => show_argument(text, a, left, out, pos),
         Sort::Field => show_field(text, a, left, out, pos),
         Sort::Binding => show_bind(text, a, left, out, pos),
     }
@@ -567,8 +469,8 @@ fn show_step(
     pos: usize,
 ) -> Pass
     requires { ⌜ InText (now text) at close ⌝ }
-    ensures answer { λ r. ⌜ r ≡ passedAs (formOf first sort) pos (listStep (itemOf sort left) close o (lex at (drop at (now (text .entry))))) ⌝ }
-    ensures bytes { λ r. ⌜ keptPass r (now (out .exit)) ≡ keptPass r (putPass (formOf first sort) pos (listStep (itemOf sort left) close o (lex at (drop at (now (text .entry))))) (now (out .entry))) ⌝ }
+    ensures answer { λ r. ⌜ r ≡ passedAs (formOf first) pos (listStep (itemOf sort left) close o (lex at (drop at (now (text .entry))))) ⌝ }
+    ensures bytes { λ r. ⌜ keptPass r (now (out .exit)) ≡ keptPass r (putPass (formOf first) pos (listStep (itemOf sort left) close o (lex at (drop at (now (text .entry))))) (now (out .entry))) ⌝ }
 {
     let l = tokens::next_token(text, at);
     match l {
@@ -604,8 +506,8 @@ fn show_rest(
     pos: usize,
 ) -> Shown
     requires { ⌜ InText (now text) at close ⌝ }
-    ensures answer { λ r. ⌜ r ≡ shownAs (restOf sort) never pos (listBehind (itemOf sort left) close o at (drop at (now (text .entry)))) ⌝ }
-    ensures bytes { λ r. ⌜ keptLine r (now (out .exit)) ≡ keptLine r (put (restOf sort) pos (listBehind (itemOf sort left) close o at (drop at (now (text .entry)))) (now (out .entry))) ⌝ }
+    ensures answer { λ r. ⌜ r ≡ shownAs restOf never pos (listBehind (itemOf sort left) close o at (drop at (now (text .entry)))) ⌝ }
+    ensures bytes { λ r. ⌜ keptLine r (now (out .exit)) ≡ keptLine r (put restOf pos (listBehind (itemOf sort left) close o at (drop at (now (text .entry)))) (now (out .entry))) ⌝ }
 {
     let mut i = at;
     let mut p = pos;
@@ -641,8 +543,8 @@ fn show_items(
     pos: usize,
 ) -> Shown
     requires { ⌜ InText (now text) at close ⌝ }
-    ensures answer { λ r. ⌜ r ≡ shownAs (itemsOf sort) isNone pos (listBehind (itemOf sort left) close o at (drop at (now (text .entry)))) ⌝ }
-    ensures bytes { λ r. ⌜ keptLine r (now (out .exit)) ≡ keptLine r (put (itemsOf sort) pos (listBehind (itemOf sort left) close o at (drop at (now (text .entry)))) (now (out .entry))) ⌝ }
+    ensures answer { λ r. ⌜ r ≡ shownAs itemsOf isNone pos (listBehind (itemOf sort left) close o at (drop at (now (text .entry)))) ⌝ }
+    ensures bytes { λ r. ⌜ keptLine r (now (out .exit)) ≡ keptLine r (put itemsOf pos (listBehind (itemOf sort left) close o at (drop at (now (text .entry)))) (now (out .entry))) ⌝ }
 {
     let s = show_step(text, o, at, close, sort, true, left, out, pos);
     match s {
@@ -714,7 +616,7 @@ pub fn type_line(text: &[u8], at: usize, out: &mut [u8]) -> Shown
     let l = tokens::next_token(text, at);
     match l {
         Lexed::Refused(r) => Shown::Refused(r),
-        Lexed::Found(a) => with_flag(show_type(text, a, LEVELS, out, 0), false),
+        Lexed::Found(a) => show_type(text, a, LEVELS, out, 0),
     }
 }
 

@@ -1,12 +1,10 @@
 -- What each return of the code of types gives, from what its callees gave.
 use mathlib.Core.Path.{_≡_, refl, ap, sym, _∙_}
-use mathlib.Core.Bool.{false, cond}
-use mathlib.Core.List.{List, [], _++_, append-nil, append-assoc}
+use mathlib.Core.List.{List, _++_, append-nil, append-assoc}
 use Prim.Native.Nat.{ℕ, zero, suc, _+_, _-_, _*_, _^_, _<_, _≤_}
 use native.Mathlib.Omega.{arith}
 use borrow.Author.Tests.{eq-eqb, ne-eqb}
-use lib.Dec.{eqb}
-use lib.ListN.{length, take, drop, length-append}
+use lib.ListN.{length, drop}
 use lib.Seq.{sets}
 use Rattle.tokens.specs.Answers.{refusal}
 use Rattle.tokens.specs.Token.{Scanned, bad, lex}
@@ -14,13 +12,11 @@ use Rattle.tokens.specs.Calls.{lexed, nextToken}
 use Rattle.tokens.specs.declared.Refusal.{Refusal}
 use Rattle.tokens.specs.declared.Token.{Token}
 use Rattle.tokens.specs.declared.Lexed.the-variants.{Found, Refused as Bad}
-use Rattle.records.specs.Kinds.{RecType, RecFunction, RecUnit, RecTuple}
-use Rattle.records.specs.Tree.{Tree, leaf, node, Trees, none, more, behind, respan}
-use Rattle.records.specs.Stored.{two, span, header, stored, storedAll}
-use Rattle.buffer.proofs.Sets.{sets-append}
-use Rattle.records.proofs.Pieces.{both, header-long}
+use Rattle.records.specs.Kinds.{RecType, RecFunction, RecUnit, RecTuple, RecBrackets}
+use Rattle.records.specs.Tree.{Tree, leaf, node, Trees, none, more, behind}
+use Rattle.records.specs.Stored.{header, stored, storedAll}
+use Rattle.records.proofs.Pieces.{both}
 use Rattle.records.proofs.Children.{node-last, only, first-then}
-use Rattle.records.proofs.Shift.{sets-below, sets-over, shifted-pieces}
 use Rattle.records.proofs.Sizes.{leaf-size, node-size, size-none, size-more}
 use Rattle.names.specs.Reading.{Ans, ok, no, then, look, when, listBehind}
 use Rattle.names.specs.Names.{chain}
@@ -35,9 +31,9 @@ use Rattle.names.proofs.Steps.{found-token, refused-token, Gives, gives-no, giv
 use Rattle.names.proofs.Entries.{on-token}
 use Rattle.names.proofs.Opening.{Here, here, Next, next-of, opened-item, opened-list, opened-chain}
 use Rattle.names.proofs.Listing.{StepGives, Opened, opened, gives-refused, then-refused, then-opened, wrote, gives-done, gives-finish, LastStep, with-none, with-one, ItemStep, last-step, item-step, refused-by, by-step}
-use Rattle.types.specs.Types.{bracketed, withArguments, named, brackets, reference, function, typeOver, readType}
-use Rattle.types.specs.Written.{closedBrackets, tupled}
-use Rattle.types.proofs.Sure.{respan-size, behind-size, read-type-sure}
+use Rattle.types.specs.Types.{inBrackets, bracketed, withArguments, named, brackets, reference, function, typeOver, readType}
+use Rattle.types.specs.Written.{bracketsKind}
+use Rattle.types.proofs.Sure.{behind-size, read-type-sure}
 
 stored-behind : (ts : Trees) (t : Tree) → storedAll (behind ts t) ≡ storedAll ts ++ stored t
 unfolding storedAll behind
@@ -53,52 +49,40 @@ unfolding readType typeOver look
 type-bads zero r = refl
 type-bads (suc n) r = refl
 
--- an item takes the span of the brackets round it
-four : (len k : ℕ) → length (two len ++ two k) ≡ 4
-unfolding two
-four len k = refl
+-- brackets are stored as a record of their kind
+kindRound : Trees → ℕ
+kindRound none = RecUnit
+kindRound (more t none) = RecBrackets
+kindRound (more t (more u ts)) = RecTuple
 
-four-span : (s e : ℕ) → length (span s e) ≡ 4
-unfolding span two
-four-span s e = refl
+round-stored : (s e : ℕ) (ts : Trees) → stored (bracketed inBrackets s e ts) ≡ stored (node (kindRound ts) s e ts)
+unfolding stored storedAll bracketed kindRound
+round-stored s e none = sym (append-nil (header 8 RecUnit s e))
+round-stored s e (more t none) = refl
+round-stored s e (more t (more u ts)) = refl
 
-spanned : (l m n xs ss zs : List ℕ) (rs : List ℕ) (i : ℕ) → length xs ≡ 4 → length ss ≡ 4 → length zs ≡ 4 → m ≡ sets l i (xs ++ (ss ++ rs)) → n ≡ sets m (i + 4) zs → n ≡ sets l i (xs ++ (zs ++ rs))
-spanned l m n xs ss zs rs i ex es ez e f =
-    let q : i + length xs ≡ i + 4 = omega arith in
-    let x : i + 4 + length ss ≡ i + 4 + 4 = omega arith in
-    let y : i + 4 + length zs ≡ i + 4 + 4 = omega arith in
-    f
-    ∙ rw (e, sets-append xs (ss ++ rs) l i, q, sets-append ss rs (sets l i xs) (i + 4), x, sets-append xs (zs ++ rs) l i, q, sets-append zs rs (sets l i xs) (i + 4), y)
-    (sets-below zs rs (sets (sets l i xs) (i + 4) ss) (i + 4) (i + 4 + 4) (omega arith)
-    ∙ ap (λ (k : List ℕ). sets k (i + 4 + 4) rs) (sets-over ss zs (sets l i xs) (i + 4) (omega arith)))
-
-header-parts : (len k s e : ℕ) (rs : List ℕ) → header len k s e ++ rs ≡ (two len ++ two k) ++ (span s e ++ rs)
-unfolding header two
-header-parts len k s e rs = refl
-
-pub respanned : (l m n : List ℕ) (i s e : ℕ) (t : Tree) → m ≡ sets l i (stored t) → n ≡ sets m (i + 4) (span s e) → n ≡ sets l i (stored (respan s e t))
-unfolding stored respan
-respanned l m n i s e (leaf k s₀ e₀ w) f g =
-    spanned l m n (two 8 ++ two k) (span s₀ e₀) (span s e) [] i (four 8 k) (four-span s₀ e₀) (four-span s e) (f ∙ ap (sets l i) (sym (append-nil (header 8 k s₀ e₀)) ∙ header-parts 8 k s₀ e₀ [])) g
-    ∙ ap (sets l i) (sym (header-parts 8 k s e []) ∙ append-nil (header 8 k s e))
-respanned l m n i s e (node k s₀ e₀ ts) f g =
-    let n₈ : ℕ = length (storedAll ts) + 8 in
-    spanned l m n (two n₈ ++ two k) (span s₀ e₀) (span s e) (storedAll ts) i (four n₈ k) (four-span s₀ e₀) (four-span s e) (f ∙ ap (sets l i) (header-parts n₈ k s₀ e₀ (storedAll ts))) g
-    ∙ ap (sets l i) (sym (header-parts n₈ k s e (storedAll ts)))
-
-pub some-bytes : (t : Tree) → 8 ≤ length (stored t)
+some-bytes : (t : Tree) → 8 ≤ length (stored t)
 some-bytes (leaf k s e w) = omega (arith, leaf-size k s e w)
 some-bytes (node k s e ts) = omega (arith, node-size k s e ts)
 
--- brackets round more than one: the first is moved up
-tuple-bytes : (l m n o : List ℕ) (i k j s e : ℕ) (t : Tree) (ts : Trees) → k ≡ length (stored t) → j ≡ length (storedAll ts) → m ≡ sets l i (stored t) → n ≡ sets m (i + 8 + k) (storedAll ts)
-    → o ≡ sets (sets n (i + 8) (take k (drop i n))) i (header (k + j + 8) RecTuple s e) → o ≡ sets l i (stored (node RecTuple s e (more t ts)))
-unfolding stored storedAll
-tuple-bytes l m n o i k j s e t ts z y f g w =
-    let x : length (stored t ++ storedAll ts) + 8 ≡ k + j + 8 = omega (arith, length-append (stored t) (storedAll ts)) in
-    rw x
-    (shifted-pieces 8 l m n (sets n (i + 8) (take (length (stored t)) (drop i n))) o (stored t) (storedAll ts) (header (k + j + 8) RecTuple s e) i (header-long (k + j + 8) RecTuple s e) f
-    (g ∙ ap (λ (v : ℕ). sets m (i + 8 + v) (storedAll ts)) z) refl (w ∙ ap (λ (v : ℕ). sets (sets n (i + 8) (take v (drop i n))) i (header (k + j + 8) RecTuple s e)) z))
+round-size : (s e len : ℕ) (ts : Trees) → len ≡ length (storedAll ts) + 8 → len ≡ length (stored (bracketed inBrackets s e ts))
+round-size s e len ts z = omega (arith, z, ap length (round-stored s e ts), node-size (kindRound ts) s e ts)
+
+-- their head is written last
+round-bytes : (l m n : List ℕ) (i len k s e : ℕ) (ts : Trees) → len ≡ length (storedAll ts) + 8 → k ≡ kindRound ts → m ≡ sets l (i + 8) (storedAll ts) → n ≡ sets m i (header len k s e)
+    → n ≡ sets l i (stored (bracketed inBrackets s e ts))
+round-bytes l m n i len k s e ts z y f g = node-last l m n i len (kindRound ts) s e ts z f (g ∙ rw y) ∙ ap (sets l i) (sym (round-stored s e ts))
+
+-- their kind by the bytes of the first item and of the others
+kind-none : (n : ℕ) → n ≡ 0 → bracketsKind n 0 ≡ kindRound none
+unfolding bracketsKind kindRound
+kind-none n z = rw z
+
+kind-some : (n m : ℕ) (t : Tree) (ts : Trees) → n ≡ length (stored t) → m ≡ length (storedAll ts) → bracketsKind n m ≡ kindRound (more t ts)
+unfolding bracketsKind kindRound
+kind-some n m t none z y = let x : m ≡ 0 = y ∙ size-none in rw (ne-eqb n 0 (λ (j : n ≡ 0). absurd (omega (arith, some-bytes t))), eq-eqb m 0 x)
+kind-some n m t (more u us) z y =
+    rw (ne-eqb n 0 (λ (j : n ≡ 0). absurd (omega (arith, some-bytes t))), ne-eqb m 0 (λ (j : m ≡ 0). absurd (omega (arith, some-bytes u, size-more u us))))
 
 -- a position leaves room for a head
 pub type-room : (text : List ℕ) (a : Token) (pos : ℕ) → AtToken text a pos → pos < 2 ^ 63 + 2000000
@@ -290,13 +274,13 @@ module _ (text : List ℕ) (left : ℕ) where
     inside = listBehind rd 12 (a .start) (a .end) (drop (a .end) text)
 
     abbrev brk : Ans Tree
-    brk = brackets rd (a .start) (a .end) (drop (a .end) text)
+    brk = brackets rd inBrackets (a .start) (a .end) (drop (a .end) text)
 
     abbrev first : Ans Passed
     first = listStep rd 12 (a .start) (lex (a .end) (drop (a .end) text))
 
     abbrev boxed : Trees → ℕ → List ℕ → Ans Tree
-    boxed ts q u = ok (bracketed (a .start) q ts) q u
+    boxed ts q u = ok (bracketed inBrackets (a .start) q ts) q u
 
     brk-inside : brk ≡ then inside boxed
     unfolding brackets
@@ -305,30 +289,49 @@ module _ (text : List ℕ) (left : ℕ) where
     by-first : inside ≡ then first (goOn (listBehind rd 12 (a .start)))
     by-first = by-step text (h .fits) rd (read-type-sure text left) 12 (a .start) (omega arith) (a .end) (h .standing .2)
 
-    pub brk-stopped : (r : Refusal) → StepGives first pos l m (Stopped r) → Gives stored brk pos l m (Refused r)
+    pub brk-stopped : (r : Refusal) → StepGives first (pos + 8) l m (Stopped r) → Gives stored brk pos l m (Refused r)
     unfolding then
     brk-stopped r g =
         gives-no stored brk pos l m r (Refused r) refl
         (brk-inside ∙ rw (by-first, refused-by text (h .fits) rd (read-type-sure text left) 12 (a .start) (omega arith) first r (g .0)))
 
-    module _ (n q : ℕ) (o : List ℕ) (p : Parsed) (f : p ≡ follow (cond (eqb n 0) 8 n) q (nextToken text q)) (w : o ≡ closedBrackets (a .start) q n pos m) where
-      closed-by : LastStep text rd 12 (a .start) (a .end) pos l m n q → Gives stored brk pos l o p
-      unfolding then goOn bracketed closedBrackets stored
-      closed-by (with-none e i z x) =
-          gives-finish stored text (h .fits) brk (leaf RecUnit (a .start) q []) q pos 8 l o p (i .inside) (brk-inside ∙ rw (by-first, e)) (f ∙ rw z) (sym (leaf-size RecUnit (a .start) q [])) (w ∙ rw (z, x))
-      closed-by (with-one t e i z y x) =
-          let k : eqb n 0 ≡ false = ne-eqb n 0 (λ (j : n ≡ 0). absurd (omega (arith, some-bytes t, z))) in
-          gives-finish stored text (h .fits) brk (respan (a .start) q t) q pos n l o p (i .inside) (brk-inside ∙ rw (by-first, e)) (f ∙ rw k) (z ∙ sym (respan-size (a .start) q t)) (respanned l m o pos (a .start) q t x (w ∙ rw k))
+    module _ (n q : ℕ) (o : List ℕ) (p : Parsed) (k : ℕ) (y : k ≡ bracketsKind n 0) (w : o ≡ sets m pos (header (n + 8) k (a .start) q)) (f : p ≡ follow (n + 8) q (nextToken text q)) where
+      closed-with : (ts : Trees) → brk ≡ boxed ts q (drop q text) → q ≤ length text → n ≡ length (storedAll ts) → bracketsKind n 0 ≡ kindRound ts → m ≡ sets l (pos + 8) (storedAll ts) → Gives stored brk pos l o p
+      closed-with ts i j z c x =
+          let z₈ : n + 8 ≡ length (storedAll ts) + 8 = omega arith in
+          gives-finish stored text (h .fits) brk (bracketed inBrackets (a .start) q ts) q pos (n + 8) l o p j i f
+          (round-size (a .start) q (n + 8) ts z₈) (round-bytes l m o pos (n + 8) k (a .start) q ts z₈ (y ∙ c) x w)
 
-      pub brk-closed : StepGives first pos l m (Last n q) → Gives stored brk pos l o p
-      brk-closed g = closed-by (last-step text (h .fits) rd (read-type-sure text left) 12 (a .start) (omega arith) (a .end) pos l m n q (h .standing .2) g)
+      closed-by : LastStep text rd 12 (a .start) (a .end) (pos + 8) l m n q → Gives stored brk pos l o p
+      unfolding then goOn storedAll
+      closed-by (with-none e i z x) = closed-with none (brk-inside ∙ rw (by-first, e)) (i .inside) z (kind-none n z) x
+      closed-by (with-one t e i z v x) =
+          closed-with (more t none) (brk-inside ∙ rw (by-first, e)) (i .inside) (z ∙ omega (arith, size-more t none, size-none)) (kind-some n 0 t none z (sym size-none)) (only l m (pos + 8) t x)
 
-    module _ (n e : ℕ) (g : StepGives first pos l m (Item n e)) where
+      pub brk-closed : StepGives first (pos + 8) l m (Last n q) → Gives stored brk pos l o p
+      brk-closed g = closed-by (last-step text (h .fits) rd (read-type-sure text left) 12 (a .start) (omega arith) (a .end) (pos + 8) l m n q (h .standing .2) g)
+
+    -- a step's bytes, where it was the last
+    pub last-small : (n q : ℕ) → StepGives first (pos + 8) l m (Last n q) → n + 24 * a .end ≤ 24 * q
+    last-small n q g = go (last-step text (h .fits) rd (read-type-sure text left) 12 (a .start) (omega arith) (a .end) (pos + 8) l m n q (h .standing .2) g)
+      where
+        go : LastStep text rd 12 (a .start) (a .end) (pos + 8) l m n q → n + 24 * a .end ≤ 24 * q
+        go (with-none e i z x) = omega (arith, i .further)
+        go (with-one t e i z v x) = v
+
+    pub last-inside : (n q : ℕ) → StepGives first (pos + 8) l m (Last n q) → q ≤ length text
+    last-inside n q g = go (last-step text (h .fits) rd (read-type-sure text left) 12 (a .start) (omega arith) (a .end) (pos + 8) l m n q (h .standing .2) g)
+      where
+        go : LastStep text rd 12 (a .start) (a .end) (pos + 8) l m n q → q ≤ length text
+        go (with-none e i z x) = i .inside
+        go (with-one t e i z v x) = i .inside
+
+    module _ (n e : ℕ) (g : StepGives first (pos + 8) l m (Item n e)) where
       abbrev others : Ans Trees
       others = listBehind rd 12 (a .start) e (drop e text)
 
-      item-there : ItemStep text rd 12 (a .start) (a .end) pos l m n e
-      item-there = item-step text (h .fits) rd (read-type-sure text left) 12 (a .start) (omega arith) (a .end) pos l m n e (h .standing .2) g
+      item-there : ItemStep text rd 12 (a .start) (a .end) (pos + 8) l m n e
+      item-there = item-step text (h .fits) rd (read-type-sure text left) 12 (a .start) (omega arith) (a .end) (pos + 8) l m n e (h .standing .2) g
 
       pub first-small : n + 24 * a .end ≤ 24 * e
       first-small = item-there .small
@@ -366,44 +369,16 @@ module _ (text : List ℕ) (left : ℕ) where
         unfolding then
         boxed-as = brk-others ∙ rw (others-read .is)
 
-        module _ (o : List ℕ) (w : o ≡ tupled (a .start) n p pos m₂) where
-          tuple-by : (ts : Trees) → brk ≡ boxed (more (item-there .tree) ts) (p .end) (others-read .rest) → p .len ≡ length (storedAll ts) → m₂ ≡ sets m (pos + 8 + n) (storedAll ts)
-              → Gives stored brk pos l o (Read (record { len = cond (eqb (p .len) 0) n (n + p .len + 8); end = p .end; next = p .next }))
-          unfolding bracketed tupled storedAll
-          tuple-by none b z x =
-              let k : p .len ≡ 0 = z in
-              rw (eq-eqb (p .len) 0 k)
-              (gives-done stored brk (respan (a .start) (p .end) (item-there .tree)) (p .end) (others-read .rest) pos n l o (p .next) b (others-read .next)
-              (item-there .len ∙ sym (respan-size (a .start) (p .end) (item-there .tree)))
-              (respanned l m o pos (a .start) (p .end) (item-there .tree) (item-there .holds) (w ∙ rw (eq-eqb (p .len) 0 k, x))))
-          tuple-by (more u us) b z x =
-              let t : Tree = item-there .tree in
-              let y : length (storedAll (more t (more u us))) ≡ n + p .len = size-more t (more u us) ∙ omega (arith, item-there .len, z, size-more u us, length-append (stored u) (storedAll us)) in
-              let k : eqb (p .len) 0 ≡ false = ne-eqb (p .len) 0 (λ (j : p .len ≡ 0). absurd (omega (arith, some-bytes u, z, length-append (stored u) (storedAll us)))) in
-              rw k
-              (gives-done stored brk (node RecTuple (a .start) (p .end) (more t (more u us))) (p .end) (others-read .rest) pos (n + p .len + 8) l o (p .next) b (others-read .next)
-              (omega (arith, y, node-size RecTuple (a .start) (p .end) (more t (more u us))))
-              (tuple-bytes l m m₂ o pos n (p .len) (a .start) (p .end) t (more u us) (item-there .len) z (item-there .holds) x (w ∙ rw k)))
-
-          pub brk-tuple : Gives stored brk pos l o (Read (record { len = cond (eqb (p .len) 0) n (n + p .len + 8); end = p .end; next = p .next }))
-          brk-tuple = tuple-by (others-read .what) boxed-as (others-read .len) (wrote storedAll others (pos + 8 + n) m m₂ p others-read (f .1))
-
--- the two ways to end brackets behind a comma
-module _ (o n : ℕ) (p : Part) (pos : ℕ) (l : List ℕ) where
-  abbrev Tupled : List ℕ → Part → Type 0
-  Tupled m q = (q ≡ record { len = cond (eqb (p .len) 0) n (n + p .len + 8); end = p .end; next = p .next }) × (m ≡ tupled o n p pos l)
-
-  pub tuple-none : (m : List ℕ) → p .len ≡ 0 → m ≡ sets l (pos + 4) (span o (p .end)) → Tupled m (record { len = n; end = p .end; next = p .next })
-  unfolding tupled
-  tuple-none m z w = rw (eq-eqb (p .len) 0 z) (refl, w)
-
-  pub tuple-some : (m m₂ : List ℕ) → (p .len ≡ 0 → ⊥) → m ≡ sets l (pos + 8) (take n (drop pos l)) → m₂ ≡ sets m pos (header (n + p .len + 8) 15 o (p .end))
-      → Tupled m₂ (record { len = n + p .len + 8; end = p .end; next = p .next })
-  unfolding tupled
-  tuple-some m m₂ z w x = rw (ne-eqb (p .len) 0 z) (refl, x ∙ rw w)
-
-pub tuple-told : (a : Ans Tree) (pos : ℕ) (l m : List ℕ) (p q : Part) → p ≡ q → Gives stored a pos l m (Read q) → Gives stored a pos l m (Read p)
-tuple-told a pos l m p q e g = rw e g
+        pub brk-read : (o : List ℕ) (k : ℕ) → k ≡ bracketsKind n (p .len) → o ≡ sets m₂ pos (header (n + p .len + 8) k (a .start) (p .end))
+            → Gives stored brk pos l o (Read (record { len = n + p .len + 8; end = p .end; next = p .next }))
+        brk-read o k y w =
+            let t : Tree = item-there .tree in
+            let ts : Trees = others-read .what in
+            let z : n + p .len + 8 ≡ length (storedAll (more t ts)) + 8 = omega (arith, item-there .len, others-read .len, size-more t ts) in
+            let c : k ≡ kindRound (more t ts) = y ∙ kind-some n (p .len) t ts (item-there .len) (others-read .len) in
+            let x : m₂ ≡ sets l (pos + 8) (storedAll (more t ts)) = first-then l m m₂ (pos + 8) t ts n (item-there .len) (item-there .holds) (wrote storedAll others (pos + 8 + n) m m₂ p others-read (f .1)) in
+            gives-done stored brk (bracketed inBrackets (a .start) (p .end) (more t ts)) (p .end) (others-read .rest) pos (n + p .len + 8) l o (p .next) boxed-as (others-read .next)
+            (round-size (a .start) (p .end) (n + p .len + 8) (more t ts) z) (round-bytes l m₂ o pos (n + p .len + 8) k (a .start) (p .end) (more t ts) z c x w)
 
 -- a type by its first token: which reader reads it
 module _ (text : List ℕ) (a : Token) where
@@ -415,11 +390,11 @@ module _ (text : List ℕ) (a : Token) where
     abbrev n : ℕ
     n = left - 1
 
-    over : readType left (scanned text a) ≡ typeOver (readType n) (scanned text a)
+    over : readType left (scanned text a) ≡ typeOver (readType n) inBrackets (scanned text a)
     unfolding readType
     over = let e : left ≡ suc n = omega (arith, z) in ap (λ (k : ℕ). readType k (scanned text a)) e
 
-    pub type-is-brackets : a .kind ≡ 11 → readType left (scanned text a) ≡ brackets (readType n) (a .start) (a .end) (drop (a .end) text)
+    pub type-is-brackets : a .kind ≡ 11 → readType left (scanned text a) ≡ brackets (readType n) inBrackets (a .start) (a .end) (drop (a .end) text)
     unfolding typeOver look when
     type-is-brackets k = over ∙ rw (eq-eqb (a .kind) 11 k)
 

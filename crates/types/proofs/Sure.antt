@@ -1,5 +1,5 @@
 -- Types: what holds of every answer, whatever levels are left.
-use mathlib.Core.Path.{_≡_, refl, sym, _∙_, subst}
+use mathlib.Core.Path.{_≡_, refl, _∙_, subst}
 use mathlib.Core.Bool.{true}
 use mathlib.Core.List.{List, []}
 use Prim.Native.Nat.{ℕ, zero, suc, _+_, _*_, _<_, _≤_}
@@ -9,8 +9,8 @@ use lib.Dec.{eqb}
 use lib.ListN.{length, drop}
 use Rattle.tokens.specs.Token.{Scanned, tok, lex}
 use Rattle.tokens.proofs.Lexing.{Good}
-use Rattle.records.specs.Kinds.{RecType, RecRef, RecRefMut, RecFunction, RecUnit, RecTuple}
-use Rattle.records.specs.Tree.{Tree, leaf, node, Trees, none, more, behind, respan, startOf, endOf, Nested, Within}
+use Rattle.records.specs.Kinds.{RecType, RecRef, RecRefMut, RecFunction, RecUnit, RecTuple, RecBrackets}
+use Rattle.records.specs.Tree.{Tree, leaf, node, Trees, none, more, behind, startOf, endOf, Nested, Within}
 use Rattle.records.specs.Stored.{stored, storedAll}
 use Rattle.records.proofs.Nesting.{wider, nested-order}
 use Rattle.records.proofs.Sizes.{leaf-size, node-size, size-none, size-more}
@@ -19,28 +19,7 @@ use Rattle.names.specs.Reading.{Ans, ok, look, listBehind}
 use Rattle.names.specs.Names.{chain}
 use Rattle.names.proofs.Sure.{On, Read, Reads, Sure, SureAll, Reader, look-sure, when-sure, then-sure, behind-sure}
 use Rattle.names.proofs.Parts.{at-token, chain-from, from-first, sooner}
-use Rattle.types.specs.Types.{bracketed, withArguments, named, brackets, reference, function, typeOver, readType}
-
--- an outer span
-pub respan-size : (s e : ℕ) (t : Tree) → length (stored (respan s e t)) ≡ length (stored t)
-unfolding respan
-respan-size s e (leaf k s₀ e₀ w) = leaf-size k s e w ∙ sym (leaf-size k s₀ e₀ w)
-respan-size s e (node k s₀ e₀ ts) = node-size k s e ts ∙ sym (node-size k s₀ e₀ ts)
-
-respan-nested : (s e : ℕ) (t : Tree) → s ≤ startOf t → endOf t ≤ e → s ≤ e → Nested t → Nested (respan s e t)
-unfolding respan Nested startOf endOf
-respan-nested s e (leaf k s₀ e₀ w) h g i n = i
-respan-nested s e (node k s₀ e₀ ts) h g i n = (i, wider ts s₀ s e₀ e h g (n .1))
-
-respan-start : (s e : ℕ) (t : Tree) → startOf (respan s e t) ≡ s
-unfolding respan startOf
-respan-start s e (leaf k s₀ e₀ w) = refl
-respan-start s e (node k s₀ e₀ ts) = refl
-
-respan-end : (s e : ℕ) (t : Tree) → endOf (respan s e t) ≡ e
-unfolding respan endOf
-respan-end s e (leaf k s₀ e₀ w) = refl
-respan-end s e (node k s₀ e₀ ts) = refl
+use Rattle.types.specs.Types.{inBrackets, bracketed, withArguments, named, brackets, reference, function, typeOver, readType}
 
 -- the result behind the arguments
 pub behind-size : (ts : Trees) (u : Tree) → length (storedAll (behind ts u)) ≡ length (storedAll ts) + length (stored u)
@@ -80,20 +59,6 @@ module _ (text : List ℕ) where
         small = omega (arith, leaf-size RecUnit s q [], p .further);
       }
 
-  single-read : (at s e : ℕ) (x : Tree) (q : ℕ) (u : List ℕ) → at ≤ s → s < e → Reads text e (more x none) q u → Read text 0 at (respan s q x) q u
-  unfolding Within
-  single-read at s e x q u f t d =
-      let o = d .order in
-      let p = d .on in
-      record {
-        on = record { rest = p .rest; further = omega (arith, p .further); inside = p .inside };
-        from = omega (arith, respan-start s q x);
-        some = omega (arith, respan-start s q x, p .further);
-        to = respan-end s q x;
-        nested = respan-nested s q x (omega (arith, o .0)) (o .1) (omega (arith, p .further)) (o .2);
-        small = omega (arith, respan-size s q x, respan-start s q x, d .small, size-more x none, size-none, p .further);
-      }
-
   -- a record of kind k over one tree alone
   pub plain : (k s : ℕ) (c : Tree) (q : ℕ) (u : List ℕ) → Read text 16 s c q u → Read text 0 s (node k s q (more c none)) q u
   unfolding startOf endOf Nested Within
@@ -122,10 +87,10 @@ module _ (text : List ℕ) where
       }
 
   -- brackets
-  bracketed-read : (at s e : ℕ) (ts : Trees) (q : ℕ) (u : List ℕ) → at ≤ s → s < e → Reads text e ts q u → Read text 0 at (bracketed s q ts) q u
+  bracketed-read : (at s e : ℕ) (ts : Trees) (q : ℕ) (u : List ℕ) → at ≤ s → s < e → Reads text e ts q u → Read text 0 at (bracketed inBrackets s q ts) q u
   unfolding bracketed
   bracketed-read at s e none q u f t d = unit-read at s e q u f t (d .on)
-  bracketed-read at s e (more x none) q u f t d = single-read at s e x q u f t d
+  bracketed-read at s e (more x none) q u f t d = node-read at RecBrackets s e (more x none) q u f t (d .order) (d .on) (d .small)
   bracketed-read at s e (more x (more y ts)) q u f t d = node-read at RecTuple s e (more x (more y ts)) q u f t (d .order) (d .on) (d .small)
 
   module _ (item : Scanned → Ans Tree) (reader : Reader text item) where
@@ -157,7 +122,7 @@ module _ (text : List ℕ) where
 
     -- behind the first token, which ends at e
     module _ (s e : ℕ) (t : s < e) (h : e ≤ length text) where
-      brackets-sure : Sure text 0 s (brackets item s e (drop e text))
+      brackets-sure : Sure text 0 s (brackets item inBrackets s e (drop e text))
       unfolding brackets
       brackets-sure =
           let a₁ : SureAll text e (listBehind item RParen s e (drop e text)) = list RParen e s (omega arith) h (omega arith) in
@@ -198,7 +163,7 @@ module _ (text : List ℕ) where
           (λ r b. subst (Sure text 0 q) b (reader q (d .on .inside)))))
           (λ r a. subst (SureAll text e) a a₁)
 
-    type-from : (at k s e : ℕ) (w r : List ℕ) → Good text at k s e w r → Sure text 0 s (typeOver item (tok k s e w r))
+    type-from : (at k s e : ℕ) (w r : List ℕ) → Good text at k s e w r → Sure text 0 s (typeOver item inBrackets (tok k s e w r))
     unfolding typeOver look
     type-from at k s e w r g =
         let some : (j : ℕ) → eqb k (suc j) ≡ true → s < e = λ j b. g .takes (omega (arith, eqb-true k (suc j) b)) in
@@ -208,9 +173,9 @@ module _ (text : List ℕ) where
         (λ _. when-sure text (Sure text 0 s) (eqb k Pipe) _ _ (λ c. rw (g .behind) (function-sure s e (some 58 c) (g .within)))
         (λ _. named-sure at k s e w r g))))
 
-    type-sure : Reader text (typeOver item)
+    type-sure : Reader text (typeOver item inBrackets)
     unfolding typeOver look
-    type-sure = from-first text 0 (typeOver item) (λ r. refl) λ at k s e w r l g. type-from at k s e w r g
+    type-sure = from-first text 0 (typeOver item inBrackets) (λ r. refl) λ at k s e w r l g. type-from at k s e w r g
 
   pub read-type-sure : (n : ℕ) → Reader text (readType n)
   unfolding readType

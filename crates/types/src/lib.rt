@@ -1,24 +1,20 @@
 // Types and lists of types.
 ghost use mathlib.Core.Path.{_≡_};
-ghost use mathlib.Core.Bool.{cond};
-ghost use mathlib.Core.List.{_++_};
-ghost use Prim.Native.Nat.{_+_, _-_, _*_, _^_, _<_, _≤_};
-ghost use lib.Dec.{eqb};
-ghost use lib.ListN.{length, drop};
-ghost use lib.Seq.{sets};
-ghost use Rattle.tokens.specs.Calls.{nextToken};
-ghost use Rattle.records.specs.Stored.{header, span, stored, storedAll};
+ghost use Prim.Native.Nat.{_<_};
+ghost use lib.ListN.{drop};
+ghost use Rattle.records.specs.Stored.{stored, storedAll};
 ghost use Rattle.words.specs.Kinds.{Greater};
 ghost use Rattle.names.specs.Reading.{listBehind};
-ghost use Rattle.names.specs.Parsed.{AtToken, AtList, scanned, follow, given, kept, put, onToken, admittedPart};
+ghost use Rattle.names.specs.Parsed.{AtToken, AtList, scanned, given, kept, put, onToken, admittedPart};
 ghost use Rattle.names.specs.Lists.{listStep, stepped, keptStep, putStep};
 ghost use Rattle.tokens.specs.Token.{lex};
-ghost use Rattle.types.specs.Types.{levels, named, brackets, reference, function, readType};
-ghost use Rattle.types.specs.Written.{closedBrackets, tupled};
+ghost use Rattle.types.specs.Types.{levels, inBrackets, named, brackets, reference, function, readType};
+ghost use Rattle.types.specs.Written.{bracketsKind};
 use names::Parsed;
 use names::Part;
 use names::Step;
 use names::Turn;
+use records::kinds::REC_BRACKETS;
 use records::kinds::REC_FUNCTION;
 use records::kinds::REC_REF;
 use records::kinds::REC_REF_MUT;
@@ -49,42 +45,18 @@ pub fn too_deep(t: Token) -> Parsed
     Parsed::Refused(tokens::refuse(TOO_DEEP, t.start, t.end))
 }
 
-// Brackets from o to q round no item, or round the one of n bytes at pos, which takes their span.
-fn close_brackets(text: &[u8], o: usize, q: usize, n: usize, out: &mut [u8], pos: usize) -> Parsed
-    requires { ⌜ pos < 2 ^ 64 - 4 ⌝ }
-    ensures answer { λ r. ⌜ r ≡ follow (cond (eqb n 0) 8 n) q (nextToken (now (text .entry)) q) ⌝ }
-    ensures bytes { λ r. ⌜ now (out .exit) ≡ closedBrackets o q n pos (now (out .entry)) ⌝ }
+// The kind of brackets by the bytes of the first item in them and of those behind it: the unit, one type, or
+// a tuple.
+fn brackets_kind(first: usize, rest: usize) -> usize
+    ensures { λ r. ⌜ r ≡ bracketsKind first rest ⌝ }
 {
-    if n == 0 {
-        records::put_header(out, pos, 8, REC_UNIT, o, q);
-        return names::finish(text, q, 8);
+    if first == 0 {
+        return REC_UNIT;
     }
-    records::put_span(out, pos + 4, o, q);
-    names::finish(text, q, n)
-}
-
-// Brackets from o on round the item of n bytes at pos and the items p behind it, if any, from pos + 8 + n on.
-fn make_tuple(o: usize, n: usize, p: Part, out: &mut [u8], pos: usize) -> Part
-    requires { ⌜ pos + n + p .len < 2 ^ 64 - 8 ⌝ }
-    ensures answer { λ r. ⌜ r ≡ record { len = cond (eqb (p .len) 0) n (n + p .len + 8); end = p .end; next = p .next } ⌝ }
-    ensures bytes { λ r. ⌜ now (out .exit) ≡ tupled o n p pos (now (out .entry)) ⌝ }
-{
-    let t = p.next;
-    if p.len == 0 {
-        records::put_span(out, pos + 4, o, p.end);
-        return Part {
-            len: n,
-            end: p.end,
-            next: t,
-        };
+    if rest == 0 {
+        return REC_BRACKETS;
     }
-    records::shift_up(out, pos, n, 8);
-    records::put_header(out, pos, n + p.len + 8, REC_TUPLE, o, p.end);
-    Part {
-        len: n + p.len + 8,
-        end: p.end,
-        next: t,
-    }
+    REC_TUPLE
 }
 
 // The type whose first token is a, where `left` levels are left, its own among them.
@@ -156,22 +128,35 @@ fn named_at(text: &[u8], a: Token, left: usize, out: &mut [u8], pos: usize) -> P
     }
 }
 
-// What stands in brackets that a opens: the unit, a type, or a tuple.
+// The brackets that a opens round none, one or more types.
 fn brackets_at(text: &[u8], a: Token, left: usize, out: &mut [u8], pos: usize) -> Parsed
     requires { ⌜ AtToken (now text) a pos ⌝ }
     requires { ⌜ a .kind ≡ 11 ⌝ }
-    ensures answer { λ r. ⌜ r ≡ given stored (brackets (readType left) (a .start) (a .end) (drop (a .end) (now (text .entry)))) ⌝ }
-    ensures bytes { λ r. ⌜ kept r (now (out .exit)) ≡ kept r (put stored pos (brackets (readType left) (a .start) (a .end) (drop (a .end) (now (text .entry)))) (now (out .entry))) ⌝ }
+    ensures answer { λ r. ⌜ r ≡ given stored (brackets (readType left) inBrackets (a .start) (a .end) (drop (a .end) (now (text .entry)))) ⌝ }
+    ensures bytes { λ r. ⌜ kept r (now (out .exit)) ≡ kept r (put stored pos (brackets (readType left) inBrackets (a .start) (a .end) (drop (a .end) (now (text .entry)))) (now (out .entry))) ⌝ }
 {
-    let s = type_step(text, a.start, a.end, R_PAREN, left, out, pos);
+    let s = type_step(text, a.start, a.end, R_PAREN, left, out, pos + 8);
     match s {
         Step::Refused(r) => Parsed::Refused(r),
-        Step::Last(n, q) => close_brackets(text, a.start, q, n, out, pos),
+        Step::Last(n, q) => {
+            let k = brackets_kind(n, 0);
+            records::put_header(out, pos, n + 8, k, a.start, q);
+            names::finish(text, q, n + 8)
+        }
         Step::Item(n, e) => {
             let l = type_list(text, a.start, e, R_PAREN, left, out, pos + 8 + n);
             match l {
                 Parsed::Refused(r) => Parsed::Refused(r),
-                Parsed::Read(p) => Parsed::Read(make_tuple(a.start, n, p, out, pos)),
+                Parsed::Read(p) => {
+                    let t = p.next;
+                    let k = brackets_kind(n, p.len);
+                    records::put_header(out, pos, n + p.len + 8, k, a.start, p.end);
+                    Parsed::Read(Part {
+                        len: n + p.len + 8,
+                        end: p.end,
+                        next: t,
+                    })
+                }
             }
         }
     }

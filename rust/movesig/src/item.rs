@@ -12,7 +12,7 @@ pub enum Kind {
     Name = 1,
     /// `@0x1`, `@a`, `1`, `1u8`, `true`, `false`, `x"00"`, `b"text"`
     Value = 2,
-    /// `a::b<T>`, `&T`, `&mut T`, `()`, `(T, U)`, `|T, U| V`
+    /// `a::b<T>`, `&T`, `&mut T`, `()`, `(T)`, `(T, U)`, `|T, U| V`
     Type = 3,
     /// `x`, or `(x, S {f: y})`
     BindList = 4,

@@ -156,6 +156,7 @@ record_kinds! {
     Function 13 "function type" "13: `|T, U| V`: types, the result last.",
     Unit 14 "unit" "14: `()`: no children and no spelling.",
     Tuple 15 "tuple" "15: `(T, U)`: two types or more.",
+    Brackets 16 "brackets" "16: `(T)`: the type in brackets.",
     Variable 20 "variable" "20: `x`; a leaf.",
     Struct 21 "struct" "21: `S {f: x}`: chain, then fields.",
     StructTyped 22 "struct with types" "22: `S<T> {f: x}`: chain, then types, then fields.",

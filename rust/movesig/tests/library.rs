@@ -164,7 +164,12 @@ fn trees() {
 
     let types = |text: &[u8]| outlined(Kind::Type, text);
     assert_eq!(types(b"( /* gap */ )"), "unit");
-    assert_eq!(types(b"&mut (u8)"), "mutable reference[type[u8]]");
+    assert_eq!(
+        types(b"&mut (u8,)"),
+        "mutable reference[brackets[type[u8]]]"
+    );
+    assert_eq!(types(b"((a))"), "brackets[brackets[type[a]]]");
+    assert_eq!(types(b"(())"), "brackets[unit]");
     assert_eq!(types(b"|u8| ()"), "function type[type[u8] unit]");
     assert_eq!(types(b"(&a, b)"), "tuple[reference[type[a]] type[b]]");
 

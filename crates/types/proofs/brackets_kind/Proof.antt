@@ -1,0 +1,19 @@
+use borrow.Author.Tests.{eq-eqb, ne-eqb}
+use Rattle.types.specs.Written.{bracketsKind}
+use Rattle.types.proofs.brackets_kind.Statement.{statement}
+use Rattle.types.proofs.brackets_kind.Tie as tie
+
+returns : tie.Need-returns
+unfolding bracketsKind
+returns c = rw (eq-eqb _ _ (c .if1 .taken))
+
+returns-2 : tie.Need-returns-2
+unfolding bracketsKind
+returns-2 c = rw (ne-eqb _ _ (c .before .if1 .left), eq-eqb _ _ (c .if2 .taken))
+
+returns-3 : tie.Need-returns-3
+unfolding bracketsKind
+returns-3 c = rw (ne-eqb _ _ (c .before .if1 .left), ne-eqb _ _ (c .if2 .left))
+
+pub brackets-kind-spec : {M : Type 1} → statement M
+brackets-kind-spec = tie.close (tie.spec returns returns-2 returns-3)
