@@ -16,8 +16,9 @@
  * - `text` points to `len` bytes that nobody writes during the call; `answer` to six numbers, aligned
  *   as uint64_t is; `out` and `line` to `room` bytes.
  * - `text`, `answer` and the buffer do not overlap.
- * - No pointer is null, also where `len` or `room` is 0; then it may be any other pointer.
- * - The stack has room for the call: 128 KB are enough (the most that was measured is about half).
+ * - `answer` is not null. `text` may be null, or any other pointer, where `len` is 0; `out` and `line` where
+ *   `room` is 0.
+ * - The stack has room for the call: MOVESIG_STACK bytes are enough, beside what the thread needs itself.
  *
  * LIMITS
  *
@@ -76,6 +77,17 @@ extern "C" {
 
 /* The most levels of an item. */
 #define MOVESIG_LEVELS 64
+
+/* Bytes of stack that are enough for any call. The most that was measured, over nests of every construct
+ * and a random search, is 111,152; this is at least a tenth more. Measured, not proved: a test holds it to
+ * what is measured. Put no buffer of MOVESIG_LONGEST bytes on the same small stack. */
+#define MOVESIG_STACK 131072
+
+/* The version of this header, by semantic versioning: before 1.0 another MINOR may change answers or
+ * calls, from then on only another MAJOR. CHANGELOG.md says what changed for a station. */
+#define MOVESIG_VERSION_MAJOR 0
+#define MOVESIG_VERSION_MINOR 2
+#define MOVESIG_VERSION (MOVESIG_VERSION_MAJOR * 65536 + MOVESIG_VERSION_MINOR)
 
 /* What a call returns. */
 enum movesig_result {
@@ -244,6 +256,24 @@ enum movesig_token {
     MOVESIG_NUM_SIGN = 66, /* # */
     MOVESIG_AT_SIGN = 67 /* @ */
 };
+
+/* Beside the calls, plain tables in C (c/names.c), which are not proved. Each string is there for good, and
+ * is "unknown" for every number that is not in the list. */
+
+/* The version of the library that was linked or loaded: MOVESIG_VERSION of its own header. */
+uint32_t movesig_version(void);
+
+/* What a call's result says, without the place: "unexpected token"; for 0 "accepted". */
+const char *movesig_reason(uint32_t refusal);
+
+/* The short name of a kind of item: "name", "value", "type", "binds" or "lambda". */
+const char *movesig_item_name(uint64_t kind);
+
+/* The name of a kind of record, for people: "one-part chain". */
+const char *movesig_record_name(uint64_t kind);
+
+/* The name of a kind of token in the Move compiler's lexer: "GreaterGreater". */
+const char *movesig_token_name(uint64_t kind);
 
 #ifdef __cplusplus
 }

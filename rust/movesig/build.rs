@@ -1,4 +1,4 @@
-//! Tells the compiler where the static library is: in the folder that MOVESIG_LIB_DIR
+//! Tells the compiler where the static library is: in the folder that `MOVESIG_LIB_DIR`
 //! names, or where the repository's `build` leaves it.
 
 use std::{env, path::Path, process::exit};

@@ -61,6 +61,7 @@ impl Answer<'_> {
 }
 
 unsafe extern "C" {
+    safe fn movesig_version() -> u32;
     fn movesig_next_token(text: *const u8, len: usize, at: usize, answer: *mut u64) -> u32;
     fn movesig_next_comment(text: *const u8, len: usize, at: usize, answer: *mut u64) -> u32;
     fn movesig_read(
@@ -81,6 +82,14 @@ unsafe extern "C" {
         room: usize,
         answer: *mut u64,
     ) -> u32;
+}
+
+/// The version of the library that is linked: major and minor, which are this crate's too unless
+/// `MOVESIG_LIB_DIR` names another library.
+#[must_use]
+pub fn library_version() -> (u32, u32) {
+    let version = movesig_version();
+    (version >> 16, version & 0xffff)
 }
 
 #[inline]

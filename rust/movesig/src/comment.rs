@@ -14,6 +14,9 @@ pub struct Comment {
 }
 
 /// The first doc comment among the blanks and comments from `at` on, up to the next token.
+///
+/// # Errors
+///
 /// Refused with 1, 2 and 6.
 ///
 /// ```
@@ -54,6 +57,7 @@ pub fn next_comment(text: &[u8], at: usize) -> Result<Option<Comment>, Refusal> 
 /// # Ok::<(), Refusal>(())
 /// ```
 #[inline]
+#[must_use]
 pub fn comments(text: &[u8], at: usize) -> Comments<'_> {
     Comments { text, at: Some(at) }
 }

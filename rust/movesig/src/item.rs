@@ -32,11 +32,13 @@ impl Kind {
 
     /// Its number in `movesig.h`.
     #[inline]
+    #[must_use]
     pub const fn number(self) -> u64 {
         self as u64
     }
 
     /// Its short name: `name`, `value`, `type`, `binds` or `lambda`.
+    #[must_use]
     pub const fn name(self) -> &'static str {
         match self {
             Kind::Name => "name",
@@ -55,6 +57,7 @@ impl Kind {
     /// assert_eq!(Kind::from_name("type"), Some(Kind::Type));
     /// assert_eq!(Kind::from_name("Type"), None);
     /// ```
+    #[must_use]
     pub fn from_name(name: &str) -> Option<Kind> {
         Kind::ALL.into_iter().find(|kind| kind.name() == name)
     }
@@ -77,8 +80,11 @@ pub struct Read<'t, 'b> {
 }
 
 /// Reads the item of the kind from `at` on into the buffer. Its tree takes the first bytes of
-/// the buffer; the others stay as they are, and all of them where the read is refused. Refused
-/// with 1, 2 and 4 to 14.
+/// the buffer; the others stay as they are, and all of them where the read is refused.
+///
+/// # Errors
+///
+/// Refused with 1, 2 and 4 to 14.
 ///
 /// ```
 /// use movesig::{read, Kind, RecordKind};
@@ -114,8 +120,11 @@ pub fn read<'t, 'b>(
 
 /// Writes the item of the kind from `at` on as one line into the buffer and gives its bytes,
 /// which are ASCII and hold no line feed. The buffer's other bytes stay as they are, and all of
-/// them where the display is refused. Refused as [`read`] is, but with 4 by the length of the
-/// line alone.
+/// them where the display is refused.
+///
+/// # Errors
+///
+/// Refused as [`read`] is, but with 4 by the length of the line alone.
 ///
 /// ```
 /// use movesig::{display, Kind};
@@ -141,6 +150,10 @@ pub fn display<'b>(
 }
 
 /// As [`display`], into a string of its own. This one allocates.
+///
+/// # Errors
+///
+/// Refused as [`display`] is with a buffer of [`LONGEST`] bytes.
 ///
 /// ```
 /// use movesig::{display_to_string, Kind};

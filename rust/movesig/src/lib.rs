@@ -15,7 +15,7 @@
 //! use movesig::{display, read, Kind, RecordKind, Refusal, LONGEST};
 //!
 //! let text = b"vector< u8 > {";
-//! let mut buffer = [0; LONGEST];
+//! let mut buffer = vec![0; LONGEST];
 //!
 //! let item = read(Kind::Type, text, 0, &mut buffer)?;
 //! assert_eq!(item.tree.kind(), RecordKind::Type);
@@ -35,6 +35,9 @@
 //!
 //! Offsets and spans count bytes from 0. Nothing is asked of the text: it need not be UTF-8.
 //!
+//! A call takes up to [`STACK`] bytes of stack. On a thread with a small one keep the buffers, of
+//! [`LONGEST`] bytes at most, elsewhere, as the `vec!` above does.
+//!
 //! All `unsafe` code stands in one module, `boundary`, which says why each call is sound.
 
 #![deny(unsafe_op_in_unsafe_fn)]
@@ -49,6 +52,7 @@ mod span;
 mod token;
 mod tree;
 
+pub use boundary::library_version;
 pub use comment::{comments, next_comment, Comment, Comments};
 pub use item::{display, display_to_string, read, Kind, Read};
 pub use refusal::Refusal;
@@ -62,3 +66,7 @@ pub const LONGEST: usize = 65_535;
 
 /// The most levels of an item.
 pub const LEVELS: usize = 64;
+
+/// Bytes of stack that are enough for any call: what was measured and at least a tenth more, as
+/// `MOVESIG_STACK` of `movesig.h`. It is measured, not proved.
+pub const STACK: usize = 131_072;

@@ -120,6 +120,7 @@ impl Refusal {
     }
 
     /// Its number.
+    #[must_use]
     pub fn number(&self) -> u32 {
         match *self {
             TextTooLong => 1,
@@ -141,6 +142,7 @@ impl Refusal {
     }
 
     /// The span that it is about: 0..0 where the caller caused it, by what was asked.
+    #[must_use]
     pub fn place(&self) -> Span {
         match *self {
             TextTooLong | StartPastEnd | NoSuchKind | NoRoom => Span::default(),
@@ -155,6 +157,7 @@ impl Refusal {
 
     /// The second span: the list's opening for 12, the number for 10 where `::` was due, else
     /// the place again.
+    #[must_use]
     pub fn second(&self) -> Span {
         match *self {
             UnexpectedToken { number, .. } => number,
@@ -165,11 +168,13 @@ impl Refusal {
     }
 
     /// Whether it was caused by what the caller asked (1 to 4) and not by the text.
+    #[must_use]
     pub fn is_by_caller(&self) -> bool {
         matches!(*self, TextTooLong | StartPastEnd | NoSuchKind | NoRoom)
     }
 
     /// What is wrong, without number and place.
+    #[must_use]
     pub fn reason(&self) -> &'static str {
         match *self {
             TextTooLong => "text over 65,535 bytes",

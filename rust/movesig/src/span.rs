@@ -20,12 +20,14 @@ impl Span {
     /// assert_eq!(span.of(b""), b"");
     /// ```
     #[inline]
+    #[must_use]
     pub fn of(self, text: &[u8]) -> &[u8] {
         text.get(self.range()).unwrap_or(&[])
     }
 
     /// The same as a range.
     #[inline]
+    #[must_use]
     pub fn range(self) -> Range<usize> {
         self.start..self.end
     }

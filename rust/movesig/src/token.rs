@@ -25,13 +25,18 @@ impl Token {
 
     /// Whether this is the end of the text.
     #[inline]
+    #[must_use]
     pub fn is_eof(self) -> bool {
         self.kind == TokenKind::EOF
     }
 }
 
 /// The next token from `at` on, behind blanks and comments; [`TokenKind::EOF`] at the end of
-/// the text. Refused with 1, 2 and 5 to 9.
+/// the text.
+///
+/// # Errors
+///
+/// Refused with 1, 2 and 5 to 9.
 ///
 /// ```
 /// use movesig::{next_token, Span, TokenKind};
@@ -72,6 +77,7 @@ pub fn next_token(text: &[u8], at: usize) -> Result<Token, Refusal> {
 /// # Ok::<(), Refusal>(())
 /// ```
 #[inline]
+#[must_use]
 pub fn tokens(text: &[u8], at: usize) -> Tokens<'_> {
     Tokens { text, at: Some(at) }
 }
@@ -197,17 +203,20 @@ token_kinds! {
 
 impl TokenKind {
     /// The kind with this number, from 0 to 67.
+    #[must_use]
     pub fn from_number(number: u8) -> Option<TokenKind> {
         (usize::from(number) < NAMES.len()).then_some(TokenKind(number))
     }
 
     /// Its number.
     #[inline]
+    #[must_use]
     pub const fn number(self) -> u8 {
         self.0
     }
 
     /// Its name in the Move compiler's lexer.
+    #[must_use]
     pub fn name(self) -> &'static str {
         NAMES.get(self.0 as usize).copied().unwrap_or("unknown")
     }

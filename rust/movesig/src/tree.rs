@@ -21,11 +21,13 @@ impl<'t, 'b> Tree<'t, 'b> {
     }
 
     /// What it is.
+    #[must_use]
     pub fn kind(self) -> RecordKind {
         RecordKind::new(two_bytes(self.bytes, 2))
     }
 
     /// Where it stands in the text.
+    #[must_use]
     pub fn span(self) -> Span {
         Span {
             start: two_bytes(self.bytes, 4).into(),
@@ -34,17 +36,20 @@ impl<'t, 'b> Tree<'t, 'b> {
     }
 
     /// Its bytes in the text, from its first token to its last, with the gaps between.
+    #[must_use]
     pub fn text(self) -> &'t [u8] {
         self.span().of(self.text)
     }
 
     /// The spelling of a leaf: its token's bytes. None for what has children, and for the unit,
     /// which has no spelling, whatever gap its brackets hold.
+    #[must_use]
     pub fn spelling(self) -> Option<&'t [u8]> {
         self.kind().is_spelled().then(|| self.text())
     }
 
     /// Its children, in order.
+    #[must_use]
     pub fn children(self) -> Children<'t, 'b> {
         Children {
             text: self.text,
@@ -53,6 +58,7 @@ impl<'t, 'b> Tree<'t, 'b> {
     }
 
     /// The record as it is stored, with its children.
+    #[must_use]
     pub fn as_bytes(self) -> &'b [u8] {
         self.bytes
     }
@@ -173,6 +179,7 @@ record_kinds! {
 
 impl RecordKind {
     /// Whether it is a leaf with a spelling.
+    #[must_use]
     pub fn is_spelled(self) -> bool {
         matches!(self.number(), 1..=3 | 20 | 31..=35)
     }

@@ -1,8 +1,11 @@
 /* Asks the calls about random texts between pages that can be neither read nor written, so that a
  * byte read or written outside of what was lent ends the program. The text cannot be written
- * during a call, and all other bytes near the buffer and the six numbers must stay as they are.
- * Built with -fsanitize=address,undefined by the tests, and run on random numbers that are always
- * the same. */
+ * during a call, and all other bytes near the buffer and the six numbers must stay as they are. Where
+ * a length is 0, half of the pointers are null. Built with -fsanitize=address,undefined by the tests,
+ * as C and as C++, and run on random numbers that are always the same.
+ *
+ *     boundary [ROUNDS]
+ */
 #define _DEFAULT_SOURCE
 #include <movesig.h>
 #include <stdio.h>
@@ -146,21 +149,26 @@ static void unchanged(const uint8_t *from, const uint8_t *to, uint8_t fill, cons
             fail(what);
 }
 
-int main(void)
+int main(int count, char **given)
 {
     static uint8_t made[70000];
     struct region texts = region_of(65600), buffers = region_of(65600), numbers = region_of(48);
-    size_t accepted = 0, refused = 0;
-    int round, call;
-    for (round = 0; round < ROUNDS; round++) {
+    size_t accepted = 0, refused = 0, nulls = 0, round, rounds = ROUNDS;
+    int call;
+    if (count > 1)
+        rounds = (size_t)atol(given[1]);
+    for (round = 0; round < rounds; round++) {
         size_t len = make_text(made, 400), at = some_offset(len), room = some_room();
         uint64_t kind = some_kind();
-        uint8_t *text = lend(texts, len);
-        memcpy(text, made, len);
+        uint8_t *lent_text = lend(texts, len);
+        const uint8_t *text = len == 0 && below(2) ? NULL : lent_text;
+        memcpy(lent_text, made, len);
+        nulls += text == NULL;
         if (mprotect(texts.bytes, texts.length, PROT_READ) != 0)
             fail("the text cannot be shut");
         for (call = 0; call < 4; call++) {
             uint8_t fill = (uint8_t)random_number(), *out = lend(buffers, room);
+            uint8_t *buffer = room == 0 && below(2) ? NULL : out;
             uint8_t *lent = lend(numbers, 6 * sizeof(uint64_t));
             uint64_t *answer = (uint64_t *)(void *)lent;
             uint8_t *low = out - buffers.bytes < 64 ? buffers.bytes : out - 64;
@@ -178,12 +186,13 @@ int main(void)
                 number = movesig_next_comment(text, len, at, answer);
                 break;
             case 2:
-                number = movesig_read(kind, text, len, at, out, room, answer);
+                number = movesig_read(kind, text, len, at, buffer, room, answer);
                 break;
             default:
-                number = movesig_display(kind, text, len, at, out, room, answer);
+                number = movesig_display(kind, text, len, at, buffer, room, answer);
                 break;
             }
+            nulls += call >= 2 && buffer == NULL;
             if (number > 14)
                 fail("a number that is no refusal");
             if (number == 0)
@@ -205,8 +214,9 @@ int main(void)
         if (mprotect(texts.bytes, texts.length, PROT_READ | PROT_WRITE) != 0)
             fail("the text cannot be opened");
     }
-    printf("%lu accepted, %lu refused\n", (unsigned long)accepted, (unsigned long)refused);
-    if (accepted < ROUNDS || refused < ROUNDS)
-        fail("too few of either");
+    printf("%lu accepted, %lu refused, %lu null pointers\n", (unsigned long)accepted, (unsigned long)refused,
+           (unsigned long)nulls);
+    if (accepted < rounds || refused < rounds || nulls < rounds / 20)
+        fail("too few of them");
     return 0;
 }

@@ -1,7 +1,8 @@
 //! The header and the library from C and C++: the example, random calls between guarded pages
-//! under the sanitizers, and the stack that the calls take. Each needs gcc or g++, and says so
-//! where it is not there.
+//! under the sanitizers, the names behind the numbers, and the stack that the calls take. Each
+//! needs gcc or g++, and says so where it is not there.
 
+use movesig::{Kind, RecordKind, TokenKind};
 use std::{
     fs,
     path::{Path, PathBuf},
@@ -88,13 +89,72 @@ fn example() {
 
 #[test]
 fn random_calls_under_sanitizers() {
+    for (name, language, standard, rounds) in [
+        ("gcc", "c", "-std=c99", "150000"),
+        ("g++", "c++", "-std=c++11", "10000"),
+    ] {
+        let Some(mut compiler) = compiler(name) else {
+            continue;
+        };
+        compiler.args([standard, "-g", "-O1", "-fno-sanitize-recover=all"]);
+        compiler.arg("-fsanitize=address,undefined");
+        let source = tests().join("boundary.c");
+        let program = program(&format!("boundary-{name}"), compiler, language, &source);
+        run(Command::new(program).arg(rounds));
+    }
+}
+
+/// The names in C are those of the crate.
+#[test]
+fn names() {
     let Some(mut compiler) = compiler("gcc") else {
         return;
     };
-    compiler.args(["-std=c99", "-g", "-O1", "-fno-sanitize-recover=all"]);
-    compiler.arg("-fsanitize=address,undefined");
-    let program = program("boundary", compiler, "c", &tests().join("boundary.c"));
-    run(&mut Command::new(program));
+    let source = Path::new(env!("CARGO_TARGET_TMPDIR")).join("names.c");
+    let code = r#"
+        #include <movesig.h>
+        #include <stdio.h>
+        int main(void)
+        {
+            unsigned number;
+            printf("%d %d\n", movesig_version() == MOVESIG_VERSION, MOVESIG_STACK);
+            for (number = 0; number < 300; number++)
+                printf("%s; %s; %s; %s\n", movesig_reason(number), movesig_item_name(number),
+                       movesig_record_name(number), movesig_token_name(number));
+            return 0;
+        }"#;
+    fs::write(&source, code).expect("written");
+    compiler.arg("-std=c99");
+    let output = run(&mut Command::new(program("names", compiler, "c", &source)));
+    let output = String::from_utf8(output.stdout).expect("UTF-8");
+    let mut lines = output.lines();
+    assert_eq!(lines.next(), Some(&*format!("1 {}", movesig::STACK)));
+    // the crate's reasons stand in the order of their numbers
+    let reasons = include_str!("../src/refusal.rs").lines();
+    let reasons = reasons.filter_map(|line| line.trim().strip_suffix("\","));
+    let reasons: Vec<&str> = reasons
+        .filter_map(|line| line.split("=> \"").nth(1))
+        .collect();
+    for (number, line) in lines.enumerate() {
+        let kind = Kind::ALL.iter().find(|kind| kind.number() == number as u64);
+        let records = RecordKind::ALL.iter();
+        let record = records
+            .clone()
+            .find(|kind| usize::from(kind.number()) == number);
+        let token = u8::try_from(number).ok().and_then(TokenKind::from_number);
+        let names = [
+            kind.map_or("unknown", |kind| kind.name()),
+            record.map_or("unknown", |kind| kind.name()),
+            token.map_or("unknown", TokenKind::name),
+        ];
+        let (reason, others) = line.split_once("; ").expect("four names");
+        assert_eq!(others, names.join("; "));
+        match number {
+            0 => assert_eq!(reason, "accepted"),
+            1..=14 => assert_eq!(reason, reasons[number - 1]),
+            _ => assert_eq!(reason, "unknown"),
+        }
+    }
 }
 
 #[test]
@@ -104,5 +164,7 @@ fn stack() {
     };
     compiler.args(["-std=c11", "-O1", "-pthread"]);
     let program = program("stack", compiler, "c", &tests().join("stack.c"));
-    run(&mut Command::new(program));
+    let output = Command::new(program).output().expect("it can be run");
+    let said = String::from_utf8_lossy(&output.stdout);
+    assert!(output.status.success(), "{said}");
 }

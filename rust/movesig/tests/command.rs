@@ -47,12 +47,19 @@ fn movesig(text: &[u8], words: &str) -> Said {
     fs::write(folder.join("f.move"), text).expect("written");
     let mut command = Command::new(MOVESIG);
     command.args(words.split(' ')).current_dir(folder);
-    run(&mut command, b"")
+    run(command.env_remove("COLUMNS"), b"")
 }
 
+/// Standard output where nothing is written to standard error but the token that follows a line.
 fn accepted(text: &[u8], words: &str) -> String {
     let (status, output, errors) = movesig(text, words);
-    assert_eq!((status, errors.as_str()), (0, ""), "{words}");
+    assert_eq!(status, 0, "{words}: {errors}");
+    let told = words.starts_with("line ") && errors.starts_with("followed by ");
+    assert_eq!(
+        errors.lines().count(),
+        usize::from(told),
+        "{words}: {errors}"
+    );
     output
 }
 
@@ -78,7 +85,7 @@ fn tokens() {
     assert_eq!((status, output.as_str()), (1, "0..1  Identifier  a\n"));
     assert_eq!(
         errors,
-        "f.move:2:3: refused 5: no token starts with this byte\n\
+        "f.move:2:3 (byte 4): refused 5: no token starts with this byte\n\
          2 |   $\n  \
            |   ^ byte 0x24\n"
     );
@@ -91,16 +98,19 @@ fn comments() {
             b"/// one\r\nfun f(/** two\n * lines */ x)",
             "comments f.move"
         ),
-        "0..8\n  | one\n15..34\n  | two\n  | * lines \n"
+        "0..8    1:1  | one\n\
+         15..34  2:7  | two\n             \
+                      | * lines \n"
     );
     let (status, output, errors) = movesig(b"// plain\nfun", "comments f.move");
     assert_eq!((status, output.as_str()), (0, ""));
     assert_eq!(errors, "f.move: no doc comments\n");
     let (status, output, errors) = movesig(b"/// a\n/** b", "comments f.move");
-    assert_eq!((status, output.as_str()), (1, "0..5\n  | a\n"));
+    assert_eq!((status, output.as_str()), (1, "0..5  1:1  | a\n"));
     assert_eq!(
         errors,
-        "f.move:2:1: refused 6: block comment not closed\n2 | /** b\n  | ^^^ opened here\n"
+        "f.move:2:1 (byte 6): refused 6: block comment not closed\n\
+         2 | /** b\n  | ^^^ opened here\n"
     );
 }
 
@@ -128,30 +138,150 @@ fn trees_and_lines() {
 }
 
 #[test]
+fn places() {
+    let text = "/* é\t*/\r\n  x: &Coin,".as_bytes();
+    let line = "& Coin\n";
+    for place in ["15", "2:6", "000015"] {
+        assert_eq!(accepted(text, &format!("line type f.move {place}")), line);
+    }
+    // what a refusal tells can be typed in again
+    let (_, _, errors) = movesig(text, "line type f.move 2:11");
+    assert!(
+        errors.starts_with("f.move:2:11 (byte 20): refused 10: "),
+        "{errors}"
+    );
+    let (_, _, again) = movesig(text, "line type f.move 20");
+    assert_eq!(errors, again);
+    let (status, output, errors) = movesig(text, "line type f.move 2:12");
+    assert_eq!((status, output.as_str()), (1, ""), "the end of the text");
+    assert!(errors.starts_with("f.move:2:12 (byte 21): "), "{errors}");
+    for (place, why) in [
+        ("3:1", "the text ends in line 2"),
+        ("2:13", "line 2 ends at column 12"),
+        ("1:99999999999999999999999", "line 1 ends at column 9"),
+    ] {
+        let (status, output, errors) = movesig(text, &format!("read type f.move {place}"));
+        assert_eq!((status, output.as_str()), (2, ""));
+        let place = place.replace("99999999999999999999999", &usize::MAX.to_string());
+        assert_eq!(
+            errors,
+            format!("movesig: f.move: no such place: {place}: {why}\n")
+        );
+    }
+}
+
+#[test]
 fn two_places() {
     assert_eq!(
         refused(b"(u8", "line type f.move"),
-        "f.move:1:4: refused 12: list neither continued nor closed\n\
+        "f.move:1:4 (byte 3): refused 12: list neither continued nor closed: \
+         found the end of the text where `,` or `)` was due\n\
          1 | (u8\n  \
-           |    ^ the text ends here\n  \
-           | ^ the list begins here\n"
+           | -  ^ `,` or `)` was due\n  \
+           | the list begins here\n"
     );
     assert_eq!(
         refused(b"0x1 a", "read name f.move"),
-        "f.move:1:5: refused 10: unexpected token\n\
+        "f.move:1:5 (byte 4): refused 10: unexpected token: \
+         found `a` where `::` behind a number was due\n\
          1 | 0x1 a\n  \
-           |     ^ `::` was due here\n  \
-           | ^^^ behind this number\n"
+           | --- ^ `::` behind a number was due\n  \
+           | the number\n"
     );
     let text = b"\n\n(u8,\n\n\n\n\n\n\n\tb\n\tc)";
     assert_eq!(
         refused(text, "read type f.move"),
-        "f.move:11:2: refused 12: list neither continued nor closed\n\
+        "f.move:11:2 (byte 17): refused 12: list neither continued nor closed: \
+         found `c` where `,` or `)` was due\n\
          11 |     c)\n   \
-            |     ^ a comma or the list's end was due\n \
+            |     ^ `,` or `)` was due\n \
           3 | (u8,\n   \
-            | ^ the list begins here\n"
+            | - the list begins here\n"
     );
+}
+
+/// What was found and what could have stood there.
+#[test]
+fn what_was_due() {
+    let told = |kind: &str, text: &str| {
+        let errors = refused(text.as_bytes(), &format!("line {kind} f.move"));
+        let first = errors.lines().next().expect("a line");
+        let (_, told) = first.split_once(": found ").expect("what was found");
+        told.strip_suffix(" was due")
+            .expect("what was due")
+            .to_string()
+    };
+    assert_eq!(told("type", ","), "`,` where a type");
+    assert_eq!(told("type", ""), "the end of the text where a type");
+    assert_eq!(told("type", "&,"), "`,` where a type");
+    assert_eq!(told("type", "(u8,,"), "`,` where a type or `)`");
+    assert_eq!(told("type", "a::/* */&"), "`&` where a name behind `::`");
+    assert_eq!(told("type", "a<b<c>=>"), "`>=` where `,` or `>`");
+    assert_eq!(
+        told("type", "&mut\n::"),
+        "the end of the text where a name behind `::`"
+    );
+    assert_eq!(told("type", "| |)"), "`)` where a type");
+    assert_eq!(told("name", "0x1::M::("), "`(` where a name behind `::`");
+    assert_eq!(told("name", "fun"), "`fun` where a name");
+    assert_eq!(told("value", "fun"), "`fun` where a value");
+    assert_eq!(told("value", "@fun"), "`fun` where a name");
+    assert_eq!(told("binds", "fun"), "`fun` where a name or `(`");
+    assert_eq!(told("binds", "S<u8> x"), "`x` where `{`");
+    assert_eq!(told("binds", "a::S x"), "`x` where `::`, `{` or `<`");
+    assert_eq!(told("binds", "S{f, 1"), "`1` where an identifier or `}`");
+    assert_eq!(told("binds", "(S{f: 1u8"), "`1u8` where a name");
+    assert_eq!(told("lambda", "x"), "`x` where `|`");
+    let long = format!("({}", "u8, ".repeat(16_380));
+    assert_eq!(
+        told("type", &long),
+        "the end of the text where a type or `)`"
+    );
+    // no token can be put behind it
+    let errors = refused(format!("{long}u8, u8, ").as_bytes(), "line type f.move");
+    assert!(
+        errors.contains("unexpected token: found the end of the text\n"),
+        "{errors}"
+    );
+}
+
+/// What looks right and is not is noted.
+#[test]
+fn notes() {
+    let noted = |text: &[u8], words: &str| {
+        let (status, output, errors) = movesig(text, words);
+        let note = errors
+            .split_once(": note: ")
+            .map(|(_, note)| note.to_string());
+        (status, output, note.unwrap_or_default())
+    };
+    let note = |output: &str, note: &str| (0, output.to_string(), note.to_string());
+    assert_eq!(
+        noted(b"&mut\nu8", "line type f.move"),
+        note(
+            "& mut\n",
+            "`&mut` without a space behind it is `&` and a type named `mut`\n"
+        )
+    );
+    assert_eq!(noted(b"& mut", "line type f.move"), note("& mut\n", ""));
+    assert_eq!(
+        noted(b"vector<u8>", "line type f.move 3"),
+        note("tor<u8>\n", "the offset is inside the token `vector`\n")
+    );
+    let comment = "the offset is inside a comment\n";
+    let text = b"/* /* a */ b */ c // d";
+    assert_eq!(noted(text, "line type f.move 10"), note("b\n", comment));
+    assert_eq!(noted(text, "line type f.move 15"), note("c\n", ""));
+    assert_eq!(noted(text, "line name f.move 21"), note("d\n", comment));
+    assert_eq!(
+        noted(b"&mut u8", "line type f.move 4"),
+        note("u8\n", "the offset is inside the token `&mut `\n")
+    );
+    // a refusal too
+    let (status, _, words) = noted(text, "line type f.move 1");
+    assert_eq!((status, words.as_str()), (1, comment));
+    let (_, _, errors) = movesig(b"a<b>,", "line type f.move");
+    assert_eq!(errors, "followed by Comma 4..5  ,\n");
 }
 
 #[test]
@@ -163,24 +293,30 @@ fn every_reason() {
     let value = |text: &[u8]| first(text, "line value f.move");
     assert_eq!(
         value(b"x\"00"),
-        "f.move:1:1: refused 7: hex string without closing quote in its line"
+        "f.move:1:1 (byte 0): refused 7: hex string without closing quote in its line"
     );
     assert_eq!(
         value(b"b\"a\n\""),
-        "f.move:1:1: refused 8: byte string without closing quote in its line"
+        "f.move:1:1 (byte 0): refused 8: byte string without closing quote in its line"
     );
     assert_eq!(
         value("b\"aé\"".as_bytes()),
-        "f.move:1:4: refused 9: byte of 128 or more in a string"
+        "f.move:1:4 (byte 3): refused 9: byte of 128 or more in a string"
     );
-    assert_eq!(value(b"fun"), "f.move:1:1: refused 13: no value here");
+    let no_value =
+        "f.move:1:1 (byte 0): refused 13: no value here: found `fun` where a value was due";
+    assert_eq!(value(b"fun"), no_value);
     let types = |text: &[u8]| first(text, "line type f.move");
     assert_eq!(
         types(b"(,"),
-        "f.move:1:2: refused 11: comma where a list item was due"
+        "f.move:1:2 (byte 1): refused 11: comma where a list item was due: \
+         found `,` where a type or `)` was due"
     );
     let deep = [b'('; 70];
-    assert_eq!(types(&deep), "f.move:1:65: refused 14: more than 64 levels");
+    assert_eq!(
+        types(&deep),
+        "f.move:1:65 (byte 64): refused 14: more than 64 levels"
+    );
     let wide = format!("({})", "a,".repeat(30_000));
     let error = first(wide.as_bytes(), "line type f.move");
     assert_eq!(error, "f.move: refused 4: line over 65535 bytes");
@@ -195,7 +331,8 @@ fn empty_file() {
     assert_eq!((status, errors.as_str()), (0, "f.move: no doc comments\n"));
     assert_eq!(
         refused(b"", "read type f.move"),
-        "f.move:1:1: refused 10: unexpected token\n1 |\n  | ^ the text ends here\n"
+        "f.move:1:1 (byte 0): refused 10: unexpected token: \
+         found the end of the text where a type was due\n1 |\n  | ^ a type was due\n"
     );
 }
 
@@ -204,7 +341,7 @@ fn long_files_and_far_offsets() {
     let longest = vec![b' '; 65_535];
     assert_eq!(accepted(&longest, "tokens f.move"), "65535..65535  EOF\n");
     let too_long = vec![b' '; 65_536];
-    let error = "f.move: refused 1: text over 65,535 bytes\n";
+    let error = "f.move: refused 1: text over 65,535 bytes: it has 65536\n";
     assert_eq!(refused(&too_long, "tokens f.move"), error);
     assert_eq!(refused(&too_long, "comments f.move"), error);
     assert_eq!(refused(&too_long, "read type f.move 3"), error);
@@ -217,7 +354,10 @@ fn long_files_and_far_offsets() {
         assert_eq!(refused(b"u8", words), error);
     }
     let (_, _, errors) = movesig(b"u8", "line type f.move 2");
-    assert!(errors.starts_with("f.move:1:3: refused 10: "), "{errors}");
+    assert!(
+        errors.starts_with("f.move:1:3 (byte 2): refused 10: "),
+        "{errors}"
+    );
 }
 
 #[test]
@@ -230,21 +370,21 @@ fn hostile_bytes() {
     let text = b"/* \r \xe2\x80\xae \xff\xfe \x00 */ ?\r\n";
     assert_eq!(
         refused(text, "read type f.move"),
-        "f.move:1:16: refused 5: no token starts with this byte\n\
+        "f.move:1:16 (byte 17): refused 5: no token starts with this byte\n\
          1 | /* \\x0d \\u{202e} \\xff\\xfe \\x00 */ ?\n  \
            |                                   ^ byte 0x3f\n"
     );
     // wide characters, a tab, a character of one column
     assert_eq!(
         refused("/* 한글\té */ ?".as_bytes(), "read type f.move"),
-        "f.move:1:12: refused 5: no token starts with this byte\n\
+        "f.move:1:12 (byte 16): refused 5: no token starts with this byte\n\
          1 | /* 한글    é */ ?\n  \
            |                 ^ byte 0x3f\n"
     );
     // from the middle of a character
     assert_eq!(
         refused("한".as_bytes(), "read type f.move 1"),
-        "f.move:1:1: refused 5: no token starts with this byte\n1 | 한\n  | ^^ byte 0x95\n"
+        "f.move:1:1 (byte 1): refused 5: no token starts with this byte\n1 | 한\n  | ^^ byte 0x95\n"
     );
 }
 
@@ -266,10 +406,57 @@ fn binary_files() {
             assert!(status == 0 || status == 1, "{words}: {status}, {errors}");
             let shown = |text: &str| text.chars().all(|c| c == '\n' || !c.is_control());
             assert!(shown(&output) && shown(&errors), "{words}: {errors}");
-            assert!(errors.lines().all(|line| line.chars().count() < 150));
+            assert!(errors.lines().all(|line| line.chars().count() < 200));
             assert_eq!(status == 1, errors.contains(": refused "), "{errors}");
         }
     }
+}
+
+/// Letters are shown, and what can deceive is not.
+#[test]
+fn scripts() {
+    let shown = |text: &str| {
+        let output = accepted(format!("///{text}").as_bytes(), "comments f.move");
+        let (_, shown) = output.split_once('|').expect("the text");
+        shown.trim_end_matches('\n').to_string()
+    };
+    for text in [
+        "Ելք, ქართული, हिन्दी, ภาษาไทย, العربية, עִבְרִית",
+        "日本語 中文 한글, ελληνικά, русский",
+        "🎉 ❤️ 👨‍👩‍👧 👍🏽, e\u{301}",
+    ] {
+        assert_eq!(shown(text), text);
+    }
+    for (text, escaped) in [
+        ("a\u{202e}b\u{2066}", "a\\u{202e}b\\u{2066}"),
+        ("a\u{200b}\u{200d}\u{ad}", "a\\u{200b}\\u{200d}\\u{ad}"),
+        ("a\u{fe0f}\u{3164}\u{2800}", "a\\u{fe0f}\\u{3164}\\u{2800}"),
+        (
+            "\u{378}\u{e000}\u{a0}\u{85}",
+            "\\u{378}\\u{e000}\\u{a0}\\u{85}",
+        ),
+        ("=\u{338}", "=\\u{338}"),
+        (
+            "a\u{301}\u{301}\u{301}\u{301}\u{301}",
+            "a\u{301}\u{301}\u{301}\u{301}\\u{301}",
+        ),
+    ] {
+        assert_eq!(shown(text), escaped);
+    }
+    // where widths are not certain, the marks stand below a line of which they are
+    assert_eq!(
+        refused("/* שלום 🎉 */ ?".as_bytes(), "read type f.move"),
+        "f.move:1:14 (byte 20): refused 5: no token starts with this byte\n\
+         1 | /* שלום 🎉 */ ?\n  \
+           | /* \\u{5e9}\\u{5dc}\\u{5d5}\\u{5dd} \\u{1f389} */ ?\n  \
+           |                                              ^ byte 0x3f\n"
+    );
+    assert_eq!(
+        refused("\u{feff}fun".as_bytes(), "tokens f.move"),
+        "f.move:1:1 (byte 0): refused 5: no token starts with this byte\n\
+         1 | \\u{feff}fun\n  \
+           | ^^^^^^^^ a byte order mark: Move has none\n"
+    );
 }
 
 #[test]
@@ -277,50 +464,240 @@ fn long_lines() {
     let text = format!("({}b c{})", "a, ".repeat(300), ", d".repeat(300));
     assert_eq!(
         refused(text.as_bytes(), "read type f.move"),
-        "f.move:1:904: refused 12: list neither continued nor closed\n\
-         1 | ...a, a, a, a, a, a, a, a, a, a, b c, d, d, d, d, d, d, d, d, d, d,...\n  \
-           |                                    ^ a comma or the list's end was due\n\
-         1 | (a, a, a, a, a, a, a, a, a, a, a, a, a, a, a, a, a, a, a, a, a, ...\n  \
-           | ^ the list begins here\n"
+        "f.move:1:904 (byte 903): refused 12: list neither continued nor closed: \
+         found `c` where `,` or `)` was due\n\
+         1 | ..., a, a, a, a, a, a, a, a, a, a, b c, d, d, d, d, d, d, d, d, d, d, d,...\n  \
+           |                                      ^ `,` or `)` was due\n\
+         1 | (a, a, a, a, a, a, a, a, a, a, a, a, a, a, a, a, a, a, a, a, a, a, a,...\n  \
+           | - the list begins here\n"
     );
     let text = format!("  b\"{}", "x".repeat(60_000));
     let errors = refused(text.as_bytes(), "line value f.move");
     let lines: Vec<&str> = errors.lines().collect();
-    assert_eq!(lines[1], format!("1 | ...b\"{}...", "x".repeat(62)));
-    assert_eq!(lines[2], format!("  |    {}", "^".repeat(64)));
+    assert_eq!(lines[1], format!("1 | ...b\"{}...", "x".repeat(67)));
+    assert_eq!(lines[2], format!("  |    {}", "^".repeat(69)));
+    // a long name is cut, but not in the item's line
+    let name = "x".repeat(65_535);
+    let cut = format!("{}... (65535 bytes)", "x".repeat(100));
+    let output = accepted(name.as_bytes(), "tokens f.move");
+    assert!(output.starts_with(&format!("0..65535      Identifier  {cut}\n")));
+    assert!(accepted(name.as_bytes(), "read name f.move").contains(&cut));
+    assert_eq!(accepted(name.as_bytes(), "line name f.move"), name + "\n");
 }
 
-/// Whatever the text, what is shown of it stands on a screen of 80 columns.
+/// Whatever the text, what is shown of it stands on the screen.
 #[test]
 fn nothing_is_wider_than_a_screen() {
-    for length in (0..400).step_by(7) {
-        for text in [
+    let folder = folder("screens");
+    for length in (0..400).step_by(13) {
+        for (number, text) in [
             format!("{}({}b c", "\n".repeat(20_000), "a,".repeat(length)),
             format!("{}({}b", " ".repeat(length), "a,".repeat(90)),
             format!("{}1{}x", " ".repeat(length), " ".repeat(length)),
             format!("{}{}$", "\t".repeat(length % 30), " ".repeat(length)),
-        ] {
-            let errors = refused(text.as_bytes(), "read type f.move");
-            let widest = errors.lines().map(|line| line.chars().count()).max();
-            assert!(widest < Some(80), "{errors}");
+            format!("/*{}*/ $", "ש".repeat(length)),
+        ]
+        .into_iter()
+        .enumerate()
+        {
+            fs::write(folder.join("f.move"), &text).expect("written");
+            let columns = [40, 80, 200][(length + number) % 3];
+            let mut command = Command::new(MOVESIG);
+            command
+                .args(["read", "type", "f.move"])
+                .current_dir(&folder);
+            let (status, _, errors) = run(command.env("COLUMNS", columns.to_string()), b"");
+            assert_eq!(status, 1);
+            // behind the first line, which tells what is wrong
+            let widest = errors
+                .lines()
+                .skip(1)
+                .map(|line| line.chars().count())
+                .max();
+            assert!(widest < Some(columns), "{errors}");
         }
     }
+}
+
+#[test]
+fn several_files() {
+    let folder = folder("several");
+    fs::write(folder.join("a"), "/// one\nx: u8").expect("written");
+    fs::write(folder.join("b"), "y: (u8").expect("written");
+    let said = |words: &str| {
+        let mut command = Command::new(MOVESIG);
+        run(
+            command.args(words.split(' ')).current_dir(&folder),
+            b"z: bool",
+        )
+    };
+    let (status, output, errors) = said("line type a 2:3 b 2 - 2 nothing");
+    assert_eq!(status, 2);
+    assert_eq!(output, "a: u8\n<stdin>: bool\n");
+    let lines: Vec<&str> = errors.lines().collect();
+    assert_eq!(lines[0], "a: followed by EOF 13..13");
+    assert!(lines[1].starts_with("b:1:7 (byte 6): refused 12: "));
+    assert_eq!(lines[5], "<stdin>: followed by EOF 7..7");
+    assert_eq!(lines[6], "movesig: nothing: no such file");
+    let (status, output, errors) = said("comments b a");
+    assert_eq!((status, errors.as_str()), (0, "b: no doc comments\n"));
+    assert_eq!(output, "a: 0..7  1:1  | one\n");
+    assert_eq!(said("tokens b a").1.lines().count(), 5 + 4);
+}
+
+#[test]
+fn for_machines() {
+    let text = b"/// \xff\"\\\x1b\xe2\x82\xac\nfun f(x: &mut\nu8) $";
+    let (status, output, errors) = movesig(text, "--json tokens f.move");
+    assert_eq!((status, errors.as_str()), (1, ""));
+    let lines: Vec<&str> = output.lines().collect();
+    assert_eq!(lines.len(), 10);
+    assert_eq!(
+        lines[0],
+        r#"{"file":"f.move","token":"Fun","number":62,"start":12,"end":15,"line":2,"column":1,"text":"fun"}"#
+    );
+    assert_eq!(
+        lines[9],
+        r#"{"file":"f.move","refused":5,"reason":"no token starts with this byte","start":30,"end":30,"line":3,"column":5}"#
+    );
+    assert_eq!(
+        movesig(text, "comments --json f.move").1.lines().next(),
+        Some(
+            r#"{"file":"f.move","comment":" \ufffd\"\\\u001b\u20ac","start":0,"end":11,"line":1,"column":1,"text_start":3,"text_end":11}"#
+        )
+    );
+    assert_eq!(
+        accepted(text, "--json read type f.move 2:9"),
+        concat!(
+            r#"{"file":"f.move","item":"type","at":20,"tree":{"record":"reference","number":11,"start":21,"end":25,"children":["#,
+            r#"{"record":"type","number":10,"start":22,"end":25,"children":["#,
+            r#"{"record":"one-part chain","number":3,"start":22,"end":25,"text":"mut","children":[]}]}]},"#,
+            r#""next":{"token":"Identifier","number":4,"start":26,"end":28,"text":"u8"},"#,
+            r#""notes":[{"at":21,"note":"`&mut` without a space behind it is `&` and a type named `mut`"}]}"#,
+            "\n"
+        )
+    );
+    assert_eq!(
+        accepted(b"a < b >", "--json line type f.move"),
+        concat!(
+            r#"{"file":"f.move","item":"type","at":0,"shown":"a<b>","#,
+            r#""next":{"token":"EOF","number":0,"start":7,"end":7,"text":""},"notes":[]}"#,
+            "\n"
+        )
+    );
+    // the help names each key
+    let (_, help, _) = run(Command::new(MOVESIG).arg("help"), b"");
+    for words in ["tokens", "comments", "read type", "line type"] {
+        for text in [&b"/// a\n(u8, b)"[..], b"(u8", b"$"] {
+            let (_, output, _) = movesig(text, &format!("--json {words} f.move"));
+            let keys = output
+                .split("\":")
+                .filter_map(|part| part.rsplit('"').next());
+            for key in keys.filter(|key| !key.is_empty() && !key.ends_with('\n')) {
+                assert!(help.contains(key), "{key}");
+            }
+        }
+    }
+    let refusals = |words: &str, length: usize| {
+        let (status, output, errors) = movesig(&vec![b' '; length], words);
+        assert_eq!((status > 0, errors.as_str()), (true, ""));
+        output
+    };
+    assert_eq!(
+        refusals("--json tokens f.move", 70_000),
+        "{\"file\":\"f.move\",\"refused\":1,\"reason\":\"text over 65,535 bytes\",\
+         \"length\":70000,\"limit\":65535}\n"
+    );
+    assert_eq!(
+        refusals("--json line type f.move 9", 3),
+        "{\"file\":\"f.move\",\"item\":\"type\",\"at\":9,\"refused\":2,\
+         \"reason\":\"start past the text's end\",\"length\":3,\"limit\":65535}\n"
+    );
+    assert_eq!(
+        refusals("--json line type f.move 9:9", 3),
+        "{\"file\":\"f.move\",\"error\":\"no such place: 9:9: the text ends in line 1\"}\n"
+    );
+    assert_eq!(
+        movesig(b"(u8", "--json read type f.move").1,
+        concat!(
+            r#"{"file":"f.move","item":"type","at":0,"refused":12,"reason":"list neither continued nor closed","#,
+            r#""start":3,"end":3,"line":1,"column":4,"second":{"start":0,"end":0,"line":1,"column":1},"#,
+            r#""found":{"token":"EOF","number":0,"start":3,"end":3,"text":""},"due":["`,`","`)`"],"notes":[]}"#,
+            "\n"
+        )
+    );
+}
+
+/// On a terminal, and nowhere else, reports have colours.
+#[test]
+fn colours() {
+    let folder = folder("colours");
+    fs::write(folder.join("f"), "(u8").expect("written");
+    let on_terminal = |no_color: &str| {
+        let mut command = Command::new("script");
+        let line = format!("{MOVESIG} line type f");
+        command
+            .args(["-q", "-e", "-c", &line, "/dev/null"])
+            .current_dir(&folder);
+        command.env("NO_COLOR", no_color).env("TERM", "xterm");
+        let output = command.stdin(Stdio::null()).output().ok()?;
+        Some(String::from_utf8_lossy(&output.stdout).into_owned())
+    };
+    let Some(coloured) = on_terminal("") else {
+        eprintln!("script is not here: left out");
+        return;
+    };
+    assert!(
+        coloured.contains("\x1b[1;31mrefused 12\x1b[0m"),
+        "{coloured:?}"
+    );
+    let plain = on_terminal("1").expect("it can be run");
+    assert!(
+        plain.contains(": refused 12: ") && !plain.contains('\x1b'),
+        "{plain:?}"
+    );
 }
 
 #[test]
 fn standard_input() {
     let mut command = Command::new(MOVESIG);
     let said = run(command.args(["line", "type", "-"]), b"a < b >");
-    assert_eq!(said, (0, "a<b>\n".to_string(), String::new()));
+    let following = "followed by EOF 7..7\n".to_string();
+    assert_eq!(said, (0, "a<b>\n".to_string(), following));
     let mut command = Command::new(MOVESIG);
     let (status, _, errors) = run(command.args(["tokens", "-"]), b"?");
     assert_eq!(status, 1);
-    assert!(errors.starts_with("<stdin>:1:1: refused 5: "), "{errors}");
+    assert!(
+        errors.starts_with("<stdin>:1:1 (byte 0): refused 5: "),
+        "{errors}"
+    );
     // more than it reads
     let mut command = Command::new(MOVESIG);
     let (status, _, errors) = run(command.args(["tokens", "-"]), &vec![b' '; 1_000_000]);
     assert_eq!(status, 1);
-    assert_eq!(errors, "<stdin>: refused 1: text over 65,535 bytes\n");
+    let error = "<stdin>: refused 1: text over 65,535 bytes: it has 1000000\n";
+    assert_eq!(errors, error);
+    // no end
+    let zeros = fs::File::open("/dev/zero").expect("it is there");
+    let output = Command::new(MOVESIG)
+        .args(["tokens", "-"])
+        .stdin(zeros)
+        .output();
+    let errors = String::from_utf8(output.expect("it can be run").stderr).expect("UTF-8");
+    assert!(
+        errors.ends_with(": it has more than 16777216\n"),
+        "{errors}"
+    );
+    // closed, and empty
+    for (input, status, words) in [
+        ("<&-", 2, "movesig: <stdin>: is closed\n"),
+        ("</dev/null", 0, ""),
+    ] {
+        let mut shell = Command::new("sh");
+        shell.args(["-c", &format!("exec {MOVESIG} tokens - {input}")]);
+        let (ended, _, errors) = run(&mut shell, b"");
+        assert_eq!((ended, errors.as_str()), (status, words));
+    }
 }
 
 #[test]
@@ -367,11 +744,17 @@ fn usage() {
     wrong(&[], "no command is given");
     wrong(&["frob"], "no such command: frob");
     wrong(&["tokens"], "no file is given");
-    wrong(&["tokens", "a", "b"], "one word too many: b");
-    wrong(&["read", "type", "a", "1", "2"], "one word too many: 2");
-    wrong(&["read", "type", "a", "-1"], "no such option: -1");
-    wrong(&["read", "type", "a", "0x1"], "not an offset: 0x1");
-    wrong(&["read", "type", "a", ""], "not an offset: ");
+    wrong(&["read", "type", "a", "1", "2"], "one place too many: 2");
+    wrong(&["read", "type", "1", "a"], "a place before its file: 1");
+    for place in [
+        "-1", "0x1", "", "1:", ":1", "0:1", "1:0", "1:2:3", "-1:2", "+1",
+    ] {
+        let rule = "it is a byte, counted from 0, or LINE:COLUMN, both from 1";
+        wrong(
+            &["read", "type", "a", place],
+            &format!("not a place: {place}: {rule}"),
+        );
+    }
     wrong(&["line", "type"], "no file is given");
     let kinds = "name, value, type, binds or lambda";
     wrong(&["line"], &format!("no kind is given: {kinds}"));
@@ -381,11 +764,63 @@ fn usage() {
     );
     wrong(&["--frob"], "no such option: --frob");
 
-    let (status, output, _) = run(Command::new(MOVESIG).arg("--help"), b"");
-    assert_eq!(status, 0);
-    assert!(output.contains("usage: movesig tokens FILE"));
-    let (status, output, _) = run(Command::new(MOVESIG).arg("--version"), b"");
-    assert_eq!((status, output.as_str()), (0, "movesig 0.1.0\n"));
+    let told = |word: &str| {
+        let (status, output, errors) = run(Command::new(MOVESIG).arg(word), b"");
+        assert_eq!((status, errors.as_str()), (0, ""), "{word}");
+        output
+    };
+    assert_eq!(
+        told("--version"),
+        concat!("movesig ", env!("CARGO_PKG_VERSION"), "\n")
+    );
+    let help = told("--help");
+    assert_eq!(help, told("help"));
+    assert!(help.contains("usage: movesig [--json] tokens FILE ..."));
+    assert!(help.lines().all(|line| line.chars().count() < 80));
+
+    // the manual page has each word of the help
+    let page = told("man")
+        .replace("\\-", "-")
+        .replace("\\e", "\\")
+        .replace("\\&", "");
+    let upper = page.to_uppercase();
+    for word in help.split_whitespace().filter(|word| *word != "usage:") {
+        let word = word.trim_end_matches([':', '.']).to_uppercase();
+        assert!(upper.contains(&word), "{word}");
+    }
+}
+
+/// The completions, as bash takes them.
+#[test]
+fn completions() {
+    let complete =
+        |words: &[&str]| {
+            let (last, index) = (words.len() - 1, words.len() - 1);
+            let script =
+                format!(
+            "source <({MOVESIG} completions); COMP_WORDS=({}) COMP_CWORD={index}; _movesig; \
+             echo \"${{COMPREPLY[@]}}\"",
+            words.iter().map(|word| format!("'{word}'")).collect::<Vec<_>>().join(" ")
+        );
+            assert!(last > 0);
+            let output = Command::new("bash").args(["-c", &script]).output().ok()?;
+            Some(String::from_utf8_lossy(&output.stdout).trim().to_string())
+        };
+    let Some(commands) = complete(&["movesig", ""]) else {
+        eprintln!("bash is not here: left out");
+        return;
+    };
+    assert_eq!(commands, "tokens comments read line help man completions");
+    assert_eq!(complete(&["movesig", "read", "t"]).as_deref(), Some("type"));
+    assert_eq!(
+        complete(&["movesig", "--json", "line", "b"]).as_deref(),
+        Some("binds")
+    );
+    assert_eq!(complete(&["movesig", "--j"]).as_deref(), Some("--json"));
+    assert_eq!(
+        complete(&["movesig", "tokens", "/dev/nul"]).as_deref(),
+        Some("/dev/null")
+    );
 }
 
 #[test]

@@ -1,8 +1,8 @@
 //! The crate's functions: examples of the specification, all refusals, trees and their views.
 
 use movesig::{
-    comments, display, display_to_string, next_comment, next_token, read, tokens, Kind, RecordKind,
-    Refusal, Span, TokenKind, Tree, LONGEST,
+    comments, display, display_to_string, library_version, next_comment, next_token, read, tokens,
+    Kind, RecordKind, Refusal, Span, TokenKind, Tree, LEVELS, LONGEST, STACK,
 };
 use std::error::Error;
 
@@ -111,7 +111,7 @@ fn refusals_for_people() {
         "refused 5: no token starts with this byte, at 1..1"
     );
     assert_eq!(
-        said(&[b' '; LONGEST + 1]),
+        said(&vec![b' '; LONGEST + 1]),
         "refused 1: text over 65,535 bytes"
     );
 }
@@ -232,6 +232,43 @@ fn walks() {
         })
         .collect();
     assert_eq!(found, [Ok(&b" a "[..]), Ok(b" b"), Ok(b" c"), Err(5)]);
+}
+
+/// A thread with a small stack is enough for the deepest item.
+#[test]
+fn small_stack() {
+    let deep = format!("|{}x{}|", "S<u8>{g, f:".repeat(63), "}".repeat(63));
+    let read = move || {
+        let mut buffer = vec![0; LONGEST];
+        let text = deep.as_bytes();
+        let read = read(Kind::LambdaBindList, text, 0, &mut buffer).map(|item| item.next);
+        let shown = display(Kind::LambdaBindList, text, 0, &mut buffer).is_ok();
+        (read.is_ok(), shown)
+    };
+    let thread = std::thread::Builder::new().stack_size(STACK + (1 << 14));
+    let read = thread.spawn(read).expect("a thread").join();
+    assert_eq!(read.expect("it ends"), (true, true));
+}
+
+/// The header, the crate and the library have the same version and the same limits.
+#[test]
+fn versions() {
+    let header = include_str!("../../../include/movesig.h");
+    let defined = |name: &str| -> usize {
+        let line = header
+            .lines()
+            .find_map(|line| line.strip_prefix(&format!("#define {name} ")));
+        line.expect("it is there").parse().expect("a number")
+    };
+    let (major, minor) = library_version();
+    assert_eq!(defined("MOVESIG_VERSION_MAJOR"), major as usize);
+    assert_eq!(defined("MOVESIG_VERSION_MINOR"), minor as usize);
+    assert!(env!("CARGO_PKG_VERSION").starts_with(&format!("{major}.{minor}.")));
+    let changes = include_str!("../../../CHANGELOG.md");
+    assert!(changes.contains(&format!("\n## {}\n", env!("CARGO_PKG_VERSION"))));
+    assert_eq!(defined("MOVESIG_LONGEST"), LONGEST);
+    assert_eq!(defined("MOVESIG_LEVELS"), LEVELS);
+    assert_eq!(defined("MOVESIG_STACK"), STACK);
 }
 
 /// What the header names is numbered as the crate numbers it.

@@ -1,5 +1,9 @@
-/* How much stack the calls take on nests of 64 levels and more, of each construct: what the header
- * says is enough must be. The stack of a thread is painted, and what is no longer paint was used. */
+/* How much stack the calls take: on nests of 64 levels and more, of each construct, and on random nests of
+ * all of them. MOVESIG_STACK is held to it: at least a tenth more than what is measured, and at most four
+ * tenths. The stack of a thread is painted, and what is no longer paint was used.
+ *
+ *     stack [ROUNDS]    so many random nests
+ */
 #define _DEFAULT_SOURCE
 #include <movesig.h>
 #include <pthread.h>
@@ -7,8 +11,8 @@
 #include <stdlib.h>
 #include <string.h>
 
-#define STACK ((size_t)1 << 20)
-#define ENOUGH ((size_t)128 * 1024)
+#define STACK ((size_t)512 * 1024)
+#define ROUNDS 1000
 #define PAINT 0xa5
 
 static char text[MOVESIG_LONGEST];
@@ -86,35 +90,102 @@ static const struct nest nests[] = {
     {MOVESIG_BIND_LIST, "S{f:", "x", "}"},
     {MOVESIG_BIND_LIST, "S<u8>{g, f:", "x", "}"},
     {MOVESIG_LAMBDA_BIND_LIST, "S{f:", "x", "}"},
+    {MOVESIG_LAMBDA_BIND_LIST, "S<u8>{g, f:", "x", "}"},
     {MOVESIG_BIND_LIST, "S{f:S<", "u8", ">{}}"},
 };
 
-int main(void)
+static size_t most, idle, accepted;
+
+/* Asks all calls about the text. */
+static void measure(uint64_t kind)
 {
     static void *(*const calls[])(void *) = {token, comment, read_item, display_item};
-    size_t i, call, most = 0, idle, accepted = 0;
-    int levels, level;
+    size_t call;
+    for (call = 0; call < sizeof calls / sizeof *calls; call++) {
+        size_t bytes = used(calls[call], kind) - idle;
+        if (bytes > most)
+            most = bytes;
+        accepted += call == 2 && number == 0;
+    }
+}
+
+/* One construct, so many levels of it. */
+static void measure_nest(const struct nest *nest, int levels)
+{
+    int level, lambda = nest->kind == MOVESIG_LAMBDA_BIND_LIST;
+    strcpy(text, lambda ? "|" : "");
+    for (level = 0; level < levels; level++)
+        strcat(text, nest->open);
+    strcat(text, nest->inside);
+    for (level = 0; level < levels; level++)
+        strcat(text, nest->close);
+    strcat(text, lambda ? "|" : "");
+    measure(nest->kind);
+}
+
+static size_t below(size_t bound)
+{
+    static uint64_t state = 88172645463325252u;
+    state ^= state << 13;
+    state ^= state >> 7;
+    state ^= state << 17;
+    return (size_t)(state >> 11) % bound;
+}
+
+/* Constructs of one kind of item, mixed: bindings first, then types inside the last of them. */
+static void measure_mix(void)
+{
+    static const struct nest types[] = {
+        {0, "(", "u8", ")"}, {0, "(u8,", "u8", ")"}, {0, "a<", "u8", "> "}, {0, "0x1::b::c<u8, ", "u8", "> "},
+        {0, "& ", "u8", ""}, {0, "&mut ", "u8", ""}, {0, "|u8| ", "u8", ""}, {0, "(|", "u8", "| u8)"},
+    };
+    static const struct nest binds[] = {
+        {0, "S{f:", "x", "}"}, {0, "S<u8>{g, f:", "x", "}"}, {0, "0x1::a::S{g,f:", "x", "}"}, {0, "S{", "x", "}"},
+    };
+    static const char *const leaves[] = {
+        "u8", "0x1::a::b", "a::b<>", "()", "| | u8", "/* /** c */ */ u8", "/// c\n u8", "u8 /*", "0x", "x\"", "$", "S{}",
+    };
+    const char *close[80];
+    size_t depth = 60 + below(5), bound = below(4) != 0 ? below(depth + 1) : 0, level, same = below(3);
+    int lambda = bound != 0 && below(2);
+    const struct nest *nest = types;
+    strcpy(text, bound == 0 ? "" : lambda ? "|x, " : below(2) ? "(x, " : "");
+    for (level = 0; level < depth; level++) {
+        int last = bound != 0 && level + 1 == bound && bound < depth;
+        if (level == 0 || level == bound || below(same * same * 8 + 1) == 0)
+            nest = level < bound ? binds + below(sizeof binds / sizeof *binds)
+                                 : types + below(sizeof types / sizeof *types);
+        strcat(text, last ? "S<" : nest->open);
+        close[level] = last ? ">{}" : nest->close;
+    }
+    strcat(text, leaves[below(sizeof leaves / sizeof *leaves)]);
+    while (level-- > 0)
+        strcat(text, close[level]);
+    strcat(text, bound == 0 ? "" : lambda ? "|" : ")");
+    measure(bound == 0 ? MOVESIG_TYPE : lambda ? MOVESIG_LAMBDA_BIND_LIST : MOVESIG_BIND_LIST);
+}
+
+int main(int count, char **words)
+{
+    long rounds = count > 1 ? atol(words[1]) : ROUNDS;
+    size_t i;
+    int levels;
     stack = (uint8_t *)aligned_alloc(4096, STACK);
     if (stack == NULL)
         return 1;
     idle = used(nothing, 0);
     for (i = 0; i < sizeof nests / sizeof *nests; i++)
-        for (levels = 28; levels <= 66; levels++) {
-            int lambda = nests[i].kind == MOVESIG_LAMBDA_BIND_LIST;
-            strcpy(text, lambda ? "|" : "");
-            for (level = 0; level < levels; level++)
-                strcat(text, nests[i].open);
-            strcat(text, nests[i].inside);
-            for (level = 0; level < levels; level++)
-                strcat(text, nests[i].close);
-            strcat(text, lambda ? "|" : "");
-            for (call = 0; call < sizeof calls / sizeof *calls; call++) {
-                size_t bytes = used(calls[call], nests[i].kind) - idle;
-                if (bytes > most)
-                    most = bytes;
-                accepted += call == 2 && number == 0;
-            }
-        }
-    printf("at most %lu bytes of stack, %lu nests read\n", (unsigned long)most, (unsigned long)accepted);
-    return most <= ENOUGH && accepted > 100 ? 0 : 1;
+        for (levels = 28; levels <= 66; levels++)
+            measure_nest(&nests[i], levels);
+    printf("nests: at most %lu bytes of stack, %lu read\n", (unsigned long)most, (unsigned long)accepted);
+    while (rounds-- > 0)
+        measure_mix();
+    printf("in all: at most %lu bytes of stack, %lu read; MOVESIG_STACK is %lu\n", (unsigned long)most,
+           (unsigned long)accepted, (unsigned long)MOVESIG_STACK);
+    if (MOVESIG_STACK < most + most / 10 || MOVESIG_STACK > most + 4 * (most / 10)) {
+        printf("MOVESIG_STACK should be between %lu and %lu\n", (unsigned long)(most + most / 10),
+               (unsigned long)(most + 4 * (most / 10)));
+        return 1;
+    }
+    return accepted > 100 ? 0 : 1;
 }

@@ -1,76 +1,68 @@
 //! What is accepted, as text for people.
 
-use crate::visible;
-use movesig::{Kind, Refusal, Tree, LONGEST};
+use crate::{places::Places, visible};
+use movesig::{Comment, Token, Tree};
 use std::fmt::Write;
 
+/// A spelling is shown up to so many bytes.
+const MOST: usize = 100;
+
 /// One line a token, in columns.
-pub fn tokens(text: &[u8], to: &mut String) -> Result<(), Refusal> {
-    let mut rows = vec![];
-    let mut refusal = None;
-    for token in movesig::tokens(text, 0) {
-        match token {
-            Ok(token) => rows.push((token.span.to_string(), token.kind, token.span.of(text))),
-            Err(why) => refusal = Some(why),
-        }
-    }
-    let spans = rows.iter().map(|(span, ..)| span.len()).max().unwrap_or(0);
-    let names = rows.iter().map(|(_, kind, _)| kind.name().len());
+pub fn tokens(text: &[u8], tokens: &[Token], to: &mut String) {
+    let spans = tokens.iter().map(|token| token.span.to_string().len());
+    let spans = spans.max().unwrap_or(0);
+    let names = tokens.iter().map(|token| token.kind.name().len());
     let names = names.max().unwrap_or(0);
-    for (span, kind, spelling) in rows {
-        let spelling = visible::line(spelling);
+    for token in tokens {
+        let (span, kind) = (token.span.to_string(), token.kind);
+        let spelling = visible::cut(token.span.of(text), MOST);
         let line = format!("{span:spans$}  {kind:names$}  {spelling}");
         put_line(to, 0, line.trim_end());
     }
-    refusal.map_or(Ok(()), Err)
 }
 
-/// The span of each doc comment, and below it the lines of its text.
-pub fn comments(text: &[u8], to: &mut String) -> Result<(), Refusal> {
-    for comment in movesig::comments(text, 0) {
-        let comment = comment?;
-        put_line(to, 0, &comment.span.to_string());
+/// The span and the place of each doc comment and its text, one line for each of the text's lines.
+pub fn comments(text: &[u8], comments: &[Comment], to: &mut String) {
+    let places = Places::new(text);
+    let heads = comments.iter().map(|comment| {
+        let (line, column) = places.of(comment.span.start);
+        (comment.span.to_string(), format!("{line}:{column}"))
+    });
+    let heads: Vec<(String, String)> = heads.collect();
+    let spans = heads.iter().map(|(span, _)| span.len()).max().unwrap_or(0);
+    let widths = heads.iter().map(|(_, place)| place.len());
+    let widths = widths.max().unwrap_or(0);
+    for ((span, place), comment) in heads.iter().zip(comments) {
+        let (mut span, mut place) = (span.as_str(), place.as_str());
         for line in comment.text.of(text).split(|&byte| byte == b'\n') {
-            let line = line.strip_suffix(b"\r").unwrap_or(line);
-            put_line(to, 1, &format!("|{}", visible::source(line)));
+            let line = visible::source(line.strip_suffix(b"\r").unwrap_or(line));
+            put_line(to, 0, &format!("{span:spans$}  {place:widths$}  |{line}"));
+            (span, place) = ("", "");
         }
     }
-    Ok(())
 }
 
-/// The tree, each record a step to the right of the one that it belongs to, and the token that
-/// follows.
-pub fn tree(kind: Kind, text: &[u8], at: usize, to: &mut String) -> Result<(), Refusal> {
-    let mut buffer = vec![0; LONGEST];
-    let item = movesig::read(kind, text, at, &mut buffer)?;
-    put_tree(item.tree, 0, to);
-    let token = visible::line(item.next.span.of(text));
-    let line = format!("followed by {} {}  {token}", item.next.kind, item.next.span);
-    put_line(to, 0, line.trim_end());
-    Ok(())
-}
-
-fn put_tree(tree: Tree, depth: usize, to: &mut String) {
+/// The tree, each record a step to the right of the one that it belongs to.
+pub fn tree(tree: Tree, depth: usize, to: &mut String) {
     let mut line = format!("{} {}", tree.kind(), tree.span());
     if let Some(spelling) = tree.spelling() {
         line += "  ";
-        line += &visible::line(spelling);
+        line += &visible::cut(spelling, MOST);
     }
     put_line(to, depth, &line);
     for child in tree.children() {
-        put_tree(child, depth + 1, to);
+        self::tree(child, depth + 1, to);
     }
 }
 
-/// The item's display line.
-pub fn line(kind: Kind, text: &[u8], at: usize, to: &mut String) -> Result<(), Refusal> {
-    let mut buffer = vec![0; LONGEST];
-    let line = movesig::display(kind, text, at, &mut buffer)?;
-    put_line(to, 0, &visible::line(line));
-    Ok(())
+/// The token that follows an item.
+pub fn following(text: &[u8], token: Token, to: &mut String) {
+    let spelling = visible::cut(token.span.of(text), MOST);
+    let line = format!("followed by {} {}  {spelling}", token.kind, token.span);
+    put_line(to, 0, line.trim_end());
 }
 
-fn put_line(to: &mut String, depth: usize, line: &str) {
+pub fn put_line(to: &mut String, depth: usize, line: &str) {
     let indent = 2 * depth;
     writeln!(to, "{:indent$}{line}", "").expect("a string takes what it is given");
 }

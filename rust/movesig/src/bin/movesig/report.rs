@@ -1,70 +1,198 @@
-//! A refusal as compilers show an error: place and reason, the source line, carets.
+//! A refusal as compilers show an error: place and reason, the source line, marks below it.
 
-use crate::visible::{self, Piece};
-use movesig::{next_token, Refusal, Span};
+use crate::{
+    due::{self, Item},
+    paint::Paint,
+    places::Places,
+    text::Text,
+    visible::{self, Piece},
+};
+use movesig::{Refusal, Span, LONGEST};
 use std::fmt::Write;
 
-/// What is shown has at most so many columns.
-const SCREEN: usize = 79;
-
-/// Of a source line at most so many columns are shown: with its number, of up to five digits, and
-/// the marks of a cut on both sides it stands on the screen.
-const WIDTH: usize = 64;
+/// What a report is about, and how it is shown.
+pub struct Report<'a> {
+    /// The file's name, safe to show.
+    pub name: String,
+    pub text: &'a Text,
+    /// The item that was asked for, if any.
+    pub item: Option<Item>,
+    /// What is asked for, where it is too long: `tree` or `line`.
+    pub answer: &'a str,
+    /// The screen's columns.
+    pub screen: usize,
+    pub paint: Paint,
+}
 
 const CUT: &str = "...";
 
-/// `FILE:LINE:COLUMN: refused NUMBER: reason`, the line and the carets; one line alone where
-/// the text is not at fault.
-pub fn report(name: &str, text: &[u8], refusal: &Refusal) -> String {
-    let (number, reason) = (refusal.number(), refusal.reason());
-    if refusal.is_by_caller() {
-        return format!("{name}: refused {number}: {reason}\n");
+impl Report<'_> {
+    /// `FILE:LINE:COLUMN (byte OFFSET): refused NUMBER: reason`, the line and the marks; one line
+    /// alone where the text is not at fault.
+    pub fn of(&self, refusal: &Refusal) -> String {
+        let (number, reason) = (refusal.number(), refusal.reason());
+        let refused = self.paint.red(&format!("refused {number}"));
+        if refusal.is_by_caller() {
+            let name = self.paint.bold(&self.name);
+            let words = self.words_for_caller(refusal);
+            return format!("{name}: {refused}: {words}\n");
+        }
+        let due = self
+            .item
+            .map(|item| due::due(&self.text.bytes, item, refusal));
+        let due = due::listed(&due.unwrap_or_default());
+        let told = match due::found(&self.text.bytes, refusal) {
+            Some(found) if due.is_empty() => format!(": found {found}"),
+            Some(found) => format!(": found {found} where {due} was due"),
+            None => String::new(),
+        };
+        let place = self.place(refusal.place().start);
+        let mut report = format!("{place}: {refused}: {reason}{told}\n");
+        self.put_source(refusal, &due, &mut report);
+        report
     }
-    let place = Place::new(text, refusal.place(), label(text, refusal));
-    let (line, column) = (place.line.number, place.column());
-    let mut report = format!("{name}:{line}:{column}: refused {number}: {reason}\n");
 
-    let mut places = vec![place];
-    if refusal.second() != refusal.place() {
-        places.push(Place::new(text, refusal.second(), second_label(refusal)));
+    /// As `FILE:LINE:COLUMN (byte OFFSET)`.
+    pub fn place(&self, byte: usize) -> String {
+        let (line, column) = Places::new(&self.text.bytes).of(byte);
+        let place = format!("{}:{line}:{column}", self.name);
+        format!("{} (byte {byte})", self.paint.bold(&place))
     }
-    let numbers = places.iter().map(|place| place.line.number);
-    let gutter = numbers.max().unwrap_or(1).to_string().len();
-    while let Some(first) = places.first() {
-        let together = places
+
+    fn words_for_caller(&self, refusal: &Refusal) -> String {
+        let reason = refusal.reason();
+        match refusal {
+            Refusal::TextTooLong => format!("{reason}: it has {}", self.text.length()),
+            Refusal::StartPastEnd => format!("{reason}, which is at {}", self.text.bytes.len()),
+            Refusal::NoRoom => format!("{} over {LONGEST} bytes", self.answer),
+            _ => reason.to_string(),
+        }
+    }
+
+    fn put_source(&self, refusal: &Refusal, due: &str, to: &mut String) {
+        let mut places = vec![Mark::new(
+            &self.text.bytes,
+            refusal.place(),
+            '^',
+            label(&self.text.bytes, refusal, due),
+        )];
+        if refusal.second() != refusal.place() {
+            places.push(Mark::new(
+                &self.text.bytes,
+                refusal.second(),
+                '-',
+                second_label(refusal),
+            ));
+        }
+        let numbers = places.iter().map(|place| place.line.number);
+        let gutter = numbers.max().unwrap_or(1).to_string().len();
+        let width = self
+            .screen
+            .saturating_sub(gutter + " | ".len() + 2 * CUT.len() + 1)
+            .max(8);
+        while let Some(first) = places.first() {
+            let together = places
+                .iter()
+                .all(|place| place.line.start == first.line.start);
+            let window = Window::of(&places, width).filter(|_| together);
+            let shown = if window.is_some() { places.len() } else { 1 };
+            let window = window.unwrap_or_else(|| Window::round(first, width));
+            self.put_line(gutter, width, &window, &places[0], to);
+            self.put_marks(gutter, &window, &places[..shown], to);
+            places.drain(..shown);
+        }
+    }
+
+    /// The line's part: for people where widths are not certain, and then, or alone, as the marks
+    /// below need it.
+    fn put_line(
+        &self,
+        gutter: usize,
+        width: usize,
+        window: &Window,
+        place: &Mark,
+        to: &mut String,
+    ) {
+        let mut number = place.line.number.to_string();
+        let shown = Window::round_readable(place, width);
+        if shown
+            .pieces(&place.line.readable)
             .iter()
-            .all(|place| place.line.start == first.line.start);
-        let window = Window::of(&places).filter(|_| together);
-        let shown = if window.is_some() { places.len() } else { 1 };
-        let window = window.unwrap_or_else(|| Window::round(first));
-        window.put(gutter, &places[..shown], &mut report);
-        places.drain(..shown);
+            .any(|piece| !piece.certain)
+        {
+            self.put(gutter, &number, &shown.text(&place.line.readable), to);
+            number.clear();
+        }
+        self.put(gutter, &number, &window.text(&place.line.pieces), to);
     }
-    report
+
+    fn put(&self, gutter: usize, number: &str, words: &str, to: &mut String) {
+        let gutter = self.paint.blue(&format!("{number:>gutter$} |"));
+        let line = format!("{gutter} {words}");
+        writeln!(to, "{}", line.trim_end()).expect("a string takes what it is given");
+    }
+
+    /// All marks in one line, the label of the last one behind it; the other labels below, each where
+    /// its mark begins.
+    fn put_marks(&self, gutter: usize, window: &Window, places: &[Mark], to: &mut String) {
+        let edge = self.screen.saturating_sub(gutter + " | ".len() + 1);
+        let mut marks: Vec<(usize, usize, &Mark)> =
+            places.iter().map(|place| window.columns(place)).collect();
+        marks.sort_by_key(|&(indent, ..)| indent);
+        let (mut line, mut used) = (String::new(), 0);
+        for &(indent, width, place) in &marks {
+            line += &" ".repeat(indent.saturating_sub(used));
+            line += &self.colour(place, &place.sign.to_string().repeat(width));
+            used = indent.max(used) + width;
+        }
+        if let Some(&(_, _, last)) = marks.last() {
+            if used + 1 + last.label.chars().count() <= edge {
+                line += " ";
+                line += &self.colour(last, &last.label);
+                marks.pop();
+            }
+        }
+        self.put(gutter, "", &line, to);
+        for &(indent, _, place) in marks.iter().rev() {
+            let length = place.label.chars().count();
+            let below = indent.min(edge.saturating_sub(length));
+            let label = self.colour(place, &place.label);
+            if length > 0 {
+                self.put(gutter, "", &format!("{}{label}", " ".repeat(below)), to);
+            }
+        }
+    }
+
+    fn colour(&self, place: &Mark, words: &str) -> String {
+        if place.sign == '^' {
+            self.paint.red(words)
+        } else {
+            self.paint.blue(words)
+        }
+    }
 }
 
-/// What stands beside the carets of the place.
-fn label(text: &[u8], refusal: &Refusal) -> String {
+/// What stands beside the mark of the place.
+fn label(text: &[u8], refusal: &Refusal, due: &str) -> String {
     let start = refusal.place().start;
-    let ends = next_token(text, start).is_ok_and(|token| token.is_eof());
-    let words = match refusal {
+    match refusal {
+        Refusal::NoToken { .. } if text[start..].starts_with(b"\xef\xbb\xbf") => {
+            "a byte order mark: Move has none".to_string()
+        }
         Refusal::NoToken { .. } | Refusal::StringNotAscii { .. } => {
             let byte = text.get(start).copied().unwrap_or(0);
-            return format!("byte 0x{byte:02x}");
+            format!("byte 0x{byte:02x}")
         }
-        Refusal::CommentNotClosed { .. } => "opened here",
-        Refusal::UnexpectedToken { token, number } if token != number => "`::` was due here",
-        Refusal::TooDeep { .. } => "level 65 begins here",
-        _ if ends => "the text ends here",
-        Refusal::ListNotClosed { .. } => "a comma or the list's end was due",
-        _ => "",
-    };
-    words.to_string()
+        Refusal::CommentNotClosed { .. } => "opened here".to_string(),
+        Refusal::TooDeep { .. } => "level 65 begins here".to_string(),
+        _ if due.is_empty() => String::new(),
+        _ => format!("{due} was due"),
+    }
 }
 
 fn second_label(refusal: &Refusal) -> String {
     let words = match refusal {
-        Refusal::UnexpectedToken { .. } => "behind this number",
+        Refusal::UnexpectedToken { .. } => "the number",
         Refusal::ListNotClosed { .. } => "the list begins here",
         _ => "",
     };
@@ -76,7 +204,10 @@ struct Line {
     /// Counted from 1.
     number: usize,
     start: usize,
+    /// Each of a certain width.
     pieces: Vec<Piece>,
+    /// The same characters, as people read them.
+    readable: Vec<Piece>,
 }
 
 impl Line {
@@ -97,7 +228,8 @@ impl Line {
         Line {
             number: before.iter().filter(|byte| line_feed(byte)).count() + 1,
             start,
-            pieces: visible::pieces(line),
+            pieces: visible::certain_pieces(line),
+            readable: visible::pieces(line),
         }
     }
 
@@ -106,36 +238,34 @@ impl Line {
         let byte = byte - self.start;
         self.pieces.partition_point(|piece| piece.end <= byte)
     }
+}
 
-    fn width(&self, from: usize, to: usize) -> usize {
-        self.pieces[from..to].iter().map(|piece| piece.width).sum()
-    }
+fn width(pieces: &[Piece], from: usize, to: usize) -> usize {
+    pieces[from..to].iter().map(|piece| piece.width).sum()
 }
 
 /// A span to be marked, in its line: the pieces from `from` to before `to`.
-struct Place {
+struct Mark {
     line: Line,
     from: usize,
     to: usize,
+    sign: char,
     label: String,
 }
 
-impl Place {
-    fn new(text: &[u8], span: Span, label: String) -> Place {
+impl Mark {
+    fn new(text: &[u8], span: Span, sign: char, label: String) -> Mark {
         let line = Line::at(text, span.start);
         let from = line.piece(span.start);
         let last = span.end.max(span.start + 1) - 1;
         let to = (line.piece(last) + 1).min(line.pieces.len()).max(from);
-        Place {
+        Mark {
             line,
             from,
             to,
+            sign,
             label,
         }
-    }
-
-    fn column(&self) -> usize {
-        self.from + 1
     }
 }
 
@@ -147,41 +277,49 @@ struct Window {
 
 impl Window {
     /// Round all the places, which are of one line; none where they do not fit.
-    fn of(places: &[Place]) -> Option<Window> {
+    fn of(places: &[Mark], most: usize) -> Option<Window> {
         let from = places.iter().map(|place| place.from).min()?;
         let to = places.iter().map(|place| place.to).max()?;
-        let line = &places[0].line;
-        let fits = to <= line.pieces.len() && line.width(from, to) <= WIDTH;
-        fits.then(|| Window { from, to }.grown(line))
+        let pieces = &places[0].line.pieces;
+        let fits = to <= pieces.len() && width(pieces, from, to) <= most;
+        fits.then(|| Window { from, to }.grown(pieces, most))
     }
 
     /// Round one place, as much of it as fits.
-    fn round(place: &Place) -> Window {
+    fn round(place: &Mark, most: usize) -> Window {
+        Window::in_pieces(place, &place.line.pieces, most)
+    }
+
+    fn round_readable(place: &Mark, most: usize) -> Window {
+        Window::in_pieces(place, &place.line.readable, most)
+    }
+
+    fn in_pieces(place: &Mark, pieces: &[Piece], most: usize) -> Window {
         let mut window = Window {
             from: place.from,
             to: place.from,
         };
-        while window.to < place.to && place.line.width(window.from, window.to + 1) <= WIDTH {
+        while window.to < place.to && width(pieces, window.from, window.to + 1) <= most {
             window.to += 1;
         }
-        window.grown(&place.line)
+        window.grown(pieces, most)
     }
 
     /// As much as fits, on both sides.
-    fn grown(mut self, line: &Line) -> Window {
-        let mut width = line.width(self.from, self.to);
+    fn grown(mut self, pieces: &[Piece], most: usize) -> Window {
+        let mut columns = width(pieces, self.from, self.to);
         loop {
-            let before = (self.from > 0).then(|| line.pieces[self.from - 1].width);
-            let left = before.filter(|more| width + more <= WIDTH);
+            let before = (self.from > 0).then(|| pieces[self.from - 1].width);
+            let left = before.filter(|more| columns + more <= most);
             if let Some(more) = left {
                 self.from -= 1;
-                width += more;
+                columns += more;
             }
-            let behind = line.pieces.get(self.to).map(|piece| piece.width);
-            let right = behind.filter(|more| width + more <= WIDTH);
+            let behind = pieces.get(self.to).map(|piece| piece.width);
+            let right = behind.filter(|more| columns + more <= most);
             if let Some(more) = right {
                 self.to += 1;
-                width += more;
+                columns += more;
             }
             if left.is_none() && right.is_none() {
                 return self;
@@ -189,34 +327,27 @@ impl Window {
         }
     }
 
-    /// The line's part, and below it the carets of each place.
-    fn put(&self, gutter: usize, places: &[Place], to: &mut String) {
-        let line = &places[0].line;
-        let before = if self.from > 0 { CUT } else { "" };
-        let behind = if self.to < line.pieces.len() { CUT } else { "" };
-        let shown = line.pieces[self.from..self.to].iter();
-        let shown: String = shown.map(|piece| piece.shown.as_str()).collect();
-        let source = format!("{before}{shown}{behind}");
-        put_line(to, &format!("{:gutter$} | {source}", line.number));
-        for place in places {
-            let indent = before.len() + line.width(self.from, place.from);
-            let to_edge = place.to.min(self.to).max(place.from);
-            let carets = "^".repeat(line.width(place.from, to_edge).max(1));
-            let label = place.label.as_str();
-            let edge = SCREEN - " | ".len() - gutter;
-            // behind the carets, or below them where the screen ends
-            if indent + carets.len() + 1 + label.len() <= edge {
-                let mark = format!("{:indent$}{carets} {label}", "");
-                put_line(to, &format!("{:gutter$} | {mark}", ""));
-            } else {
-                let below = indent.min(edge.saturating_sub(label.len()));
-                put_line(to, &format!("{:gutter$} | {:indent$}{carets}", "", ""));
-                put_line(to, &format!("{:gutter$} | {:below$}{label}", "", ""));
-            }
-        }
+    fn pieces<'p>(&self, pieces: &'p [Piece]) -> &'p [Piece] {
+        &pieces[self.from..self.to]
     }
-}
 
-fn put_line(to: &mut String, line: &str) {
-    writeln!(to, "{}", line.trim_end()).expect("a string takes what it is given");
+    /// The pieces, with the marks of a cut.
+    fn text(&self, pieces: &[Piece]) -> String {
+        let before = if self.from > 0 { CUT } else { "" };
+        let behind = if self.to < pieces.len() { CUT } else { "" };
+        // a mark whose letter is cut away would stand over what is before it
+        let lost = |piece: &&Piece| self.from > 0 && piece.width == 0;
+        let shown = self.pieces(pieces).iter().skip_while(lost);
+        let shown: String = shown.map(|piece| piece.shown.as_str()).collect();
+        format!("{before}{shown}{behind}")
+    }
+
+    /// Where the place is marked below the window: from which column on, and how many.
+    fn columns<'m>(&self, place: &'m Mark) -> (usize, usize, &'m Mark) {
+        let pieces = &place.line.pieces;
+        let before = if self.from > 0 { CUT.len() } else { 0 };
+        let indent = before + width(pieces, self.from, place.from);
+        let to_edge = place.to.min(self.to).max(place.from);
+        (indent, width(pieces, place.from, to_edge).max(1), place)
+    }
 }

@@ -1,0 +1,207 @@
+//! The text of `--help`, and the manual page and the completions that are made of it.
+
+use movesig::Kind;
+
+const PURPOSE: &str = "reads Move source with the proved signature reader";
+
+const USAGE: [&str; 5] = [
+    "movesig [--json] tokens FILE ...",
+    "movesig [--json] comments FILE ...",
+    "movesig [--json] read KIND FILE [PLACE] ...",
+    "movesig [--json] line KIND FILE [PLACE] ...",
+    "movesig help | man | completions",
+];
+
+/// A row begins with two blanks: a word, two blanks or more, what it is; more blanks go on with it.
+const SECTIONS: [(&str, &str); 8] = [
+    (
+        "Commands",
+        r"
+  tokens       each token: its span, its kind and its spelling
+  comments     each doc comment: its span, its place and its text
+  read         the item as an outline: each record's kind, its span and, for a
+               leaf, its spelling; then the token that follows
+  line         the item as one line; the token that follows is told on
+               standard error
+  help         this text
+  man          this text as a manual page, in roff
+  completions  completions for bash
+",
+    ),
+    (
+        "Options",
+        r"
+  --json         one object a line, for machines: see below
+  -h, --help     this text
+  -V, --version  the version
+  --             no word behind it is an option
+",
+    ),
+    (
+        "Words",
+        r"
+KIND is name, value, type, binds (a binding list) or lambda (the binding list
+of a lambda).
+
+PLACE is where the item is read from: a byte, counted from 0, or LINE:COLUMN,
+both counted from 1. It is byte 0 if left out. A word behind FILE that begins
+with a digit is its PLACE; a file of such a name is written ./1.
+
+The FILE - is standard input. With more than one FILE its name stands before
+each line.
+",
+    ),
+    (
+        "Places",
+        r"
+Spans count bytes from 0; the byte behind the last is their end. Columns are
+counted in characters, a tab as one, and each byte that is part of no UTF-8
+character as one.
+",
+    ),
+    (
+        "Refusals",
+        r"
+A refusal is shown on standard error as
+
+  FILE:LINE:COLUMN (byte OFFSET): refused NUMBER: why
+
+and, where the text is at fault, the source line with ^ under the place and -
+under the second place, where there is another. Where a token is at fault it
+is told with what could have stood there. Long lines are cut around the place,
+with ... ; the environment variable COLUMNS, where it is set, says how wide the
+screen is.
+
+A place inside a comment or a token, and &mut without a space behind it, are
+read as they stand, and a note on standard error says so.
+",
+    ),
+    (
+        "What is made visible",
+        r"
+Letters of all scripts and emoji are shown as they are, a tab of a source line
+as four blanks, and what could deceive or disturb a terminal as \x1b or
+\u{202e}: controls, characters that turn text round, invisible and unassigned
+ones, more than four marks on a letter, and bytes that are not UTF-8. Where
+the widths of a line's characters are not certain, the line is shown once more,
+with escapes, above the marks. Spellings of more than 100 bytes are cut.
+
+Reports are coloured on a terminal, unless NO_COLOR is set.
+",
+    ),
+    (
+        "JSON",
+        r"
+Each object stands on a line of standard output, refusals too. All are ASCII;
+bytes that are not UTF-8 become U+FFFD, and the spans tell which they are.
+
+  tokens    file, token (its kind), number, start, end, line, column, text
+  comments  file, comment (its text), start, end, line, column, text_start,
+            text_end
+  read      file, item, at, tree, next, notes
+  line      file, item, at, shown (the line), next, notes
+  tree      record (its kind), number, start, end, text (of a leaf), children
+  next      token, number, start, end, text; line leaves it out where the tree
+            is too long to be read
+  notes     a list of at and note
+  refusal   file, item and at (of read and line), refused (its number), reason;
+            by the text: start, end, line, column, second (start, end, line,
+            column; where it is another place), found (as next) and due (a list
+            of words) where a token is at fault, notes (of read and line); else
+            limit and, where it is known, length
+  failure   file, error: it cannot be read, or has no such place
+",
+    ),
+    (
+        "Exit status",
+        r"
+0 accepted, 1 refused, 2 bad usage or a file that cannot be read; the greatest
+of several files.
+",
+    ),
+];
+
+pub fn help() -> String {
+    let mut text = format!("movesig {PURPOSE}.\n\n");
+    for (number, line) in USAGE.iter().enumerate() {
+        text += if number == 0 { "usage: " } else { "       " };
+        text += line;
+        text += "\n";
+    }
+    for (title, body) in SECTIONS {
+        let rows = body.starts_with("\n  ");
+        text += &["\n", title, ":", if rows { "" } else { "\n" }, body].concat();
+    }
+    text
+}
+
+/// The manual page: the same text in roff.
+pub fn man() -> String {
+    let version = env!("CARGO_PKG_VERSION");
+    let mut page =
+        format!(".TH MOVESIG 1 \"\" \"movesig {version}\"\n.SH NAME\nmovesig \\- {PURPOSE}\n");
+    page += ".SH SYNOPSIS\n.nf\n";
+    for line in USAGE {
+        page += &roff(line);
+    }
+    page += ".fi\n";
+    for (title, body) in SECTIONS {
+        page += &[".SH ", &title.to_uppercase(), "\n"].concat();
+        for line in body.trim_matches('\n').lines() {
+            page += &roff_line(line);
+        }
+    }
+    page
+}
+
+/// A row of a list, a line that goes on, or the end of a paragraph.
+fn roff_line(line: &str) -> String {
+    let row = line
+        .strip_prefix("  ")
+        .filter(|rest| !rest.starts_with(' '));
+    match row.map(|row| row.split_once("  ").unwrap_or((row, ""))) {
+        Some((word, rest)) => format!(".TP\n.B {}{}", roff(word), roff(rest.trim_start())),
+        None if line.is_empty() => ".PP\n".to_string(),
+        None => roff(line.trim_start()),
+    }
+}
+
+/// A line of text, without what roff would take for its own.
+fn roff(line: &str) -> String {
+    if line.is_empty() {
+        return String::new();
+    }
+    let line = line.replace('\\', "\\e").replace('-', "\\-");
+    let guard = if line.starts_with(['.', '\'']) {
+        "\\&"
+    } else {
+        ""
+    };
+    format!("{guard}{line}\n")
+}
+
+/// Completions for bash.
+pub fn completions() -> String {
+    let kinds = Kind::ALL.map(Kind::name).join(" ");
+    format!(
+        r#"# Completions of movesig for bash.
+_movesig() {{
+    local word=${{COMP_WORDS[COMP_CWORD]}} plain=() other
+    for other in "${{COMP_WORDS[@]:1:COMP_CWORD-1}}"; do
+        [[ $other == --* ]] || plain+=("$other")
+    done
+    if [[ $word == --* ]]; then
+        mapfile -t COMPREPLY < <(compgen -W '--json --help --version --' -- "$word")
+    elif ((${{#plain[@]}} == 0)); then
+        mapfile -t COMPREPLY < <(compgen -W 'tokens comments read line help man completions' -- "$word")
+    elif ((${{#plain[@]}} == 1)) && [[ ${{plain[0]}} == read || ${{plain[0]}} == line ]]; then
+        mapfile -t COMPREPLY < <(compgen -W '{kinds}' -- "$word")
+    else
+        compopt -o filenames 2>/dev/null
+        mapfile -t COMPREPLY < <(compgen -f -- "$word")
+    fi
+}}
+complete -F _movesig movesig
+"#
+    )
+}

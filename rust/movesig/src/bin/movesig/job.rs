@@ -1,0 +1,262 @@
+//! What is done with one file.
+
+use crate::{
+    due::Item,
+    json::{self, Answer, Beside},
+    notes::{self, Note},
+    outline,
+    paint::Paint,
+    places::Places,
+    report::Report,
+    text::{self, Text},
+    visible, Said,
+};
+use movesig::{comments, display, read, tokens, Kind, Refusal, LONGEST};
+use std::{
+    env,
+    ffi::OsString,
+    io::{self, IsTerminal},
+};
+
+/// Where an item begins.
+#[derive(Clone, Copy)]
+pub enum Place {
+    Byte(usize),
+    LineColumn(usize, usize),
+}
+
+/// What is asked of a file.
+#[derive(Clone, Copy)]
+pub enum Work {
+    Tokens,
+    Comments,
+    Read(Kind),
+    Line(Kind),
+}
+
+pub struct Job {
+    pub work: Work,
+    pub file: OsString,
+    /// Where the item begins, for a read and a line.
+    pub place: Place,
+    pub json: bool,
+    /// Whether it is one of several files.
+    pub several: bool,
+}
+
+impl Job {
+    pub fn done(&self) -> Said {
+        let (text, item) = match self.opened() {
+            Ok(opened) => opened,
+            Err(why) => return self.failed(&why),
+        };
+        let mut said = Said::default();
+        if let Err(refusal) = self.work(&text, item, &mut said) {
+            said.status = 1;
+            self.refused(&text, item, &refusal, &mut said);
+        }
+        if self.several && !self.json {
+            let lines: Vec<&str> = said.output.lines().collect();
+            let mut named = String::new();
+            for line in lines {
+                outline::put_line(&mut named, 0, &format!("{}: {line}", self.name()));
+            }
+            said.output = named;
+        }
+        said
+    }
+
+    fn refused(&self, text: &Text, item: Option<Item>, refusal: &Refusal, said: &mut Said) {
+        if self.json {
+            said.output += &json::refusal(self.file_bytes(), text, item, refusal);
+            return;
+        }
+        let report = self.report(text, item);
+        said.errors += &report.of(refusal);
+        let note = item.and_then(|item| notes::offset(&text.bytes, item.at));
+        put_notes(&report, note.as_slice(), said);
+    }
+
+    /// The text, and the item that is to be read.
+    fn opened(&self) -> Result<(Text, Option<Item>), String> {
+        let text = text::open(&self.file)?;
+        let (Work::Read(kind) | Work::Line(kind)) = self.work else {
+            return Ok((text, None));
+        };
+        let at = match self.place {
+            Place::Byte(at) => at,
+            // which is refused whatever the place
+            _ if text.bytes.len() > LONGEST => 0,
+            Place::LineColumn(line, column) => Places::new(&text.bytes)
+                .byte(line, column)
+                .map_err(|why| format!("no such place: {line}:{column}: {why}"))?,
+        };
+        Ok((text, Some(Item { kind, at })))
+    }
+
+    fn failed(&self, why: &str) -> Said {
+        let mut said = Said {
+            status: 2,
+            ..Said::default()
+        };
+        if self.json {
+            said.output = json::failure(self.file_bytes(), why);
+        } else {
+            said.errors = format!("movesig: {}: {why}\n", self.name());
+        }
+        said
+    }
+
+    fn work(&self, text: &Text, item: Option<Item>, said: &mut Said) -> Result<(), Refusal> {
+        match (self.work, item) {
+            (Work::Read(_), Some(item)) => self.tree(text, item, said),
+            (Work::Line(_), Some(item)) => self.line(text, item, said),
+            (Work::Comments, _) => self.comments(&text.bytes, said),
+            _ => self.tokens(&text.bytes, said),
+        }
+    }
+
+    fn tokens(&self, text: &[u8], said: &mut Said) -> Result<(), Refusal> {
+        let (tokens, done) = up_to_refusal(tokens(text, 0));
+        if self.json {
+            let places = Places::new(text);
+            let objects = tokens.iter();
+            said.output = objects
+                .map(|&token| json::token(self.file_bytes(), text, &places, token))
+                .collect();
+        } else {
+            outline::tokens(text, &tokens, &mut said.output);
+        }
+        done
+    }
+
+    fn comments(&self, text: &[u8], said: &mut Said) -> Result<(), Refusal> {
+        let (comments, done) = up_to_refusal(comments(text, 0));
+        if self.json {
+            let places = Places::new(text);
+            let objects = comments.iter();
+            said.output = objects
+                .map(|&comment| json::comment(self.file_bytes(), text, &places, comment))
+                .collect();
+        } else {
+            outline::comments(text, &comments, &mut said.output);
+            if done.is_ok() && comments.is_empty() {
+                said.errors = format!("{}: no doc comments\n", self.name());
+            }
+        }
+        done
+    }
+
+    fn tree(&self, text: &Text, item: Item, said: &mut Said) -> Result<(), Refusal> {
+        let mut buffer = vec![0; LONGEST];
+        let found = read(item.kind, &text.bytes, item.at, &mut buffer)?;
+        let beside = Beside::new(&text.bytes, item, Some(found.next));
+        self.item(text, item, &Answer::Tree(found.tree), &beside, said);
+        Ok(())
+    }
+
+    fn line(&self, text: &Text, item: Item, said: &mut Said) -> Result<(), Refusal> {
+        let mut buffer = vec![0; LONGEST];
+        let line = display(item.kind, &text.bytes, item.at, &mut buffer)?;
+        let mut tree = vec![0; LONGEST];
+        let found = read(item.kind, &text.bytes, item.at, &mut tree);
+        let next = found.ok().map(|found| found.next);
+        let beside = Beside::new(&text.bytes, item, next);
+        self.item(text, item, &Answer::Line(line), &beside, said);
+        Ok(())
+    }
+
+    fn item(&self, text: &Text, item: Item, answer: &Answer, beside: &Beside, said: &mut Said) {
+        if self.json {
+            said.output = json::item(self.file_bytes(), &text.bytes, item, answer, beside);
+            return;
+        }
+        let mut following = String::new();
+        if let Some(next) = beside.next {
+            outline::following(&text.bytes, next, &mut following);
+        }
+        match answer {
+            Answer::Tree(tree) => {
+                outline::tree(*tree, 0, &mut said.output);
+                said.output += &following;
+            }
+            Answer::Line(line) => {
+                outline::put_line(&mut said.output, 0, &visible::line(line));
+                let name = if self.several {
+                    self.name() + ": "
+                } else {
+                    String::new()
+                };
+                if !following.is_empty() {
+                    said.errors += &(name + &following);
+                }
+            }
+        }
+        put_notes(&self.report(text, Some(item)), &beside.notes, said);
+    }
+
+    fn report<'a>(&'a self, text: &'a Text, item: Option<Item>) -> Report<'a> {
+        Report {
+            name: self.name(),
+            text,
+            item,
+            answer: if matches!(self.work, Work::Read(_)) {
+                "tree"
+            } else {
+                "line"
+            },
+            screen: screen(),
+            paint: Paint::on(io::stderr().is_terminal()),
+        }
+    }
+
+    /// The file's name, safe to show.
+    fn name(&self) -> String {
+        if self.file == "-" {
+            "<stdin>".to_string()
+        } else {
+            visible::cut(self.file_bytes(), 4_096)
+        }
+    }
+
+    fn file_bytes(&self) -> &[u8] {
+        self.file.as_encoded_bytes()
+    }
+}
+
+impl Beside {
+    fn new(text: &[u8], item: Item, next: Option<movesig::Token>) -> Beside {
+        let end = next.map_or(item.at, |next| next.span.start);
+        let mut notes: Vec<_> = notes::offset(text, item.at).into_iter().collect();
+        notes.extend(notes::references(text, item.at, end));
+        Beside { next, notes }
+    }
+}
+
+fn put_notes(report: &Report, notes: &[Note], said: &mut Said) {
+    for note in notes {
+        let line = format!("{}: note: {}", report.place(note.at), note.words);
+        outline::put_line(&mut said.errors, 0, &line);
+    }
+}
+
+/// What is given before a refusal, and the refusal.
+fn up_to_refusal<T>(
+    given: impl Iterator<Item = Result<T, Refusal>>,
+) -> (Vec<T>, Result<(), Refusal>) {
+    let mut all = vec![];
+    for one in given {
+        match one {
+            Ok(one) => all.push(one),
+            Err(refusal) => return (all, Err(refusal)),
+        }
+    }
+    (all, Ok(()))
+}
+
+/// The screen's columns: what COLUMNS says, or 80.
+fn screen() -> usize {
+    let said = env::var("COLUMNS").ok();
+    let columns = said.and_then(|columns| columns.parse().ok());
+    columns.map_or(80, |columns: usize| columns.clamp(40, 400))
+}

@@ -1,0 +1,198 @@
+//! Answers and refusals for machines: one object a line, in ASCII.
+
+use crate::{
+    due::{self, Item},
+    notes::{self, Note},
+    places::Places,
+    text::Text,
+};
+use movesig::{Comment, Refusal, Span, Token, Tree, LONGEST};
+use std::fmt::Write;
+
+/// An object that is being written.
+pub struct Object(String);
+
+impl Object {
+    /// About the file.
+    pub fn of(file: &[u8]) -> Object {
+        Object(String::new()).text("file", file)
+    }
+
+    fn new() -> Object {
+        Object(String::new())
+    }
+
+    fn raw(mut self, key: &str, value: &str) -> Object {
+        let comma = if self.0.is_empty() { "" } else { "," };
+        write!(self.0, "{comma}\"{key}\":{value}").expect("a string takes what it is given");
+        self
+    }
+
+    pub fn number(self, key: &str, value: usize) -> Object {
+        self.raw(key, &value.to_string())
+    }
+
+    pub fn text(self, key: &str, value: &[u8]) -> Object {
+        let value = string(value);
+        self.raw(key, &value)
+    }
+
+    fn span(self, span: Span) -> Object {
+        self.number("start", span.start).number("end", span.end)
+    }
+
+    fn place(self, places: &Places, span: Span) -> Object {
+        let (line, column) = places.of(span.start);
+        self.span(span)
+            .number("line", line)
+            .number("column", column)
+    }
+
+    fn item(self, item: Item) -> Object {
+        self.text("item", item.kind.name().as_bytes())
+            .number("at", item.at)
+    }
+
+    fn list(self, key: &str, values: impl Iterator<Item = String>) -> Object {
+        let values: Vec<String> = values.collect();
+        self.raw(key, &format!("[{}]", values.join(",")))
+    }
+
+    fn notes(self, notes: &[Note]) -> Object {
+        let note = |note: &Note| {
+            let object = Object::new().number("at", note.at);
+            object.text("note", note.words.as_bytes()).end()
+        };
+        self.list("notes", notes.iter().map(note))
+    }
+
+    fn end(self) -> String {
+        format!("{{{}}}", self.0)
+    }
+
+    /// With the line's end.
+    pub fn line(self) -> String {
+        self.end() + "\n"
+    }
+}
+
+/// Bytes that are not UTF-8 become U+FFFD.
+fn string(bytes: &[u8]) -> String {
+    let mut to = String::from("\"");
+    for character in String::from_utf8_lossy(bytes).chars() {
+        match character {
+            '"' | '\\' => to.extend(['\\', character]),
+            ' '..='~' => to.push(character),
+            _ => {
+                for unit in character.encode_utf16(&mut [0; 2]) {
+                    write!(to, "\\u{unit:04x}").expect("a string takes what it is given");
+                }
+            }
+        }
+    }
+    to + "\""
+}
+
+pub fn token(file: &[u8], text: &[u8], places: &Places, token: Token) -> String {
+    Object::of(file)
+        .text("token", token.kind.name().as_bytes())
+        .number("number", token.kind.number().into())
+        .place(places, token.span)
+        .text("text", token.span.of(text))
+        .line()
+}
+
+pub fn comment(file: &[u8], text: &[u8], places: &Places, comment: Comment) -> String {
+    Object::of(file)
+        .text("comment", comment.text.of(text))
+        .place(places, comment.span)
+        .number("text_start", comment.text.start)
+        .number("text_end", comment.text.end)
+        .line()
+}
+
+/// An item's tree, or its display line, and what is beside it.
+pub fn item(file: &[u8], text: &[u8], item: Item, answer: &Answer, beside: &Beside) -> String {
+    let object = Object::of(file).item(item);
+    let object = match answer {
+        Answer::Tree(tree) => object.raw("tree", &record(*tree)),
+        Answer::Line(line) => object.text("shown", line),
+    };
+    let object = match beside.next {
+        Some(next) => object.raw("next", &following(next, text)),
+        None => object,
+    };
+    object.notes(&beside.notes).line()
+}
+
+pub enum Answer<'a> {
+    Tree(Tree<'a, 'a>),
+    Line(&'a [u8]),
+}
+
+/// What is beside an item: the token that follows, where it is known, and what is to be noted.
+pub struct Beside {
+    pub next: Option<Token>,
+    pub notes: Vec<Note>,
+}
+
+fn following(token: Token, text: &[u8]) -> String {
+    Object::new()
+        .text("token", token.kind.name().as_bytes())
+        .number("number", token.kind.number().into())
+        .span(token.span)
+        .text("text", token.span.of(text))
+        .end()
+}
+
+fn record(tree: Tree) -> String {
+    let object = Object::new()
+        .text("record", tree.kind().name().as_bytes())
+        .number("number", tree.kind().number().into())
+        .span(tree.span());
+    let object = match tree.spelling() {
+        Some(spelling) => object.text("text", spelling),
+        None => object,
+    };
+    object.list("children", tree.children().map(record)).end()
+}
+
+/// That a file cannot be read.
+pub fn failure(file: &[u8], why: &str) -> String {
+    Object::of(file).text("error", why.as_bytes()).line()
+}
+
+pub fn refusal(file: &[u8], text: &Text, item: Option<Item>, refusal: &Refusal) -> String {
+    let (text, length) = (&text.bytes, text.length);
+    let mut object = Object::of(file);
+    if let Some(item) = item {
+        object = object.item(item);
+    }
+    object = object
+        .number("refused", refusal.number() as usize)
+        .text("reason", refusal.reason().as_bytes());
+    if refusal.is_by_caller() {
+        if let Some(length) = length {
+            object = object.raw("length", &length.to_string());
+        }
+        return object.number("limit", LONGEST).line();
+    }
+    let places = Places::new(text);
+    object = object.place(&places, refusal.place());
+    if refusal.second() != refusal.place() {
+        let second = Object::new().place(&places, refusal.second());
+        object = object.raw("second", &second.end());
+    }
+    if let Some(found) = due::token_at(text, refusal) {
+        object = object.raw("found", &following(found, text));
+    }
+    if let Some(item) = item {
+        if due::token_at(text, refusal).is_some() {
+            let due = due::due(text, item, refusal);
+            object = object.list("due", due.iter().map(|word| string(word.as_bytes())));
+        }
+        let note = notes::offset(text, item.at);
+        object = object.notes(note.as_slice());
+    }
+    object.line()
+}

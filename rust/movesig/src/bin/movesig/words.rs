@@ -1,0 +1,136 @@
+//! The words of the command line.
+
+use crate::{
+    job::{Job, Place, Work},
+    visible,
+};
+use movesig::Kind;
+use std::ffi::{OsStr, OsString};
+
+/// What is asked for.
+pub enum Asked {
+    Help,
+    Man,
+    Completions,
+    Version,
+    Jobs(Vec<Job>),
+}
+
+/// What the words ask for, or what is wrong with them.
+pub fn asked(words: impl Iterator<Item = OsString>) -> Result<Asked, String> {
+    let mut plain = vec![];
+    let (mut options, mut json) = (true, false);
+    for word in words {
+        match word.to_str() {
+            Some("--") if options => options = false,
+            Some("--help" | "-h") if options => return Ok(Asked::Help),
+            Some("--version" | "-V") if options => return Ok(Asked::Version),
+            Some("--json") if options => json = true,
+            Some(name) if options && is_option(name) => {
+                return Err(format!("no such option: {}", shown(&word)));
+            }
+            _ => plain.push(word),
+        }
+    }
+    let mut words = plain.into_iter();
+    let command = words.next().ok_or("no command is given")?;
+    let work = match command.to_str() {
+        Some("tokens") => Work::Tokens,
+        Some("comments") => Work::Comments,
+        Some("read") => Work::Read(kind(words.next())?),
+        Some("line") => Work::Line(kind(words.next())?),
+        Some("help") => return Ok(Asked::Help),
+        Some("man") => return Ok(Asked::Man),
+        Some("completions") => return Ok(Asked::Completions),
+        _ => return Err(format!("no such command: {}", shown(&command))),
+    };
+    let files = files(words, matches!(work, Work::Read(_) | Work::Line(_)))?;
+    let several = files.len() > 1;
+    let job = |(file, place)| Job {
+        work,
+        file,
+        place,
+        json,
+        several,
+    };
+    Ok(Asked::Jobs(files.into_iter().map(job).collect()))
+}
+
+/// A word such as `-1` is a place, and a wrong one.
+fn is_option(word: &str) -> bool {
+    let rest = word.strip_prefix('-').unwrap_or_default();
+    !rest.is_empty() && !rest.starts_with(|first: char| first.is_ascii_digit())
+}
+
+/// The files, each with the place behind it.
+fn files(
+    words: impl Iterator<Item = OsString>,
+    placed: bool,
+) -> Result<Vec<(OsString, Place)>, String> {
+    let mut files: Vec<(OsString, Place)> = vec![];
+    let mut expected = false;
+    for word in words {
+        if placed && is_like_a_place(&word) {
+            let place = place(&word)?;
+            match files.last_mut() {
+                Some((_, at)) if expected => *at = place,
+                Some(_) => return Err(format!("one place too many: {}", shown(&word))),
+                None => return Err(format!("a place before its file: {}", shown(&word))),
+            }
+            expected = false;
+        } else {
+            files.push((word, Place::Byte(0)));
+            expected = true;
+        }
+    }
+    if files.is_empty() {
+        return Err("no file is given".to_string());
+    }
+    Ok(files)
+}
+
+fn is_like_a_place(word: &OsStr) -> bool {
+    let word = word.as_encoded_bytes();
+    let sign = word.first().is_some_and(|byte| b"+-:".contains(byte));
+    let first = word.get(usize::from(sign));
+    word.is_empty() || first.is_some_and(u8::is_ascii_digit)
+}
+
+fn kind(word: Option<OsString>) -> Result<Kind, String> {
+    const KINDS: &str = "name, value, type, binds or lambda";
+    let word = word.ok_or_else(|| format!("no kind is given: {KINDS}"))?;
+    let named = word.to_str().and_then(Kind::from_name);
+    named.ok_or_else(|| format!("no such kind: {}: it is {KINDS}", shown(&word)))
+}
+
+fn place(word: &OsStr) -> Result<Place, String> {
+    let bytes = word.as_encoded_bytes();
+    let colon = bytes.iter().position(|&byte| byte == b':');
+    let place = match colon.map(|at| (&bytes[..at], &bytes[at + 1..])) {
+        None => number(bytes).map(Place::Byte),
+        Some((line, column)) => match (number(line), number(column)) {
+            (Some(line @ 1..), Some(column @ 1..)) => Some(Place::LineColumn(line, column)),
+            _ => None,
+        },
+    };
+    place.ok_or_else(|| {
+        let rule = "a byte, counted from 0, or LINE:COLUMN, both from 1";
+        format!("not a place: {}: it is {rule}", shown(word))
+    })
+}
+
+/// A decimal number. One that is too long to be stored is past the end of every text, and so
+/// is the greatest that can be.
+fn number(digits: &[u8]) -> Option<usize> {
+    let all_digits = !digits.is_empty() && digits.iter().all(u8::is_ascii_digit);
+    all_digits.then(|| {
+        digits.iter().fold(0, |sum: usize, digit| {
+            sum.saturating_mul(10).saturating_add((digit - b'0').into())
+        })
+    })
+}
+
+/// A word of the command line, safe to show.
+fn shown(word: &OsStr) -> String {
+    visible::cut(word.as_encoded_bytes(), 4_096)
+}
