@@ -1,0 +1,47 @@
+-- The five kinds of items, read at an offset of a text.
+use Prim.Native.Nat.{ℕ}
+use mathlib.Core.Bool.{_||_}
+use mathlib.Core.List.{List}
+use lib.Dec.{eqb, ltb}
+use lib.ListN.{length}
+use Rattle.tokens.specs.Refusals.{TextTooLong, StartPastEnd, NoSuchKind}
+use Rattle.tokens.specs.Answers.{refusal}
+use Rattle.tokens.specs.Calls.{textLimit}
+use Rattle.tokens.specs.declared.Refusal.{Refusal}
+use Rattle.records.specs.Tree.{Tree}
+use Rattle.sources.specs.Source.{opened, Token, Scanned, tok, bad, lex}
+use Rattle.answers.specs.Reading.{Ans, ok, no, look, when, Reader}
+use Rattle.grammar.specs.Names.{chain}
+use Rattle.grammar.specs.Values.{value}
+use Rattle.grammar.specs.Types.{levels, readType}
+use Rattle.grammar.specs.Binds.{readBindList, readLambdaList}
+
+-- an item's tree and the token that follows it, already read; or a refusal
+pub data Item : Type 0 where
+  item : Tree → Token → Item
+  refused : Refusal → Item
+
+-- 1 name, 2 value, 3 type, 4 binding list, 5 lambda binding list
+unfoldable pub readKind : ℕ → Reader
+readKind kind a =
+    when (eqb kind 1) (λ _. chain a) λ _.
+    when (eqb kind 2) (λ _. value a) λ _.
+    when (eqb kind 3) (λ _. readType levels a) λ _.
+    when (eqb kind 4) (λ _. readBindList a) λ _.
+    readLambdaList a
+
+unfoldable pub followed : Tree → Scanned → Item
+followed x (tok t) = item x t
+followed x (bad r) = refused r
+
+unfoldable pub finished : Ans Tree → Item
+finished (ok x u) = followed x (lex u)
+finished (no r) = refused r
+
+-- refusals 1, 2 and 3, in this order; then what the text says
+unfoldable pub readItem : ℕ → List ℕ → ℕ → Item
+readItem kind text at =
+    when (ltb textLimit (length text)) (λ _. refused (refusal TextTooLong 0 0)) λ _.
+    when (ltb (length text) at) (λ _. refused (refusal StartPastEnd 0 0)) λ _.
+    when (eqb kind 0 || ltb 5 kind) (λ _. refused (refusal NoSuchKind 0 0)) λ _.
+    finished (look (lex (opened text at)) (readKind kind))

@@ -1,0 +1,6 @@
+pub mod Names
+pub mod Values
+pub mod Types
+pub mod Binds
+pub mod Items
+pub mod Raise

@@ -1,0 +1,1 @@
+// The grammar: no functions, only the definitions of what is read.

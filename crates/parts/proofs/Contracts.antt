@@ -1,0 +1,57 @@
+-- Contracts, put together: one law for each way in which a function of the walk ends.
+use mathlib.Core.Path.{_≡_, refl, sym, subst}
+use mathlib.Core.List.{List}
+use Prim.Native.Nat.{ℕ, _≤_}
+use native.Mathlib.Omega.{arith}
+use lib.ListN.{length}
+use Rattle.tokens.specs.Calls.{textLimit, nextToken}
+use Rattle.tokens.specs.declared.Refusal.{Refusal}
+use Rattle.tokens.specs.declared.Token.{Token as Answer}
+use Rattle.tokens.specs.declared.Lexed.{Lexed}
+use Rattle.tokens.specs.declared.Lexed.the-variants.{Found, Refused as Bad}
+use Rattle.records.specs.Tree.{Tree}
+use Rattle.sources.specs.Source.{opened}
+use Rattle.answers.specs.Reading.{Ans, ok, no}
+use Rattle.forms.specs.Forms.{laid}
+use Rattle.forms.specs.code.Spots.{Placed}
+use Rattle.forms.specs.declared.Spot.{Spot}
+use Rattle.parts.specs.declared.Parsed.{Parsed}
+use Rattle.parts.specs.declared.Parsed.the-variants.{Read, Refused}
+use Rattle.parts.specs.code.Meets.{followedBy, Refuses, Meets, Follows, Reads}
+use Rattle.parts.proofs.Held.{next-refused}
+
+module _ (form : ℕ) (text : List ℕ) (fits : Type 0) (x : Ans Tree) (from : ℕ) (s : Spot) (l m : List ℕ) where
+  -- it is refused
+  pub reads-no : (r : Refusal) → (fits → x ≡ no r) → Reads form text fits x from s l (Refused r) m
+  unfolding Meets Refuses Follows
+  reads-no r h = record { meets = λ f. subst (λ (y : Ans Tree). Refuses y r) (sym (h f)) refl; goes = tt }
+
+  -- something was read, and the token behind it
+  pub reads-read : (what : Tree) (q : ℕ) (n : Answer) (to : Spot) → from ≤ q → (fits → x ≡ ok what (opened text q)) → nextToken text q ≡ Found n → Placed l s (laid form what) to m
+      → Reads form text fits x from s l (Read (record { to = to; end = q; next = n })) m
+  unfolding Meets Follows
+  reads-read what q n to h g e b = record { meets = λ f. record { what = what; is = g f; bytes = b }; goes = (h, e) }
+
+  -- something was read, and the token behind it is read last
+  pub reads-finished : (what : Tree) (q : ℕ) (to : Spot) (r : Parsed) → from ≤ q → (fits → (length text ≤ textLimit) × (q ≤ length text)) → (fits → x ≡ ok what (opened text q)) → Placed l s (laid form what) to m
+      → r ≡ followedBy to q (nextToken text q) → Reads form text fits x from s l r m
+  unfolding followedBy Meets Refuses Follows
+  reads-finished what q to r h i g b e = subst (λ (y : Parsed). Reads form text fits x from s l y m) (sym e) (go (nextToken text q) refl)
+    where
+      go : (y : Lexed) → nextToken text q ≡ y → Reads form text fits x from s l (followedBy to q y) m
+      go (Found n) z = reads-read what q n to h g z b
+      go (Bad r₂) z = record { meets = λ f. subst (λ (y : Ans Tree). Refuses y r₂) (sym (g f)) (next-refused text q (i f .0) (i f .1) r₂ z); goes = tt }
+
+-- the contract of another function, handed on
+pub reads-as : (form : ℕ) (text : List ℕ) (fits fits₂ : Type 0) (x x₂ : Ans Tree) (from from₂ : ℕ) (s : Spot) (l m : List ℕ) (r : Parsed) → from ≤ from₂ → (fits → fits₂) → (fits → x ≡ x₂)
+    → Reads form text fits₂ x₂ from₂ s l r m → Reads form text fits x from s l r m
+unfolding Follows
+reads-as form text fits fits₂ x x₂ from from₂ s l m r h g e d =
+    record {
+      meets = λ f. subst (λ (y : Ans Tree). Meets form text y s l r m) (sym (e f)) (d .meets (g f));
+      goes = go r (d .goes);
+    }
+  where
+    go : (r : Parsed) → Follows text from₂ r → Follows text from r
+    go (Read p) z = (omega (arith, h, z .0), z .1)
+    go (Refused r₂) z = tt

@@ -1,0 +1,61 @@
+-- What a function of the walk answers for what a reader reads, and what it lays down.
+use Prim.Native.Nat.{ℕ, _+_, _-_, _≤_, min}
+use mathlib.Core.Path.{_≡_}
+use mathlib.Core.List.{List}
+use lib.ListN.{length}
+use Rattle.tokens.specs.Answers.{refusal}
+use Rattle.tokens.specs.Calls.{textLimit, nextToken}
+use Rattle.tokens.specs.declared.Refusal.{Refusal}
+use Rattle.tokens.specs.declared.Token.{Token as Answer}
+use Rattle.tokens.specs.declared.Lexed.{Lexed}
+use Rattle.tokens.specs.declared.Lexed.the-variants.{Found, Refused as Bad}
+use Rattle.records.specs.Tree.{Tree}
+use Rattle.sources.specs.Source.{opened, Token, bad, lex}
+use Rattle.answers.specs.Reading.{Ans, ok, no}
+use Rattle.forms.specs.Forms.{laid}
+use Rattle.forms.specs.code.Spots.{Placed}
+use Rattle.forms.specs.declared.Spot.{Spot}
+use Rattle.parts.specs.declared.Part.{Part}
+use Rattle.parts.specs.declared.Parsed.{Parsed}
+use Rattle.parts.specs.declared.Parsed.the-variants.{Read, Refused}
+
+-- a token of the code has a span of a text that is not too long, and takes a byte unless its kind is 0; and the token of the
+-- definitions that it stands for
+abbrev pub Fits : List ℕ → Answer → Type 0
+Fits text a = (length text ≤ textLimit) × (a .start + min 1 (a .kind) ≤ a .end) × (a .end ≤ length text)
+
+abbrev pub held : List ℕ → Answer → Token
+held text a = record { kind = a .kind; here = opened text (a .start); len = a .end - a .start }
+
+abbrev pub refusedToken : ℕ → Answer → Parsed
+refusedToken n t = Refused (refusal n (t .start) (t .end))
+
+-- what ends at q, with its bytes up to s, and the token that follows
+unfoldable pub followedBy : Spot → ℕ → Lexed → Parsed
+followedBy s q (Found n) = Read (record { to = s; end = q; next = n })
+followedBy s q (Bad r) = Refused r
+
+-- a reader refuses, or the token behind what it read is refused
+unfoldable pub Refuses : Ans Tree → Refusal → Type 0
+Refuses (ok x u) r = lex u ≡ bad r
+Refuses (no r₂) r = r₂ ≡ r
+
+-- the reader read `what`, which was laid down from the place s on
+pub record Had (form : ℕ) (text : List ℕ) (x : Ans Tree) (s : Spot) (l : List ℕ) (p : Part) (m : List ℕ) : Type 0 where
+  pub what : Tree
+  pub is : x ≡ ok what (opened text (p .end))
+  pub bytes : Placed l s (laid form what) (p .to) m
+
+unfoldable pub Meets : ℕ → List ℕ → Ans Tree → Spot → List ℕ → Parsed → List ℕ → Type 0
+Meets form text x s l (Read p) m = Had form text x s l p m
+Meets form text x s l (Refused r) m = Refuses x r
+
+-- reading goes on at `end`, which is not before `from`, with the token that stands there
+unfoldable pub Follows : List ℕ → ℕ → Parsed → Type 0
+Follows text from (Read p) = (from ≤ p .end) × (nextToken text (p .end) ≡ Found (p .next))
+Follows text from (Refused r) = Unit {0}
+
+-- a contract: where the tokens fit the answer is what x says; and, whatever they are, reading goes on behind `from`
+pub record Reads (form : ℕ) (text : List ℕ) (fits : Type 0) (x : Ans Tree) (from : ℕ) (s : Spot) (l : List ℕ) (r : Parsed) (m : List ℕ) : Type 0 where
+  pub meets : (fits → Meets form text x s l r m)
+  pub goes : Follows text from r

@@ -1,0 +1,3 @@
+pub mod Standing
+pub mod Numbers
+pub mod Raised

@@ -1,0 +1,69 @@
+-- A source is where reading goes on: a place of the text and the bytes from there on. A token holds the source at its first byte.
+use Prim.Native.Nat.{ℕ, _+_, _-_}
+use mathlib.Core.List.{List}
+use lib.ListN.{take, drop}
+use Rattle.tokens.specs.Answers.{token}
+use Rattle.tokens.specs.Token.{Scanned as Lexing, tok as found, bad as faulty, lex as lexFrom}
+use Rattle.tokens.specs.declared.Refusal.{Refusal}
+use Rattle.tokens.specs.declared.Token.{Token as Answer}
+use Rattle.tokens.specs.declared.Lexed.{Lexed}
+use Rattle.tokens.specs.declared.Lexed.the-variants.{Found, Refused}
+
+pub record Source : Type 0 where
+  pub at : ℕ
+  pub rest : List ℕ
+
+-- the source of a text from an offset on
+abbrev pub opened : List ℕ → ℕ → Source
+opened text p = record { at = p; rest = drop p text }
+
+-- the same source at another place: the one definition that names every field when a source is moved on
+abbrev pub moved : Source → ℕ → List ℕ → Source
+moved u p s = record { at = p; rest = s }
+
+-- n bytes on
+abbrev pub past : ℕ → Source → Source
+past n u = moved u (u .at + n) (drop n (u .rest))
+
+pub record Token : Type 0 where
+  pub kind : ℕ
+  pub here : Source
+  pub len : ℕ
+
+abbrev pub start : Token → ℕ
+start t = t .here .at
+
+abbrev pub end : Token → ℕ
+end t = t .here .at + t .len
+
+-- the bytes of a token
+abbrev pub word : Token → List ℕ
+word t = take (t .len) (t .here .rest)
+
+-- where reading goes on behind a token, and behind the first byte of `>>`
+abbrev pub after : Token → Source
+after t = past (t .len) (t .here)
+
+abbrev pub split : Token → Source
+split t = past 1 (t .here)
+
+pub data Scanned : Type 0 where
+  tok : Token → Scanned
+  bad : Refusal → Scanned
+
+-- what the lexer finds in a source
+unfoldable pub scanned : Source → Lexing → Scanned
+scanned u (found k s e w r) = tok (record { kind = k; here = past (s - u .at) u; len = e - s })
+scanned u (faulty r) = bad r
+
+-- the next token of a source
+unfoldable pub lex : Source → Scanned
+lex u = scanned u (lexFrom (u .at) (u .rest))
+
+-- a token as the calls answer it: its kind and its span
+abbrev pub tokenOf : Token → Answer
+tokenOf t = token (t .kind) (start t) (end t)
+
+unfoldable pub answerOf : Scanned → Lexed
+answerOf (tok t) = Found (tokenOf t)
+answerOf (bad r) = Refused r

@@ -1,0 +1,1 @@
+// Sources and tokens: no functions, only the words in which reading is defined and what is proved of them.
