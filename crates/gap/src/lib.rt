@@ -141,16 +141,6 @@ fn where_equal(n: usize, d: usize, a: usize, b: usize) -> usize
     b
 }
 
-// One less, and 0 at 0.
-fn one_less(n: usize) -> usize
-    ensures { λ r. ⌜ r ≡ n - 1 ⌝ }
-{
-    if 0 < n {
-        return n - 1;
-    }
-    0
-}
-
 // The first scan of a block comment, from behind its opener: a depth stands for the Rust's
 // stack of openers.
 fn close_of(text: &[u8], at: usize) -> Close
@@ -197,7 +187,7 @@ fn opener_of(text: &[u8], at: usize, d: usize, p: usize) -> usize
             last = where_equal(n, d, i, last);
             i += 2;
         } else if pair(a, b, b'*', b'/') {
-            n = one_less(n);
+            n = numbers::less(n, 1);
             i += 2;
         } else {
             i += 1;

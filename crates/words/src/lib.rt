@@ -275,12 +275,6 @@ pub fn name_kind(text: &[u8], at: usize, n: usize) -> u8
     keyword_kind(text[at], packed(text, at, m))
 }
 
-fn wide(b: u8) -> usize
-    ensures { λ r. ⌜ r ≡ b ⌝ }
-{
-    b as usize
-}
-
 fn no_mark() -> Fit
     ensures { λ r. ⌜ r ≡ noFit ⌝ }
 {
@@ -324,7 +318,7 @@ fn row_fit(text: &[u8], at: usize, row: [u8; 7]) -> Fit
     requires { ⌜ (0 < getD row 5 0) × (getD row 5 0 ≤ 5) ⌝ }
     ensures { λ r. ⌜ r ≡ rowFit row (drop at (now (text .entry))) ⌝ }
 {
-    let n = wide(row[5]);
+    let n = numbers::wide(row[5]);
     if starts(text, at, &row, n) {
         return Fit {
             len: n,

@@ -48,8 +48,8 @@ loop-again c = (search needs, c .before .before .before .before .before .before 
 pair-requires-2 : tie.Need-pair-requires-2 Inv-loop μ-loop
 pair-requires-2 c κs = search needs
 
-one-less-requires : tie.Need-one-less-requires Inv-loop μ-loop
-one-less-requires c κs = search needs
+less-requires : tie.Need-less-requires Inv-loop μ-loop
+less-requires c κs = search needs
 
 add-i-2 : tie.Need-add-i-2 Inv-loop μ-loop
 add-i-2 c = search needs
@@ -59,7 +59,7 @@ loop-less-2 c = search needs
 
 loop-again-2 : tie.Need-loop-again-2 Inv-loop μ-loop
 unfolding opens closes
-loop-again-2 c = (search needs, c .before .before .before .before .before .before .before .before .loop .inv .1 ∙ closed _ _ _ _ _ _ (search needs) (c .before .before .before .before .before .byte-at .ensures) (sym (c .before .before .before .before .pair .ensures) ∙ c .before .before .before .if1 .left) _ (c .one-less .ensures) (sym (c .before .before .pair2 .ensures) ∙ c .before .if2 .taken))
+loop-again-2 c = (search needs, c .before .before .before .before .before .before .before .before .loop .inv .1 ∙ closed _ _ _ _ _ _ (search needs) (c .before .before .before .before .before .byte-at .ensures) (sym (c .before .before .before .before .pair .ensures) ∙ c .before .before .before .if1 .left) _ (c .less .ensures) (sym (c .before .before .pair2 .ensures) ∙ c .before .if2 .taken))
 
 add-i-3 : tie.Need-add-i-3 Inv-loop μ-loop
 add-i-3 c = search needs
@@ -91,7 +91,7 @@ opener-of-spec =
     loop-less
     loop-again
     pair-requires-2
-    one-less-requires
+    less-requires
     add-i-2
     loop-less-2
     loop-again-2
