@@ -5,18 +5,18 @@ use mathlib.Core.List.{List, [], _∷_, _++_}
 use Prim.Native.Nat.{ℕ, zero, suc, _+_, _<_, _≤_}
 use native.Mathlib.Omega.{arith}
 use native.Mathlib.Numerals.{add-one}
-use borrow.Author.Tests.{eqb-true, eqb-false, eq-eqb, ne-eqb, not-true, leb-true}
+use borrow.Author.Tests.{eqb-true, eqb-false, eq-eqb, ne-eqb, not-true, leb-true, lt-ltb, le-ltb}
 use lib.Dec.{eqb, leb}
-use lib.ListN.{length, getD, take, drop, drop-of-length-le}
-use lib.Seq.{drop-cons, getD-drop}
+use lib.ListN.{length, getD, take, drop, drop-of-length-le, length-take}
+use lib.Seq.{getD-drop, slice, slice-cons}
 use Rattle.classes.specs.Bytes.{begins}
 use Rattle.words.specs.Tables.{Entry, none, longMarks, doubleMarks, singleMarks, marks}
 use Rattle.words.specs.Search.{noFit, markOf, firstFit}
 use Rattle.words.specs.code.Rows.{valueIf, rowFit}
 use Rattle.words.specs.declared.Fit.{Fit}
 use Rattle.classes.proofs.Bools.{and-left, and-right, and-true}
-use Rattle.words.proofs.Tests.{all, all-head, all-tail, all-at, plain, plain-some, plain-tail}
-use Rattle.words.proofs.Rows.{markRows, tables, cellsAre, cell}
+use Rattle.words.proofs.Tests.{all, all-head, all-tail, all-at, all-left, all-right, plain, plain-some, plain-tail}
+use Rattle.words.proofs.Rows.{markRows, sizeAt, MarkRow, mark-row}
 use Rattle.words.proofs.Marks.{mark-first}
 
 -- a table in two parts: the first part decides where an entry of it fits
@@ -29,22 +29,36 @@ unfolding firstFit
 over-hit [] u s h = absurd (h refl)
 over-hit (e ∷ es) u s h = hit-step (begins (e .word) s) _ (firstFit es s) (firstFit (es ++ u) s) h (over-hit es u s)
 
--- an entry of the table: at least one byte, and a kind that is not 0
+-- an entry of the table: one to five bytes, and a kind that is not 0
 isMark : Entry → Bool
-isMark e = leb 1 (length (e .word)) && not (eqb (e .kind) 0)
+isMark e = (leb 1 (length (e .word)) && leb (length (e .word)) 5) && not (eqb (e .kind) 0)
 
 all-marks : all isMark marks ≡ true
 unfolding isMark marks longMarks doubleMarks singleMarks
 all-marks = refl
 
+longs : all isMark longMarks ≡ true
+unfolding marks
+longs = all-left isMark longMarks (doubleMarks ++ singleMarks) all-marks
+
+doubles : all isMark doubleMarks ≡ true
+unfolding marks
+doubles = all-left isMark doubleMarks singleMarks (all-right isMark longMarks (doubleMarks ++ singleMarks) all-marks)
+
 module _ (e : Entry) (h : isMark e ≡ true) where
-  one-or-more : 1 ≤ length (e .word)
+  lengths : leb 1 (length (e .word)) && leb (length (e .word)) 5 ≡ true
   unfolding isMark
-  one-or-more = leb-true _ _ (and-left (leb 1 (length (e .word))) (not (eqb (e .kind) 0)) h)
+  lengths = and-left (leb 1 (length (e .word)) && leb (length (e .word)) 5) (not (eqb (e .kind) 0)) h
+
+  one-or-more : 1 ≤ length (e .word)
+  one-or-more = leb-true _ _ (and-left (leb 1 (length (e .word))) (leb (length (e .word)) 5) lengths)
+
+  five-or-less : length (e .word) ≤ 5
+  five-or-less = leb-true _ _ (and-right (leb 1 (length (e .word))) (leb (length (e .word)) 5) lengths)
 
   has-kind : e .kind ≡ 0 → ⊥
   unfolding isMark
-  has-kind = eqb-false _ _ (not-true _ (and-right (leb 1 (length (e .word))) (not (eqb (e .kind) 0)) h))
+  has-kind = eqb-false _ _ (not-true _ (and-right (leb 1 (length (e .word)) && leb (length (e .word)) 5) (not (eqb (e .kind) 0)) h))
 
 miss-step : (b : Bool) (e : Entry) (g h k : Fit) → isMark e ≡ true → cond b (record { len = length (e .word); kind = e .kind }) g .len ≡ 0
     → (g .len ≡ 0 → h ≡ k) → cond b (record { len = length (e .word); kind = e .kind }) h ≡ k
@@ -58,23 +72,29 @@ over-miss (e ∷ es) u s p z =
     miss-step (begins (e .word) s) e (firstFit es s) (firstFit (es ++ u) s) (firstFit u s) (all-head isMark e es p) z
     (over-miss es u s (all-tail isMark e es p))
 
--- the search from the entry k of a part of the table on, f being what the entry k alone finds
-module _ (t : List Entry) (s : List ℕ) where
-  pub fit-end : (k : ℕ) → length t ≤ k → firstFit (drop k t) s ≡ noFit
+-- the search through the rows from k up to hi, f being what the entry k alone finds
+module _ (hi k : ℕ) (s : List ℕ) where
+  pub fit-end : hi ≤ k → firstFit (slice k hi marks) s ≡ noFit
   unfolding firstFit
-  fit-end k h = rw (drop-of-length-le t h)
+  fit-end h = rw (drop-of-length-le (take hi marks) {i = k} (rw length-take (omega arith)))
 
-  module _ (k : ℕ) (h : k < length t) (f : Fit) (e : f ≡ firstFit (getD t k none ∷ []) s) where
-    here : drop k t ≡ (getD t k none ∷ []) ++ drop (k + 1) t
-    here = rw (add-one k) (drop-cons t k none h)
+  module _ (m : hi ≤ 37) (h : k < hi) where
+    mark : isMark (getD marks k none) ≡ true
+    unfolding marks longMarks doubleMarks singleMarks
+    mark = all-at isMark marks k all-marks (omega arith)
 
-    fit-hit : (f .len ≡ 0 → ⊥) → firstFit (drop k t) s ≡ f
-    fit-hit g =
-        rw here (over-hit (getD t k none ∷ []) (drop (k + 1) t) s (λ p. g (ap (λ (x : Fit). x .len) e ∙ p))) ∙ sym e
+    module _ (f : Fit) (e : f ≡ firstFit (getD marks k none ∷ []) s) where
+      here : slice k hi marks ≡ (getD marks k none ∷ []) ++ slice (k + 1) hi marks
+      unfolding marks longMarks doubleMarks singleMarks
+      here = rw (add-one k) (slice-cons k hi marks none h m)
 
-    fit-next : all isMark t ≡ true → f .len ≡ 0 → firstFit (drop k t) s ≡ firstFit (drop (k + 1) t) s
-    fit-next m z =
-        rw here (over-miss (getD t k none ∷ []) (drop (k + 1) t) s (rw (all-at isMark t k m h)) (ap (λ (x : Fit). x .len) (sym e) ∙ z))
+      fit-hit : (f .len ≡ 0 → ⊥) → firstFit (slice k hi marks) s ≡ f
+      fit-hit g =
+          rw here (over-hit (getD marks k none ∷ []) (slice (k + 1) hi marks) s (λ p. g (ap (λ (x : Fit). x .len) e ∙ p))) ∙ sym e
+
+      fit-next : f .len ≡ 0 → firstFit (slice k hi marks) s ≡ firstFit (slice (k + 1) hi marks) s
+      fit-next z =
+          rw here (over-miss (getD marks k none ∷ []) (slice (k + 1) hi marks) s (rw mark) (ap (λ (x : Fit). x .len) (sym e) ∙ z))
 
 -- a fit of n bytes, where the kind is not 0
 fitFor : ℕ → ℕ → Fit
@@ -139,125 +159,86 @@ pub row-off : (row s : List ℕ) (n : ℕ) → n ≡ getD row 5 0 → (b : Bool)
 unfolding rowFit
 row-off row s n e b p q = rw (← e, ← p, q)
 
-longs : all isMark longMarks ≡ true
-unfolding isMark longMarks
-longs = refl
-
-long-row : (k : ℕ) (s : List ℕ) → k < 3 → rowFit (getD markRows k []) s ≡ firstFit (getD longMarks k none ∷ []) s
-unfolding tables rowFit firstFit
-long-row zero s h = refl
-long-row (suc zero) s h = refl
-long-row (suc (suc zero)) s h = refl
-long-row (suc (suc (suc k))) s h = absurd (omega arith)
-
-pub long-room : (k : ℕ) → k < 3 → (0 < getD (getD markRows k []) 5 0) × (getD (getD markRows k []) 5 0 ≤ 5)
-unfolding tables
-long-room zero h = (omega arith, omega arith)
-long-room (suc zero) h = (omega arith, omega arith)
-long-room (suc (suc zero)) h = (omega arith, omega arith)
-long-room (suc (suc (suc k))) h = absurd (omega arith)
-
 module _ (s : List ℕ) (k : ℕ) (h : k < 3) where
-  in-longs : k < length longMarks
-  unfolding longMarks
-  in-longs = h
+  long : MarkRow k
+  long = mark-row k (omega arith)
+
+  is-mark : isMark (getD marks k none) ≡ true
+  is-mark = mark 3 k s (omega arith) h
+
+  pub long-room : (0 < getD (getD markRows k []) 5 0) × (getD (getD markRows k []) 5 0 ≤ 5)
+  long-room =
+      let l : getD (getD markRows k []) 5 0 ≡ length (getD marks k none .word) = long .size in
+      let a : 1 ≤ length (getD marks k none .word) = one-or-more (getD marks k none) is-mark in
+      let b : length (getD marks k none .word) ≤ 5 = five-or-less (getD marks k none) is-mark in
+      (omega arith, omega arith)
+
+  long-row : rowFit (getD markRows k []) s ≡ firstFit (getD marks k none ∷ []) s
+  unfolding rowFit firstFit
+  long-row = rw (long .bytes, long .size, long .kind)
 
   module _ (f : Fit) (e : f ≡ rowFit (getD markRows k []) s) where
-    pub long-hit : (f .len ≡ 0 → ⊥) → firstFit (drop k longMarks) s ≡ f
-    long-hit g = fit-hit longMarks s k in-longs f (e ∙ long-row k s h) g
+    pub long-hit : (f .len ≡ 0 → ⊥) → firstFit (slice k 3 marks) s ≡ f
+    long-hit g = fit-hit 3 k s (omega arith) h f (e ∙ long-row) g
 
-    pub long-miss : f .len ≡ 0 → firstFit (drop k longMarks) s ≡ firstFit (drop (k + 1) longMarks) s
-    long-miss z = fit-next longMarks s k in-longs f (e ∙ long-row k s h) longs z
+    pub long-miss : f .len ≡ 0 → firstFit (slice k 3 marks) s ≡ firstFit (slice (k + 1) 3 marks) s
+    long-miss z = fit-next 3 k s (omega arith) h f (e ∙ long-row) z
 
-  long-first : getD (getD markRows k []) 0 0 ≡ getD (getD longMarks k none .word) 0 0
-  unfolding tables cellsAre
-  long-first = cell (λ k. getD (getD markRows k []) 0 0) (λ e. getD (e .word) 0 0) longMarks 0 refl k (omega arith) h
-
-  pub long-other : (getD (getD markRows k []) 0 0 ≡ getD s 0 0 → ⊥) → firstFit (drop k longMarks) s ≡ firstFit (drop (k + 1) longMarks) s
+  pub long-other : (getD (getD markRows k []) 0 0 ≡ getD s 0 0 → ⊥) → firstFit (slice k 3 marks) s ≡ firstFit (slice (k + 1) 3 marks) s
   unfolding firstFit
   long-other g =
-      fit-next longMarks s k in-longs noFit
-      (rw (other-first (getD longMarks k none .word) s (one-or-more (getD longMarks k none) (all-at isMark longMarks k longs in-longs)) (λ p. g (long-first ∙ p))))
-      longs refl
+      fit-next 3 k s (omega arith) h noFit
+      (rw (other-first (getD marks k none .word) s (one-or-more (getD marks k none) is-mark) (λ p. g (long .first ∙ p)))) refl
 
 -- the rows of two bytes, from the row 3 on
-unfoldable pub twoOrMore : List Entry
-twoOrMore = longMarks ++ doubleMarks
-
-twos : all isMark twoOrMore ≡ true
-unfolding isMark twoOrMore longMarks doubleMarks
-twos = refl
-
 module _ (a b : ℕ) (k : ℕ) (l : 3 ≤ k) (h : k < 13) where
-  in-twos : k < length twoOrMore
-  unfolding twoOrMore longMarks doubleMarks
-  in-twos = h
+  pair : MarkRow k
+  pair = mark-row k (omega arith)
 
-  double-first : getD (getD markRows k []) 0 0 ≡ getD (getD twoOrMore k none .word) 0 0
-  unfolding tables twoOrMore cellsAre
-  double-first = cell (λ k. getD (getD markRows k []) 0 0) (λ e. getD (e .word) 0 0) twoOrMore 3 refl k l h
+  double-length : 2 ≡ length (getD marks k none .word)
+  unfolding sizeAt
+  double-length = rw (le-ltb k 3 l, lt-ltb k 13 h) at (pair .sized)
 
-  double-second : getD (getD markRows k []) 1 0 ≡ getD (getD twoOrMore k none .word) 1 0
-  unfolding tables twoOrMore cellsAre
-  double-second = cell (λ k. getD (getD markRows k []) 1 0) (λ e. getD (e .word) 1 0) twoOrMore 3 refl k l h
-
-  double-kind : getD (getD markRows k []) 6 0 ≡ getD twoOrMore k none .kind
-  unfolding tables twoOrMore cellsAre
-  double-kind = cell (λ k. getD (getD markRows k []) 6 0) (λ e. e .kind) twoOrMore 3 refl k l h
-
-  double-length : 2 ≡ length (getD twoOrMore k none .word)
-  unfolding tables twoOrMore cellsAre
-  double-length = cell (λ k. 2) (λ e. length (e .word)) twoOrMore 3 refl k l h
-
-  pub double-other : (getD (getD markRows k []) 0 0 ≡ a → ⊥) → firstFit (drop k twoOrMore) (a ∷ b ∷ []) ≡ firstFit (drop (k + 1) twoOrMore) (a ∷ b ∷ [])
+  pub double-other : (getD (getD markRows k []) 0 0 ≡ a → ⊥) → firstFit (slice k 13 marks) (a ∷ b ∷ []) ≡ firstFit (slice (k + 1) 13 marks) (a ∷ b ∷ [])
   double-other g =
-      fit-next twoOrMore (a ∷ b ∷ []) k in-twos noFit (double-off (getD twoOrMore k none) a b double-length (λ p. g (double-first ∙ p))) twos refl
+      fit-next 13 k (a ∷ b ∷ []) (omega arith) h noFit (double-off (getD marks k none) a b double-length (λ p. g (pair .first ∙ p))) refl
 
   module _ (p : getD (getD markRows k []) 0 0 ≡ a) (v : ℕ) (e : v ≡ valueIf b (getD (getD markRows k []) 1 0) (getD (getD markRows k []) 6 0)) where
-    double-value : fitFor 2 v ≡ firstFit (getD twoOrMore k none ∷ []) (a ∷ b ∷ [])
+    double-value : fitFor 2 v ≡ firstFit (getD marks k none ∷ []) (a ∷ b ∷ [])
     double-value =
-        rw (e, double-second, double-kind)
-        (double-fit (getD twoOrMore k none) a b double-length (has-kind (getD twoOrMore k none) (all-at isMark twoOrMore k twos in-twos)) (sym double-first ∙ p))
+        rw (e, pair .second, pair .kind)
+        (double-fit (getD marks k none) a b double-length (has-kind (getD marks k none) (mark 13 k [] (omega arith) h)) (sym (pair .first) ∙ p))
 
-    pub double-hit : (v ≡ 0 → ⊥) → firstFit (drop k twoOrMore) (a ∷ b ∷ []) ≡ record { len = 2; kind = v }
+    pub double-hit : (v ≡ 0 → ⊥) → firstFit (slice k 13 marks) (a ∷ b ∷ []) ≡ record { len = 2; kind = v }
     double-hit g =
-        fit-hit twoOrMore (a ∷ b ∷ []) k in-twos (record { len = 2; kind = v }) (sym (fit-is 2 v g) ∙ double-value)
+        fit-hit 13 k (a ∷ b ∷ []) (omega arith) h (record { len = 2; kind = v }) (sym (fit-is 2 v g) ∙ double-value)
         (λ z. let y : _≡_ {A = ℕ} 2 0 = z in absurd (omega arith))
 
-    pub double-miss : v ≡ 0 → firstFit (drop k twoOrMore) (a ∷ b ∷ []) ≡ firstFit (drop (k + 1) twoOrMore) (a ∷ b ∷ [])
-    double-miss z = fit-next twoOrMore (a ∷ b ∷ []) k in-twos noFit (sym (fit-not 2 v z) ∙ double-value) twos refl
+    pub double-miss : v ≡ 0 → firstFit (slice k 13 marks) (a ∷ b ∷ []) ≡ firstFit (slice (k + 1) 13 marks) (a ∷ b ∷ [])
+    double-miss z = fit-next 13 k (a ∷ b ∷ []) (omega arith) h noFit (sym (fit-not 2 v z) ∙ double-value) refl
 
 -- the rows of one byte, from the row 13 on
 module _ (a : ℕ) (k : ℕ) (l : 13 ≤ k) (h : k < 37) where
-  in-marks : k < length marks
-  unfolding marks longMarks doubleMarks singleMarks
-  in-marks = h
-
-  single-first : getD (getD markRows k []) 0 0 ≡ getD (getD marks k none .word) 0 0
-  unfolding tables cellsAre
-  single-first = cell (λ k. getD (getD markRows k []) 0 0) (λ e. getD (e .word) 0 0) marks 13 refl k l h
-
-  single-kind : getD (getD markRows k []) 6 0 ≡ getD marks k none .kind
-  unfolding tables cellsAre
-  single-kind = cell (λ k. getD (getD markRows k []) 6 0) (λ e. e .kind) marks 13 refl k l h
+  sole : MarkRow k
+  sole = mark-row k h
 
   single-length : 1 ≡ length (getD marks k none .word)
-  unfolding tables cellsAre
-  single-length = cell (λ k. 1) (λ e. length (e .word)) marks 13 refl k l h
+  unfolding sizeAt
+  single-length = rw (le-ltb k 3 (omega arith), le-ltb k 13 l) at (sole .sized)
 
   module _ (v : ℕ) (e : v ≡ valueIf a (getD (getD markRows k []) 0 0) (getD (getD markRows k []) 6 0)) where
     single-value : fitFor 1 v ≡ firstFit (getD marks k none ∷ []) (a ∷ [])
     single-value =
-        rw (e, single-first, single-kind)
-        (single-fit (getD marks k none) a single-length (has-kind (getD marks k none) (all-at isMark marks k all-marks in-marks)))
+        rw (e, sole .first, sole .kind)
+        (single-fit (getD marks k none) a single-length (has-kind (getD marks k none) (mark 37 k [] (omega arith) h)))
 
-    pub single-hit : (v ≡ 0 → ⊥) → firstFit (drop k marks) (a ∷ []) ≡ record { len = 1; kind = v }
+    pub single-hit : (v ≡ 0 → ⊥) → firstFit (slice k 37 marks) (a ∷ []) ≡ record { len = 1; kind = v }
     single-hit g =
-        fit-hit marks (a ∷ []) k in-marks (record { len = 1; kind = v }) (sym (fit-is 1 v g) ∙ single-value)
+        fit-hit 37 k (a ∷ []) (omega arith) h (record { len = 1; kind = v }) (sym (fit-is 1 v g) ∙ single-value)
         (λ z. let y : _≡_ {A = ℕ} 1 0 = z in absurd (omega arith))
 
-    pub single-miss : v ≡ 0 → firstFit (drop k marks) (a ∷ []) ≡ firstFit (drop (k + 1) marks) (a ∷ [])
-    single-miss z = fit-next marks (a ∷ []) k in-marks noFit (sym (fit-not 1 v z) ∙ single-value) all-marks refl
+    pub single-miss : v ≡ 0 → firstFit (slice k 37 marks) (a ∷ []) ≡ firstFit (slice (k + 1) 37 marks) (a ∷ [])
+    single-miss z = fit-next 37 k (a ∷ []) (omega arith) h noFit (sym (fit-not 1 v z) ∙ single-value) refl
 
 -- the first n bytes, filled up with zeros, are enough for marks of n bytes
 front : ℕ → List ℕ → List ℕ
@@ -320,10 +301,6 @@ module _ (text : List ℕ) (at : ℕ) where
 
       pub is-double : (double .len ≡ 0 → ⊥) → double ≡ markOf (drop at text)
       is-double m = two ∙ sym (past-long ∙ over-hit doubleMarks singleMarks (drop at text) (λ p. m (ap (λ (x : Fit). x .len) two ∙ p)))
-
-      doubles : all isMark doubleMarks ≡ true
-      unfolding isMark doubleMarks
-      doubles = refl
 
       pub is-single : double .len ≡ 0 → (single : Fit) → single ≡ firstFit singleMarks (getD text at 0 ∷ []) → single ≡ markOf (drop at text)
       is-single y single r =

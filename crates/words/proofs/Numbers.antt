@@ -43,7 +43,7 @@ small-from : (w : List ℕ) (j : ℕ) → Small w → Small (drop j w)
 small-from w j h i = rw (getD-drop j w i 0) (h (j + i))
 
 -- from the byte j on: that byte and those behind it
-number-step : (w : List ℕ) (j : ℕ) → number (drop j w) ≡ number (drop (suc j) w) * 256 + getD w j 0
+pub number-step : (w : List ℕ) (j : ℕ) → number (drop j w) ≡ number (drop (suc j) w) * 256 + getD w j 0
 unfolding number
 number-step [] zero = refl
 number-step [] (suc j) = refl

@@ -1,18 +1,19 @@
 -- The rows of the code, in the words of the entries; and the search through the rows of keywords.
-use mathlib.Core.Path.{_≡_, refl, sym, _∙_}
-use mathlib.Core.Bool.{Bool, true, false, _&&_, _||_}
+use mathlib.Core.Path.{_≡_, refl, ap, sym, _∙_}
+use mathlib.Core.Bool.{Bool, true, false, cond, _&&_}
 use mathlib.Core.List.{List, [], _∷_, _++_, map}
 use Prim.Native.Nat.{ℕ, _+_, _-_, _<_, _≤_}
 use native.Mathlib.Omega.{arith}
 use native.Mathlib.Numerals.{add-one}
-use borrow.Author.Tests.{eqb-true, eq-eqb, ne-eqb, le-ltb}
+use borrow.Author.Tests.{eqb-true, eq-eqb, ne-eqb}
 use lib.Dec.{eqb, ltb}
-use lib.ListN.{length, getD, drop, drop-of-length-le, replicate}
-use lib.Seq.{drop-cons}
+use lib.ListN.{length, getD, take, drop, drop-of-length-le, length-take, replicate}
+use lib.Seq.{slice, slice-cons}
 use Rattle.words.specs.Kinds.{Identifier}
 use Rattle.words.specs.Tables.{Entry, none, keywords, longMarks, doubleMarks, singleMarks, marks}
-use Rattle.words.specs.code.Rows.{number, packedKind}
-use Rattle.words.proofs.Tests.{below, below-at}
+use Rattle.words.specs.Search.{same}
+use Rattle.words.specs.code.Rows.{number, lenUpTo, rowLen, packedKind}
+use Rattle.words.proofs.Tests.{below, below-at, same-equal}
 
 -- a row: the bytes, filled up with zeros to a width, and of a mark the length and the kind
 unfoldable pub filled : ℕ → List ℕ → List ℕ
@@ -32,20 +33,75 @@ unfoldable pub tables : Unit {0}
 unfolding keywordRows keywordKinds markRows filled keywords marks longMarks doubleMarks singleMarks
 tables = tt
 
--- what p says of the row k is what g says of the entry k of t, from the row lo on: one test, computed over the rows
-unfoldable pub cellsAre : (ℕ → ℕ) → (Entry → ℕ) → List Entry → ℕ → Bool
-cellsAre p g t lo = below (λ k. ltb k lo || eqb (p k) (g (getD t k none))) (length t)
+-- what the search for a keyword reads of the row k, and the same of an entry: the first byte, the number of the others, the length, the kind
+keywordCells : ℕ → List ℕ
+keywordCells k =
+    getD (getD keywordRows k []) 0 0 ∷ number (drop 1 (getD keywordRows k [])) ∷ rowLen (getD keywordRows k []) ∷ getD keywordKinds k 0 ∷ []
 
-pub cell : (p : ℕ → ℕ) (g : Entry → ℕ) (t : List Entry) (lo : ℕ) → cellsAre p g t lo ≡ true
-    → (k : ℕ) → lo ≤ k → k < length t → p k ≡ g (getD t k none)
-unfolding cellsAre
-cell p g t lo h k l m =
-    eqb-true _ _ (rw (le-ltb k lo l) at (below-at (λ k. ltb k lo || eqb (p k) (g (getD t k none))) (length t) k h m))
+keywordEntry : Entry → List ℕ
+keywordEntry e = getD (e .word) 0 0 ∷ number (drop 1 (e .word)) ∷ length (e .word) ∷ e .kind ∷ []
 
--- the search for a keyword by its first byte and the number of the others, from the entry k on
-pub packed-end : (a v : ℕ) (t : List Entry) (k : ℕ) → length t ≤ k → packedKind (drop k t) a v ≡ Identifier
-unfolding packedKind
-packed-end a v t k h = rw (drop-of-length-le t h)
+keyword-cells : below (λ k. same (keywordCells k) (keywordEntry (getD keywords k none))) 26 ≡ true
+unfolding tables keywordCells keywordEntry same number rowLen lenUpTo
+keyword-cells = refl
+
+pub record KeywordRow (k : ℕ) : Type 0 where
+  pub first : getD (getD keywordRows k []) 0 0 ≡ getD (getD keywords k none .word) 0 0
+  pub others : number (drop 1 (getD keywordRows k [])) ≡ number (drop 1 (getD keywords k none .word))
+  pub size : rowLen (getD keywordRows k []) ≡ length (getD keywords k none .word)
+  pub kind : getD keywordKinds k 0 ≡ getD keywords k none .kind
+
+pub keyword-row : (k : ℕ) → k < 26 → KeywordRow k
+unfolding keywordCells keywordEntry
+keyword-row k h =
+    let e : keywordCells k ≡ keywordEntry (getD keywords k none)
+    = same-equal _ _ (below-at (λ k. same (keywordCells k) (keywordEntry (getD keywords k none))) 26 k keyword-cells h) in
+    record {
+      first = ap (λ (l : List ℕ). getD l 0 0) e;
+      others = ap (λ (l : List ℕ). getD l 1 0) e;
+      size = ap (λ (l : List ℕ). getD l 2 0) e;
+      kind = ap (λ (l : List ℕ). getD l 3 0) e;
+    }
+
+-- the length of the marks that the row k is searched among: any of the three long ones, then two bytes, then one
+unfoldable pub sizeAt : ℕ → ℕ → ℕ
+sizeAt k n = cond (ltb k 3) n (cond (ltb k 13) 2 1)
+
+-- what the searches for a mark read of the row k, and the same of an entry: first and second byte, length, kind, the length that the place in
+-- the table says, and all bytes
+markCells : ℕ → List ℕ
+markCells k =
+    getD (getD markRows k []) 0 0 ∷ getD (getD markRows k []) 1 0 ∷ getD (getD markRows k []) 5 0 ∷ getD (getD markRows k []) 6 0
+    ∷ sizeAt k (getD (getD markRows k []) 5 0) ∷ take (getD (getD markRows k []) 5 0) (getD markRows k [])
+
+markEntry : Entry → List ℕ
+markEntry e = getD (e .word) 0 0 ∷ getD (e .word) 1 0 ∷ length (e .word) ∷ e .kind ∷ length (e .word) ∷ e .word
+
+mark-cells : below (λ k. same (markCells k) (markEntry (getD marks k none))) 37 ≡ true
+unfolding tables markCells markEntry same sizeAt
+mark-cells = refl
+
+pub record MarkRow (k : ℕ) : Type 0 where
+  pub first : getD (getD markRows k []) 0 0 ≡ getD (getD marks k none .word) 0 0
+  pub second : getD (getD markRows k []) 1 0 ≡ getD (getD marks k none .word) 1 0
+  pub size : getD (getD markRows k []) 5 0 ≡ length (getD marks k none .word)
+  pub kind : getD (getD markRows k []) 6 0 ≡ getD marks k none .kind
+  pub sized : sizeAt k (getD (getD markRows k []) 5 0) ≡ length (getD marks k none .word)
+  pub bytes : take (getD (getD markRows k []) 5 0) (getD markRows k []) ≡ getD marks k none .word
+
+pub mark-row : (k : ℕ) → k < 37 → MarkRow k
+unfolding markCells markEntry
+mark-row k h =
+    let e : markCells k ≡ markEntry (getD marks k none)
+    = same-equal _ _ (below-at (λ k. same (markCells k) (markEntry (getD marks k none))) 37 k mark-cells h) in
+    record {
+      first = ap (λ (l : List ℕ). getD l 0 0) e;
+      second = ap (λ (l : List ℕ). getD l 1 0) e;
+      size = ap (λ (l : List ℕ). getD l 2 0) e;
+      kind = ap (λ (l : List ℕ). getD l 3 0) e;
+      sized = ap (λ (l : List ℕ). getD l 4 0) e;
+      bytes = ap (λ (l : List ℕ). drop 5 l) e;
+    }
 
 two-off : (x a y v : ℕ) → (x ≡ a → y ≡ v → ⊥) → eqb x a && eqb y v ≡ false
 two-off x a y v h = go (eqb x a) refl
@@ -54,32 +110,35 @@ two-off x a y v h = go (eqb x a) refl
     go true p = ne-eqb y v (h (eqb-true x a p))
     go false p = refl
 
-module _ (k : ℕ) (h : k < 26) (a v : ℕ) where
-  first-byte : getD (getD keywordRows k []) 0 0 ≡ getD (getD keywords k none .word) 0 0
-  unfolding tables cellsAre
-  first-byte = cell (λ k. getD (getD keywordRows k []) 0 0) (λ e. getD (e .word) 0 0) keywords 0 refl k (omega arith) h
+pub three-off : (x a y v z n : ℕ) → (x ≡ a → y ≡ v → z ≡ n → ⊥) → eqb x a && (eqb y v && eqb z n) ≡ false
+three-off x a y v z n h = go (eqb x a) refl
+  where
+    go : (b : Bool) → eqb x a ≡ b → b && (eqb y v && eqb z n) ≡ false
+    go true p = two-off y v z n (h (eqb-true x a p))
+    go false p = refl
 
-  others : number (drop 1 (getD keywordRows k [])) ≡ number (drop 1 (getD keywords k none .word))
-  unfolding tables cellsAre number
-  others = cell (λ k. number (drop 1 (getD keywordRows k []))) (λ e. number (drop 1 (e .word))) keywords 0 refl k (omega arith) h
-
-  kind-of-row : getD keywordKinds k 0 ≡ getD keywords k none .kind
-  unfolding tables cellsAre
-  kind-of-row = cell (λ k. getD keywordKinds k 0) (λ e. e .kind) keywords 0 refl k (omega arith) h
-
-  here : drop k keywords ≡ getD keywords k none ∷ drop (k + 1) keywords
-  unfolding keywords
-  here = rw (add-one k) (drop-cons keywords k none h)
-
-  pub packed-hit : getD (getD keywordRows k []) 0 0 ≡ a → number (drop 1 (getD keywordRows k [])) ≡ v
-      → packedKind (drop k keywords) a v ≡ getD keywordKinds k 0
+-- the search for a keyword by its first byte, the number of the others and its length, through the rows from k up to hi
+module _ (hi k : ℕ) (a v n : ℕ) where
+  pub packed-end : hi ≤ k → packedKind (slice k hi keywords) a v n ≡ Identifier
   unfolding packedKind
-  packed-hit p q =
-      rw (here, eq-eqb (getD (getD keywords k none .word) 0 0) a (sym first-byte ∙ p), eq-eqb (number (drop 1 (getD keywords k none .word))) v (sym others ∙ q))
-      (sym kind-of-row)
+  packed-end h = rw (drop-of-length-le (take hi keywords) {i = k} (rw length-take (omega arith)))
 
-  pub packed-off : (getD (getD keywordRows k []) 0 0 ≡ a → number (drop 1 (getD keywordRows k [])) ≡ v → ⊥)
-      → packedKind (drop k keywords) a v ≡ packedKind (drop (k + 1) keywords) a v
-  unfolding packedKind
-  packed-off g =
-      rw (here, two-off (getD (getD keywords k none .word) 0 0) a (number (drop 1 (getD keywords k none .word))) v (λ p q. g (first-byte ∙ p) (others ∙ q)))
+  module _ (m : hi ≤ 26) (h : k < hi) where
+    row : KeywordRow k
+    row = keyword-row k (omega arith)
+
+    here : slice k hi keywords ≡ getD keywords k none ∷ slice (k + 1) hi keywords
+    unfolding keywords
+    here = rw (add-one k) (slice-cons k hi keywords none h m)
+
+    pub packed-hit : getD (getD keywordRows k []) 0 0 ≡ a → number (drop 1 (getD keywordRows k [])) ≡ v → rowLen (getD keywordRows k []) ≡ n
+        → packedKind (slice k hi keywords) a v n ≡ getD keywordKinds k 0
+    unfolding packedKind
+    packed-hit p q l =
+        rw (here, eq-eqb _ a (sym (row .first) ∙ p), eq-eqb _ v (sym (row .others) ∙ q), eq-eqb _ n (sym (row .size) ∙ l)) (sym (row .kind))
+
+    pub packed-off : (getD (getD keywordRows k []) 0 0 ≡ a → number (drop 1 (getD keywordRows k [])) ≡ v → rowLen (getD keywordRows k []) ≡ n → ⊥)
+        → packedKind (slice k hi keywords) a v n ≡ packedKind (slice (k + 1) hi keywords) a v n
+    unfolding packedKind
+    packed-off g =
+        rw (here, three-off _ a _ v _ n (λ p q l. g (row .first ∙ p) (row .others ∙ q) (row .size ∙ l)))

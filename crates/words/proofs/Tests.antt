@@ -1,7 +1,7 @@
 -- Tests that antt computes, over the numbers below a bound, the bytes of a word and the entries of a table.
 use mathlib.Core.Path.{_≡_, refl, ap, _∙_}
 use mathlib.Core.Bool.{Bool, true, false, _&&_}
-use mathlib.Core.List.{List, [], _∷_}
+use mathlib.Core.List.{List, [], _∷_, _++_}
 use Prim.Native.Nat.{ℕ, zero, suc, _<_}
 use native.Mathlib.Omega.{arith}
 use native.Mathlib.Nat.{not-suc-le-zero, le-of-suc-le-suc}
@@ -9,7 +9,17 @@ use borrow.Author.Tests.{eqb-true, eqb-false, ltb-true}
 use lib.Dec.{eqb, ltb}
 use lib.ListN.{length, getD}
 use Rattle.words.specs.Tables.{Entry, none}
-use Rattle.classes.proofs.Bools.{and-left, and-right}
+use Rattle.words.specs.Search.{same}
+use Rattle.classes.proofs.Bools.{and-left, and-right, false-true}
+
+-- two spellings that are the same are equal
+pub same-equal : (w v : List ℕ) → same w v ≡ true → w ≡ v
+unfolding same
+same-equal [] [] h = refl
+same-equal [] (b ∷ v) h = false-true _ h
+same-equal (a ∷ w) [] h = false-true _ h
+same-equal (a ∷ w) (b ∷ v) h =
+    rw (eqb-true a b (and-left (eqb a b) (same w v) h), same-equal w v (and-right (eqb a b) (same w v) h))
 
 -- what a test finds of each number below n holds of k
 abbrev pub below : (ℕ → Bool) → ℕ → Bool
@@ -40,6 +50,15 @@ pub all-at : (p : Entry → Bool) (t : List Entry) (k : ℕ) → all p t ≡ tru
 all-at p [] k h g = absurd (not-suc-le-zero g)
 all-at p (e ∷ es) zero h g = all-head p e es h
 all-at p (e ∷ es) (suc k) h g = all-at p es k (all-tail p e es h) (le-of-suc-le-suc g)
+
+-- what a test finds of each entry of a table holds of each of two parts
+pub all-left : (p : Entry → Bool) (t u : List Entry) → all p (t ++ u) ≡ true → all p t ≡ true
+all-left p [] u h = refl
+all-left p (e ∷ es) u h = rw (and-left (p e) (all p (es ++ u)) h) (all-left p es u (and-right (p e) (all p (es ++ u)) h))
+
+pub all-right : (p : Entry → Bool) (t u : List Entry) → all p (t ++ u) ≡ true → all p u ≡ true
+all-right p [] u h = h
+all-right p (e ∷ es) u h = all-right p es u (and-right (p e) (all p (es ++ u)) h)
 
 -- bytes, none of them zero
 unfoldable pub plain : List ℕ → Bool

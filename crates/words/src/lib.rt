@@ -4,10 +4,11 @@ ghost use mathlib.Core.Bool.{false};
 ghost use mathlib.Core.List.{[], _∷_};
 ghost use Prim.Native.Nat.{_+_, _-_, _≤_, _<_, min};
 ghost use lib.ListN.{length, getD, take, drop};
+ghost use lib.Seq.{slice};
 ghost use Rattle.classes.specs.Bytes.{begins};
 ghost use Rattle.words.specs.Tables.{keywords, longMarks, doubleMarks, singleMarks};
 ghost use Rattle.words.specs.Search.{kindOf, noFit, markOf, firstFit, suffixLen};
-ghost use Rattle.words.specs.code.Rows.{number, packedKind, valueIf, rowFit};
+ghost use Rattle.words.specs.code.Rows.{number, rowLen, packedKind, valueIf, rowFit};
 ghost use Rattle.words.specs.Quote.{endsLine, quoteFrom};
 use classes::byte_at;
 use kinds::ABORT;
@@ -224,23 +225,85 @@ fn packed_row(row: [u8; 9]) -> u64
     packed(&row, 0, 9)
 }
 
-// The kind of the keyword whose first byte is a and whose other eight are v, or IDENTIFIER: each row
-// is compared with them.
-fn keyword_kind(a: u8, v: u64) -> u8
-    ensures { λ r. ⌜ r ≡ packedKind keywords a v ⌝ }
+// How many bytes of a row of keywords stand before the zeros that fill it up; no row has fewer than two.
+// Tests one after the other, since a loop here would keep the loops over the rows from being unrolled.
+fn row_len(row: [u8; 9]) -> usize
+    ensures { λ r. ⌜ r ≡ rowLen row ⌝ }
+{
+    if row[8] != 0 {
+        return 9;
+    }
+    if row[7] != 0 {
+        return 8;
+    }
+    if row[6] != 0 {
+        return 7;
+    }
+    if row[5] != 0 {
+        return 6;
+    }
+    if row[4] != 0 {
+        return 5;
+    }
+    if row[3] != 0 {
+        return 4;
+    }
+    if row[2] != 0 {
+        return 3;
+    }
+    2
+}
+
+// The kind of the keyword of n bytes whose first byte is a and whose others are v, or IDENTIFIER: each
+// of the first 13 rows is compared with them.
+fn keyword_of_first_rows(a: u8, v: u64, n: usize) -> u8
+    ensures { λ r. ⌜ r ≡ packedKind (slice 0 13 keywords) a v n ⌝ }
 {
     let rows = KEYWORDS;
     let row_kinds = KEYWORD_KINDS;
     let mut k: usize = 0;
-    while k < 26 {
+    while k < 13 {
         if rows[k][0] == a {
             if packed_row(rows[k]) == v {
-                return row_kinds[k];
+                if row_len(rows[k]) == n {
+                    return row_kinds[k];
+                }
             }
         }
         k += 1;
     }
     IDENTIFIER
+}
+
+// The same of the other 13 rows.
+fn keyword_of_last_rows(a: u8, v: u64, n: usize) -> u8
+    ensures { λ r. ⌜ r ≡ packedKind (slice 13 26 keywords) a v n ⌝ }
+{
+    let rows = KEYWORDS;
+    let row_kinds = KEYWORD_KINDS;
+    let mut j: usize = 13;
+    while j < 26 {
+        if rows[j][0] == a {
+            if packed_row(rows[j]) == v {
+                if row_len(rows[j]) == n {
+                    return row_kinds[j];
+                }
+            }
+        }
+        j += 1;
+    }
+    IDENTIFIER
+}
+
+// The same of all 26 rows. The search is cut in two, so that each loop is short enough to be unrolled.
+fn keyword_kind(a: u8, v: u64, n: usize) -> u8
+    ensures { λ r. ⌜ r ≡ packedKind keywords a v n ⌝ }
+{
+    let kind = keyword_of_first_rows(a, v, n);
+    if kind != IDENTIFIER {
+        return kind;
+    }
+    keyword_of_last_rows(a, v, n)
 }
 
 // How many of the n bytes from `at` the text has.
@@ -257,8 +320,7 @@ fn clip(text: &[u8], at: usize, n: usize) -> usize
 }
 
 // The kind of the name of n bytes at `at`: its keyword's, or IDENTIFIER (get_name_token of the Rust).
-// No keyword has fewer than two bytes or more than nine. The rows are filled up with zeros, so a name
-// that does not end in a zero has the same nine bytes as a row only if it has the same length.
+// No keyword has fewer than two bytes or more than nine.
 pub fn name_kind(text: &[u8], at: usize, n: usize) -> u8
     ensures { λ r. ⌜ r ≡ kindOf (take n (drop at (now (text .entry)))) ⌝ }
 {
@@ -269,10 +331,7 @@ pub fn name_kind(text: &[u8], at: usize, n: usize) -> u8
     if 9 < m {
         return IDENTIFIER;
     }
-    if text[at + m - 1] == 0 {
-        return IDENTIFIER;
-    }
-    keyword_kind(text[at], packed(text, at, m))
+    keyword_kind(text[at], packed(text, at, m), m)
 }
 
 fn no_mark() -> Fit

@@ -2,23 +2,23 @@ use mathlib.Core.Path.{_≡_, _∙_, sym, refl}
 use mathlib.Core.Logic.{⊎-elim}
 use mathlib.Core.List.{[], _∷_}
 use Prim.Native.Nat.{_-_, _≤_}
-use lib.ListN.{drop}
-use Rattle.words.specs.Tables.{doubleMarks}
+use lib.Seq.{slice}
+use Rattle.words.specs.Tables.{doubleMarks, marks}
 use Rattle.words.specs.Search.{firstFit}
 use Rattle.words.proofs.Rows.{tables}
-use Rattle.words.proofs.Found.{twoOrMore, fit-end, double-other, double-hit, double-miss}
+use Rattle.words.proofs.Found.{fit-end, double-other, double-hit, double-miss}
 use borrow.Author.Needs.{needs}
 use Rattle.words.proofs.double_mark.Statement.{statement}
 use Rattle.words.proofs.double_mark.Tie as tie
 
 abbrev Inv-loop : tie.InvT-loop
-Inv-loop a b rows k₀ k = (firstFit doubleMarks (a ∷ b ∷ []) ≡ firstFit (drop k twoOrMore) (a ∷ b ∷ [])) × (3 ≤ k)
+Inv-loop a b rows k₀ k = (firstFit doubleMarks (a ∷ b ∷ []) ≡ firstFit (slice k 13 marks) (a ∷ b ∷ [])) × (3 ≤ k)
 
 abbrev μ-loop : tie.MeasureT-loop
 μ-loop a b rows k₀ k = 13 - k
 
 loop-holds : tie.Need-loop-holds Inv-loop μ-loop
-unfolding tables twoOrMore
+unfolding tables
 loop-holds c = (refl, search needs)
 
 mul-if1 : tie.Need-mul-if1 Inv-loop μ-loop
@@ -53,7 +53,11 @@ value-if-requires c κs = search needs
 
 returns : tie.Need-returns Inv-loop μ-loop
 unfolding tables
-returns c = sym (c .before .before .before .before .before .before .before .loop .inv .0 ∙ double-hit _ _ (c .before .before .before .before .before .before .before .loop .k) (c .before .before .before .before .before .before .before .loop .inv .1) (c .before .before .before .before .before .before .loop-test .taken) (c .before .before .before .before .if1 .taken) _ (c .before .value-if .ensures) (c .if2 .taken))
+returns c =
+    let at-row = c .before .before .before .before .before .before .before in
+    sym (at-row .loop .inv .0
+    ∙ double-hit _ _ (at-row .loop .k) (at-row .loop .inv .1) (c .before .before .before .before .before .before .loop-test .taken)
+    (c .before .before .before .before .if1 .taken) _ (c .before .value-if .ensures) (c .if2 .taken))
 
 add-k : tie.Need-add-k Inv-loop μ-loop
 add-k c = search needs
@@ -76,8 +80,8 @@ no-mark-requires : tie.Need-no-mark-requires Inv-loop μ-loop
 no-mark-requires c κs = search needs
 
 returns-2 : tie.Need-returns-2 Inv-loop μ-loop
-unfolding tables twoOrMore
-returns-2 c = c .no-mark .ensures ∙ sym (c .before .before .loop .inv .0 ∙ fit-end twoOrMore _ (c .before .before .loop .k) (search needs))
+unfolding tables
+returns-2 c = c .no-mark .ensures ∙ sym (c .before .before .loop .inv .0 ∙ fit-end 13 (c .before .before .loop .k) _ (c .before .loop-test .left))
 
 pub double-mark-spec : {M : Type 1} → statement M
 double-mark-spec =

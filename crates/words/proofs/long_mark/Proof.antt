@@ -1,8 +1,10 @@
 use mathlib.Core.Path.{_≡_, _∙_, sym, refl}
 use mathlib.Core.Logic.{⊎-elim}
+use mathlib.Core.List.{[]}
 use Prim.Native.Nat.{_-_}
 use lib.ListN.{drop}
-use Rattle.words.specs.Tables.{longMarks}
+use lib.Seq.{slice}
+use Rattle.words.specs.Tables.{longMarks, marks}
 use Rattle.words.specs.Search.{firstFit}
 use Rattle.words.proofs.Rows.{tables}
 use Rattle.words.proofs.Found.{fit-end, place, long-room, long-other, long-hit, long-miss}
@@ -11,12 +13,13 @@ use Rattle.words.proofs.long_mark.Statement.{statement}
 use Rattle.words.proofs.long_mark.Tie as tie
 
 abbrev Inv-loop : tie.InvT-loop
-Inv-loop text at a rows k₀ k = firstFit longMarks (drop at text) ≡ firstFit (drop k longMarks) (drop at text)
+Inv-loop text at a rows k₀ k = firstFit longMarks (drop at text) ≡ firstFit (slice k 3 marks) (drop at text)
 
 abbrev μ-loop : tie.MeasureT-loop
 μ-loop text at a rows k₀ k = 3 - k
 
 loop-holds : tie.Need-loop-holds Inv-loop μ-loop
+unfolding tables
 loop-holds c = refl
 
 mul-if1 : tie.Need-mul-if1 Inv-loop μ-loop
@@ -36,7 +39,7 @@ array-copy-out-row-fit c = search needs
 
 row-fit-requires : tie.Need-row-fit-requires Inv-loop μ-loop
 unfolding tables
-row-fit-requires c κs = long-room _ (c .before .before .before .loop-test .taken)
+row-fit-requires c κs = long-room [] _ (c .before .before .before .loop-test .taken)
 
 returns : tie.Need-returns Inv-loop μ-loop
 unfolding tables
@@ -62,7 +65,7 @@ no-mark-requires c κs = search needs
 
 returns-2 : tie.Need-returns-2 Inv-loop μ-loop
 unfolding tables
-returns-2 c = c .no-mark .ensures ∙ sym (c .before .before .loop .inv ∙ fit-end longMarks _ (c .before .before .loop .k) (search needs))
+returns-2 c = c .no-mark .ensures ∙ sym (c .before .before .loop .inv ∙ fit-end 3 (c .before .before .loop .k) _ (c .before .loop-test .left))
 
 pub long-mark-spec : {M : Type 1} → statement M
 long-mark-spec =

@@ -30,13 +30,22 @@ double-mark-requires : tie.Need-double-mark-requires
 double-mark-requires c κs = search needs
 
 returns-3 : tie.Need-returns-3
-returns-3 c = is-double (c .before .before .before .before .before .before .before .before .before .before .args .text .now) (c .before .before .before .before .before .before .before .before .before .before .args .at) _ (c .before .before .before .before .before .before .long-mark .ensures) (c .before .before .before .before .if2 .left) _ (c .before .before .before .byte-at .ensures) _ (c .before .before .double-mark .ensures) (c .if3 .taken)
+returns-3 c =
+    let searched = c .before .before .before .before .before .before in
+    let start = searched .before .before .before .before in
+    is-double (start .args .text .now) (start .args .at) _ (searched .long-mark .ensures) (c .before .before .before .before .if2 .left) _
+    (c .before .before .before .byte-at .ensures) _ (c .before .before .double-mark .ensures) (c .if3 .taken)
 
 single-mark-requires : tie.Need-single-mark-requires
 single-mark-requires c κs = search needs
 
 returns-4 : tie.Need-returns-4
-returns-4 c = is-single (c .before .before .before .before .before .before .before .before .before .before .before .args .text .now) (c .before .before .before .before .before .before .before .before .before .before .before .args .at) _ (c .before .before .before .before .before .before .before .long-mark .ensures) (c .before .before .before .before .before .if2 .left) _ (c .before .before .before .before .byte-at .ensures) _ (c .before .before .before .double-mark .ensures) (c .before .if3 .left) _ (c .single-mark .ensures)
+returns-4 c =
+    let searched = c .before .before .before .before .before .before .before in
+    let start = searched .before .before .before .before in
+    is-single (start .args .text .now) (start .args .at) _ (searched .long-mark .ensures) (c .before .before .before .before .before .if2 .left) _
+    (c .before .before .before .before .byte-at .ensures) _ (c .before .before .before .double-mark .ensures) (c .before .if3 .left) _
+    (c .single-mark .ensures)
 
 pub mark-at-spec : {M : Type 1} → statement M
 mark-at-spec =

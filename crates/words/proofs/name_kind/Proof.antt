@@ -1,7 +1,7 @@
 -- `words::name_kind` meets its contract.
 use mathlib.Core.Path.{_∙_}
 use native.Mathlib.Omega.{arith}
-use Rattle.words.proofs.Keyword.{other-length, zero-last, name-found}
+use Rattle.words.proofs.Keyword.{other-length, name-found}
 use borrow.Author.Needs.{needs}
 use Rattle.words.proofs.name_kind.Statement.{statement}
 use Rattle.words.proofs.name_kind.Tie as tie
@@ -15,18 +15,6 @@ returns c = other-length (c .before .before .before .args .text .now) (c .before
 returns-2 : tie.Need-returns-2
 returns-2 c = other-length (c .before .before .before .before .args .text .now) (c .before .before .before .before .args .at) (c .before .before .before .before .args .n) _ (c .before .before .clip .ensures) (λ l u. absurd (omega arith))
 
-add-if3 : tie.Need-add-if3
-add-if3 c = search needs
-
-sub-if3 : tie.Need-sub-if3
-sub-if3 c = search needs
-
-shared-slice-read-if3 : tie.Need-shared-slice-read-if3
-shared-slice-read-if3 c = search needs
-
-returns-3 : tie.Need-returns-3
-returns-3 c = zero-last (c .before .before .before .before .before .before .args .text .now) (c .before .before .before .before .before .before .args .at) (c .before .before .before .before .before .before .args .n) _ (c .before .before .before .before .clip .ensures) (c .before .before .before .if1 .left) (c .if3 .taken)
-
 shared-slice-read-keyword-kind : tie.Need-shared-slice-read-keyword-kind
 shared-slice-read-keyword-kind c = search needs
 
@@ -36,8 +24,13 @@ packed-requires c κs = search needs
 keyword-kind-requires : tie.Need-keyword-kind-requires
 keyword-kind-requires c κs = search needs
 
-returns-4 : tie.Need-returns-4
-returns-4 c = c .keyword-kind .ensures ∙ name-found (c .before .before .before .before .before .before .before .before .before .args .text .now) (c .before .before .before .before .before .before .before .before .before .args .at) (c .before .before .before .before .before .before .before .before .before .args .n) _ (c .before .before .before .before .before .before .before .clip .ensures) (c .before .before .before .before .before .before .if1 .left) (λ i. c .before .before .before .before .before .before .before .before .shared-slice-known .given i .fits) (c .before .before .before .if3 .left) _ (c .before .packed .ensures)
+returns-3 : tie.Need-returns-3
+returns-3 c =
+    let clipped = c .before .before .before .before .before in
+    let start = clipped .before .before in
+    c .keyword-kind .ensures
+    ∙ name-found (start .args .text .now) (start .args .at) (start .args .n) _ (clipped .clip .ensures) (c .before .before .before .before .if1 .left)
+    (λ i. clipped .before .shared-slice-known .given i .fits) _ (c .before .packed .ensures)
 
 pub name-kind-spec : {M : Type 1} → statement M
 name-kind-spec =
@@ -46,11 +39,7 @@ name-kind-spec =
     clip-requires
     returns
     returns-2
-    add-if3
-    sub-if3
-    shared-slice-read-if3
-    returns-3
     shared-slice-read-keyword-kind
     packed-requires
     keyword-kind-requires
-    returns-4)
+    returns-3)

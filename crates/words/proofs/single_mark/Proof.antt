@@ -1,7 +1,7 @@
 use mathlib.Core.Path.{_≡_, _∙_, sym, refl}
 use mathlib.Core.List.{[], _∷_}
 use Prim.Native.Nat.{_-_, _≤_}
-use lib.ListN.{drop}
+use lib.Seq.{slice}
 use Rattle.words.specs.Tables.{singleMarks, marks}
 use Rattle.words.specs.Search.{firstFit}
 use Rattle.words.proofs.Rows.{tables}
@@ -11,7 +11,7 @@ use Rattle.words.proofs.single_mark.Statement.{statement}
 use Rattle.words.proofs.single_mark.Tie as tie
 
 abbrev Inv-loop : tie.InvT-loop
-Inv-loop a rows k₀ k = (firstFit singleMarks (a ∷ []) ≡ firstFit (drop k marks) (a ∷ [])) × (13 ≤ k)
+Inv-loop a rows k₀ k = (firstFit singleMarks (a ∷ []) ≡ firstFit (slice k 37 marks) (a ∷ [])) × (13 ≤ k)
 
 abbrev μ-loop : tie.MeasureT-loop
 μ-loop a rows k₀ k = 37 - k
@@ -60,7 +60,7 @@ no-mark-requires c κs = search needs
 
 returns-2 : tie.Need-returns-2 Inv-loop μ-loop
 unfolding tables
-returns-2 c = c .no-mark .ensures ∙ sym (c .before .before .loop .inv .0 ∙ fit-end marks _ (c .before .before .loop .k) (search needs))
+returns-2 c = c .no-mark .ensures ∙ sym (c .before .before .loop .inv .0 ∙ fit-end 37 (c .before .before .loop .k) _ (c .before .loop-test .left))
 
 pub single-mark-spec : {M : Type 1} → statement M
 single-mark-spec =

@@ -1,9 +1,9 @@
 -- What the searches of the code compare and answer.
-use Prim.Native.Nat.{ℕ, _+_, _*_}
+use Prim.Native.Nat.{ℕ, zero, suc, _+_, _*_, max}
 use mathlib.Core.Bool.{cond, _&&_}
 use mathlib.Core.List.{List, [], _∷_}
 use lib.Dec.{eqb}
-use lib.ListN.{getD, take, drop}
+use lib.ListN.{length, getD, take, drop}
 use Rattle.classes.specs.Bytes.{begins}
 use Rattle.words.specs.Kinds.{Identifier}
 use Rattle.words.specs.Tables.{Entry}
@@ -15,11 +15,21 @@ unfoldable pub number : List ℕ → ℕ
 number [] = 0
 number (b ∷ w) = b + 256 * number w
 
--- the kind of the entry whose first byte is a and whose other bytes are the number v, or an identifier
-unfoldable pub packedKind : List Entry → ℕ → ℕ → ℕ
-packedKind [] a v = Identifier
-packedKind (e ∷ es) a v =
-    cond (eqb (getD (e .word) 0 0) a && eqb (number (drop 1 (e .word))) v) (e .kind) (packedKind es a v)
+-- how many of the first n bytes stand before the zeros that they end in
+unfoldable pub lenUpTo : ℕ → List ℕ → ℕ
+lenUpTo zero row = 0
+lenUpTo (suc n) row = cond (eqb (getD row n 0) 0) (lenUpTo n row) (suc n)
+
+-- how many bytes of a row of keywords stand before the zeros that fill it up; two at least
+unfoldable pub rowLen : List ℕ → ℕ
+rowLen row = max 2 (lenUpTo 9 row)
+
+-- the kind of the entry of n bytes whose first byte is a and whose others are the number v, or an identifier
+unfoldable pub packedKind : List Entry → ℕ → ℕ → ℕ → ℕ
+packedKind [] a v n = Identifier
+packedKind (e ∷ es) a v n =
+    cond (eqb (getD (e .word) 0 0) a && (eqb (number (drop 1 (e .word))) v && eqb (length (e .word)) n))
+    (e .kind) (packedKind es a v n)
 
 -- v where a is b, else 0
 unfoldable pub valueIf : ℕ → ℕ → ℕ → ℕ
