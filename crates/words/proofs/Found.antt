@@ -45,6 +45,10 @@ doubles : all isMark doubleMarks ≡ true
 unfolding marks
 doubles = all-left isMark doubleMarks singleMarks (all-right isMark longMarks (doubleMarks ++ singleMarks) all-marks)
 
+mark-of : (k : ℕ) → k < 37 → isMark (getD marks k none) ≡ true
+unfolding marks longMarks doubleMarks singleMarks
+mark-of k h = all-at isMark marks k all-marks h
+
 module _ (e : Entry) (h : isMark e ≡ true) where
   lengths : leb 1 (length (e .word)) && leb (length (e .word)) 5 ≡ true
   unfolding isMark
@@ -79,10 +83,6 @@ module _ (hi k : ℕ) (s : List ℕ) where
   fit-end h = rw (drop-of-length-le (take hi marks) {i = k} (rw length-take (omega arith)))
 
   module _ (m : hi ≤ 37) (h : k < hi) where
-    mark : isMark (getD marks k none) ≡ true
-    unfolding marks longMarks doubleMarks singleMarks
-    mark = all-at isMark marks k all-marks (omega arith)
-
     module _ (f : Fit) (e : f ≡ firstFit (getD marks k none ∷ []) s) where
       here : slice k hi marks ≡ (getD marks k none ∷ []) ++ slice (k + 1) hi marks
       unfolding marks longMarks doubleMarks singleMarks
@@ -94,7 +94,7 @@ module _ (hi k : ℕ) (s : List ℕ) where
 
       fit-next : f .len ≡ 0 → firstFit (slice k hi marks) s ≡ firstFit (slice (k + 1) hi marks) s
       fit-next z =
-          rw here (over-miss (getD marks k none ∷ []) (slice (k + 1) hi marks) s (rw mark) (ap (λ (x : Fit). x .len) (sym e) ∙ z))
+          rw here (over-miss (getD marks k none ∷ []) (slice (k + 1) hi marks) s (rw (mark-of k (omega arith))) (ap (λ (x : Fit). x .len) (sym e) ∙ z))
 
 -- a fit of n bytes, where the kind is not 0
 fitFor : ℕ → ℕ → Fit
@@ -159,36 +159,32 @@ pub row-off : (row s : List ℕ) (n : ℕ) → n ≡ getD row 5 0 → (b : Bool)
 unfolding rowFit
 row-off row s n e b p q = rw (← e, ← p, q)
 
-module _ (s : List ℕ) (k : ℕ) (h : k < 3) where
+module _ (k : ℕ) (h : k < 3) where
   long : MarkRow k
   long = mark-row k (omega arith)
 
-  is-mark : isMark (getD marks k none) ≡ true
-  is-mark = mark 3 k s (omega arith) h
+  some-bytes : 1 ≤ length (getD marks k none .word)
+  some-bytes = one-or-more (getD marks k none) (mark-of k (omega arith))
 
   pub long-room : (0 < getD (getD markRows k []) 5 0) × (getD (getD markRows k []) 5 0 ≤ 5)
-  long-room =
-      let l : getD (getD markRows k []) 5 0 ≡ length (getD marks k none .word) = long .size in
-      let a : 1 ≤ length (getD marks k none .word) = one-or-more (getD marks k none) is-mark in
-      let b : length (getD marks k none .word) ≤ 5 = five-or-less (getD marks k none) is-mark in
-      (omega arith, omega arith)
+  long-room = rw (long .size) (some-bytes, five-or-less (getD marks k none) (mark-of k (omega arith)))
 
-  long-row : rowFit (getD markRows k []) s ≡ firstFit (getD marks k none ∷ []) s
-  unfolding rowFit firstFit
-  long-row = rw (long .bytes, long .size, long .kind)
+  module _ (s : List ℕ) where
+    long-row : rowFit (getD markRows k []) s ≡ firstFit (getD marks k none ∷ []) s
+    unfolding rowFit firstFit
+    long-row = rw (long .bytes, long .size, long .kind)
 
-  module _ (f : Fit) (e : f ≡ rowFit (getD markRows k []) s) where
-    pub long-hit : (f .len ≡ 0 → ⊥) → firstFit (slice k 3 marks) s ≡ f
-    long-hit g = fit-hit 3 k s (omega arith) h f (e ∙ long-row) g
+    module _ (f : Fit) (e : f ≡ rowFit (getD markRows k []) s) where
+      pub long-hit : (f .len ≡ 0 → ⊥) → firstFit (slice k 3 marks) s ≡ f
+      long-hit g = fit-hit 3 k s (omega arith) h f (e ∙ long-row) g
 
-    pub long-miss : f .len ≡ 0 → firstFit (slice k 3 marks) s ≡ firstFit (slice (k + 1) 3 marks) s
-    long-miss z = fit-next 3 k s (omega arith) h f (e ∙ long-row) z
+      pub long-miss : f .len ≡ 0 → firstFit (slice k 3 marks) s ≡ firstFit (slice (k + 1) 3 marks) s
+      long-miss z = fit-next 3 k s (omega arith) h f (e ∙ long-row) z
 
-  pub long-other : (getD (getD markRows k []) 0 0 ≡ getD s 0 0 → ⊥) → firstFit (slice k 3 marks) s ≡ firstFit (slice (k + 1) 3 marks) s
-  unfolding firstFit
-  long-other g =
-      fit-next 3 k s (omega arith) h noFit
-      (rw (other-first (getD marks k none .word) s (one-or-more (getD marks k none) is-mark) (λ p. g (long .first ∙ p)))) refl
+    pub long-other : (getD (getD markRows k []) 0 0 ≡ getD s 0 0 → ⊥) → firstFit (slice k 3 marks) s ≡ firstFit (slice (k + 1) 3 marks) s
+    unfolding firstFit
+    long-other g =
+        fit-next 3 k s (omega arith) h noFit (rw (other-first (getD marks k none .word) s some-bytes (λ p. g (long .first ∙ p)))) refl
 
 -- the rows of two bytes, from the row 3 on
 module _ (a b : ℕ) (k : ℕ) (l : 3 ≤ k) (h : k < 13) where
@@ -207,7 +203,7 @@ module _ (a b : ℕ) (k : ℕ) (l : 3 ≤ k) (h : k < 13) where
     double-value : fitFor 2 v ≡ firstFit (getD marks k none ∷ []) (a ∷ b ∷ [])
     double-value =
         rw (e, pair .second, pair .kind)
-        (double-fit (getD marks k none) a b double-length (has-kind (getD marks k none) (mark 13 k [] (omega arith) h)) (sym (pair .first) ∙ p))
+        (double-fit (getD marks k none) a b double-length (has-kind (getD marks k none) (mark-of k (omega arith))) (sym (pair .first) ∙ p))
 
     pub double-hit : (v ≡ 0 → ⊥) → firstFit (slice k 13 marks) (a ∷ b ∷ []) ≡ record { len = 2; kind = v }
     double-hit g =
@@ -230,7 +226,7 @@ module _ (a : ℕ) (k : ℕ) (l : 13 ≤ k) (h : k < 37) where
     single-value : fitFor 1 v ≡ firstFit (getD marks k none ∷ []) (a ∷ [])
     single-value =
         rw (e, sole .first, sole .kind)
-        (single-fit (getD marks k none) a single-length (has-kind (getD marks k none) (mark 37 k [] (omega arith) h)))
+        (single-fit (getD marks k none) a single-length (has-kind (getD marks k none) (mark-of k h)))
 
     pub single-hit : (v ≡ 0 → ⊥) → firstFit (slice k 37 marks) (a ∷ []) ≡ record { len = 1; kind = v }
     single-hit g =

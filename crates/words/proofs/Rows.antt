@@ -103,6 +103,7 @@ mark-row k h =
       bytes = ap (λ (l : List ℕ). drop 5 l) e;
     }
 
+-- not all of the numbers compared are equal
 two-off : (x a y v : ℕ) → (x ≡ a → y ≡ v → ⊥) → eqb x a && eqb y v ≡ false
 two-off x a y v h = go (eqb x a) refl
   where

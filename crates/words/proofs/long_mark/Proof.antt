@@ -1,6 +1,5 @@
 use mathlib.Core.Path.{_≡_, _∙_, sym, refl}
 use mathlib.Core.Logic.{⊎-elim}
-use mathlib.Core.List.{[]}
 use Prim.Native.Nat.{_-_}
 use lib.ListN.{drop}
 use lib.Seq.{slice}
@@ -39,11 +38,11 @@ array-copy-out-row-fit c = search needs
 
 row-fit-requires : tie.Need-row-fit-requires Inv-loop μ-loop
 unfolding tables
-row-fit-requires c κs = long-room [] _ (c .before .before .before .loop-test .taken)
+row-fit-requires c κs = long-room _ (c .before .before .before .loop-test .taken)
 
 returns : tie.Need-returns Inv-loop μ-loop
 unfolding tables
-returns c = sym (c .before .before .before .before .before .before .before .loop .inv ∙ long-hit _ (c .before .before .before .before .before .before .before .loop .k) (c .before .before .before .before .before .before .loop-test .taken) _ (c .before .before .row-fit .ensures) (c .if2 .taken))
+returns c = sym (c .before .before .before .before .before .before .before .loop .inv ∙ long-hit (c .before .before .before .before .before .before .before .loop .k) (c .before .before .before .before .before .before .loop-test .taken) _ _ (c .before .before .row-fit .ensures) (c .if2 .taken))
 
 add-k : tie.Need-add-k Inv-loop μ-loop
 add-k c = search needs
@@ -56,8 +55,8 @@ unfolding tables
 loop-again c =
     c .before .before .before .loop .inv
     ∙ ⊎-elim
-    (λ w. long-miss _ (c .before .before .before .loop .k) (c .before .before .loop-test .taken) _ (w .2 .ensures) (w .4 .left))
-    (λ w. long-other _ (c .before .before .before .loop .k) (c .before .before .loop-test .taken) (λ p. w .left (p ∙ sym (place (c .before .before .before .before .before .args .text .now) (c .before .before .before .before .before .args .at)) ∙ sym (c .before .before .before .before .before .pre))))
+    (λ w. long-miss (c .before .before .before .loop .k) (c .before .before .loop-test .taken) _ _ (w .2 .ensures) (w .4 .left))
+    (λ w. long-other (c .before .before .before .loop .k) (c .before .before .loop-test .taken) _ (λ p. w .left (p ∙ sym (place (c .before .before .before .before .before .args .text .now) (c .before .before .before .before .before .args .at)) ∙ sym (c .before .before .before .before .before .pre))))
     (c .if1 .came)
 
 no-mark-requires : tie.Need-no-mark-requires Inv-loop μ-loop
