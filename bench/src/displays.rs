@@ -9,7 +9,7 @@ use crate::{
 use oracle::answer::ItemCall;
 
 /// How much longer than a read a display may take.
-const LONGER: f64 = 1.5;
+const LONGER: f64 = 1.1;
 
 const ALL: [Run; 3] = [
     Items::run_of_the_rust,

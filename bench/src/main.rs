@@ -42,7 +42,7 @@ Reads of items are measured too: see bench/README.md. --check fails where the po
 is slower than the Rust on types, bindings or nests, where its time a byte grows by
 more than a fifth from 2 KB to 60 KB of flat list, or where 60 brackets round such a
 list cost more than 60 times as much as none. Displays of the same items are measured
-against reads: --check fails where one takes more than 1.5 times as long.
+against reads: --check fails where one takes more than 1.1 times as long.
 ";
 
 const LONG: usize = 60_000;

@@ -1,5 +1,5 @@
 //! Points: calls from 0 on short texts, each with the answer that the specification gives.
-//! P1 to P15 are those that are proved of the definitions (crates/readback/specs/Examples.antt);
+//! P1 to P15 are those that are proved of the definitions (crates/roundtrip/specs/Examples.antt);
 //! behind them the dense points of the grammar, where a list is blamed, where `>>` splits, each
 //! edge of the levels, and those of the display line. Every point is held to the Rust where
 //! the Rust has an answer, and the port to both.

@@ -32,8 +32,8 @@ use Rattle.parts.proofs.Held.{held-end, held-after, held-leaf, next-found, look
 use Rattle.parts.proofs.Contracts.{reads-no, reads-read, reads-finished, reads-as}
 use Rattle.chains.specs.code.Parts.{leafAt, firstAt, pairAt, threeAt, pairBytes, dueAt}
 
--- a record over two parts with a mark between them
-placed-parted : (f k st e : ℕ) (l m₁ m₂ m₃ m xs ys zs : List ℕ) (s i p q r : Spot) → length l ≤ last → i ≡ inside f s → Placed l i xs p m₁ → Placed m₁ p ys q m₂ → Placed m₂ q zs r m₃ → m ≡ sealed f k st e s r m₃
+-- a record over three pieces: two parts and a mark between them
+pub placed-parted : (f k st e : ℕ) (l m₁ m₂ m₃ m xs ys zs : List ℕ) (s i p q r : Spot) → length l ≤ last → i ≡ inside f s → Placed l i xs p m₁ → Placed m₁ p ys q m₂ → Placed m₂ q zs r m₃ → m ≡ sealed f k st e s r m₃
     → Placed l s (headed f k st e (xs ++ (ys ++ zs))) r m
 placed-parted f k st e l m₁ m₂ m₃ m xs ys zs s i p q r h g a b c d =
     let n = placed-long l m₁ xs i p a in

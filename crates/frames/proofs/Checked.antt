@@ -1,33 +1,65 @@
 -- An instance of the law: facts of one answer alone, as the answer is alike to itself. Here the kinds of all records fit two bytes,
--- and the numbers of refusals lie from 1 to 14.
-use mathlib.Core.Path.{_≡_, refl}
-use Prim.Native.Nat.{_<_}
+-- and every refusal is one that the author of a text can cause, 5 to 14.
+use mathlib.Core.Path.{_≡_, refl, subst}
+use mathlib.Core.Bool.{true}
+use mathlib.Core.List.{List, [], _∷_, _++_}
+use Prim.Native.Nat.{ℕ, zero, suc, _+_, _-_, _<_, _≤_}
 use native.Mathlib.Omega.{arith}
+use Rattle.tokens.specs.Refusals.{UnexpectedToken, CommaForItem, ListNotClosed, NoValue, TooDeep, among, lexRefusals}
+use Rattle.tokens.specs.Token.{Scanned as Lexing, tok as found, bad as faulty, lex as lexFrom}
+use Rattle.tokens.proofs.RefusalSets.{subset, among-subset, LexMet, lex-met}
 use Rattle.records.specs.Tree.{Tree, Trees}
 use Rattle.records.specs.Stored.{Kinds, KindsAll}
-use Rattle.sources.specs.Source.{Token, Scanned, tok, bad, lex}
-use Rattle.sources.proofs.Numbers.{Numbered, TokenNumbered, lex-numbered}
+use Rattle.sources.specs.Source.{Source, Token, Scanned, tok, bad, scanned, lex}
 use Rattle.answers.specs.Reading.{Ans, ok, no, Reader}
 use Rattle.frames.specs.Related.{Frame, Alike, leaves, nodes, AllAlike, nones, mores, Step, Met, toks, bads, Rel, oks, nos, quit, Lawful, Obeys}
 
+-- what the lexer refuses, and what readers do
+abbrev pub textRefusals : List ℕ
+textRefusals = lexRefusals ++ (UnexpectedToken ∷ CommaForItem ∷ ListNotClosed ∷ NoValue ∷ TooDeep ∷ [])
+
 abbrev frame : Frame
-frame = record { starts = λ a b. Unit {0}; ends = λ a b. Unit {0}; source = λ u v. u ≡ v; kind = λ c. c < 65536; number = Numbered; quits = λ _. ⊥ }
+frame = record { starts = λ a b. Unit {0}; ends = λ a b. Unit {0}; source = λ u v. u ≡ v; kind = λ c. c < 65536; number = λ n. among textRefusals n ≡ true; quits = λ _. ⊥ }
+
+abbrev pub TokenMet : Scanned → Type 0
+TokenMet (tok t) = Unit {0}
+TokenMet (bad r) = among textRefusals (r .number) ≡ true
+
+scanned-met : (u : Source) (l : Lexing) → LexMet l → TokenMet (scanned u l)
+unfolding scanned subset among
+scanned-met u (found k s e w r) h = tt
+scanned-met u (faulty r) h = among-subset lexRefusals textRefusals refl (r .number) h
+
+pub token-met : (u : Source) → TokenMet (lex u)
+unfolding lex
+token-met u = scanned-met u (lexFrom (u .at) (u .rest)) (lex-met (u .at) (u .rest))
 
 token-itself : (t : Token) → Step frame t t
 token-itself t = record { kind = refl; spelled = refl; from = tt; to = tt; on = λ _. refl; half = λ _. refl }
 
-itself : (l : Scanned) → TokenNumbered l → Met frame l l
+itself : (l : Scanned) → TokenMet l → Met frame l l
 itself (tok t) h = toks (token-itself t)
 itself (bad r) h = bads (record { same = refl; good = h; from = tt; to = tt; from₂ = tt; to₂ = tt })
+
+reader-number : (i : ℕ) → i ≤ 4 → among textRefusals (UnexpectedToken + i) ≡ true
+unfolding among
+reader-number zero h = refl
+reader-number (suc zero) h = refl
+reader-number (suc (suc zero)) h = refl
+reader-number (suc (suc (suc zero))) h = refl
+reader-number (suc (suc (suc (suc zero)))) h = refl
+reader-number (suc (suc (suc (suc (suc i))))) h = absurd (omega arith)
 
 law : Lawful frame
 law =
     record {
       point = λ s s₂ h. tt;
       ended = λ u u₂ h. tt;
-      next = λ u u₂ h. rw h (itself (lex u₂) (lex-numbered u₂));
+      next = λ u u₂ h. rw h (itself (lex u₂) (token-met u₂));
       kinds = λ c h. omega arith;
-      numbers = λ n h g. (omega arith, g);
+      numbers = λ n h g.
+          let z : UnexpectedToken + (n - UnexpectedToken) ≡ n = omega arith in
+          subst (λ (m : ℕ). among textRefusals m ≡ true) z (reader-number (n - UnexpectedToken) (omega arith));
     }
 
 mutual
@@ -44,7 +76,7 @@ mutual
 -- what is read has the kinds, and what is refused the numbers
 abbrev pub Checked : Ans Tree → Type 0
 Checked (ok x u) = Kinds x
-Checked (no r) = Numbered (r .number)
+Checked (no r) = among textRefusals (r .number) ≡ true
 
 checked : {a b : Ans Tree} → Rel frame (Alike frame) a b → Checked a
 checked (oks x n) = tree-kinds x

@@ -1,2 +1,4 @@
 pub mod Sure
 pub mod Held
+pub mod Lists
+pub mod Spelled

@@ -63,14 +63,19 @@ unfoldable pub readBind : ℕ → Reader
 readBind zero a = no (refusedAt TooDeep a)
 readBind (suc n) a = bindOver (readType n) (readField n (readBind n)) a
 
--- bindings in brackets, or one alone
-unfoldable pub readBindList : Reader
-readBindList a =
-    when (eqb (a .kind) LParen) (λ _. then (listBehind (readBind levels) RParen a) λ xs u. ok (spanned RecBindList a u xs) u) λ _.
-    then (readBind levels a) λ x u. ok (spanned RecBindList a u (more x none)) u
+-- bindings in brackets, or one alone, over the reader of one; and those in bars
+abbrev pub bindListOver : Reader → Reader
+bindListOver bind a =
+    when (eqb (a .kind) LParen) (λ _. then (listBehind bind RParen a) λ xs u. ok (spanned RecBindList a u xs) u) λ _.
+    then (bind a) λ x u. ok (spanned RecBindList a u (more x none)) u
 
--- bindings in bars
-unfoldable pub readLambdaList : Reader
-readLambdaList a =
-    when (eqb (a .kind) Pipe) (λ _. then (listBehind (readBind levels) Pipe a) λ xs u. ok (spanned RecLambdaBindList a u xs) u) λ _.
+abbrev pub lambdaListOver : Reader → Reader
+lambdaListOver bind a =
+    when (eqb (a .kind) Pipe) (λ _. then (listBehind bind Pipe a) λ xs u. ok (spanned RecLambdaBindList a u xs) u) λ _.
     unexpected a
+
+unfoldable pub readBindList : Reader
+readBindList a = bindListOver (readBind levels) a
+
+unfoldable pub readLambdaList : Reader
+readLambdaList a = lambdaListOver (readBind levels) a

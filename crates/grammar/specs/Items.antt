@@ -21,14 +21,17 @@ pub data Item : Type 0 where
   item : Tree → Token → Item
   refused : Refusal → Item
 
--- 1 name, 2 value, 3 type, 4 binding list, 5 lambda binding list
-unfoldable pub readKind : ℕ → Reader
-readKind kind a =
+-- 1 name, 2 value, 3 type, 4 binding list, 5 lambda binding list; over the readers of the last three
+abbrev pub kindOver : (type binds lambdaBinds : Reader) → ℕ → Reader
+kindOver type binds lambdaBinds kind a =
     when (eqb kind 1) (λ _. chain a) λ _.
     when (eqb kind 2) (λ _. value a) λ _.
-    when (eqb kind 3) (λ _. readType levels a) λ _.
-    when (eqb kind 4) (λ _. readBindList a) λ _.
-    readLambdaList a
+    when (eqb kind 3) (λ _. type a) λ _.
+    when (eqb kind 4) (λ _. binds a) λ _.
+    lambdaBinds a
+
+unfoldable pub readKind : ℕ → Reader
+readKind kind a = kindOver (readType levels) readBindList readLambdaList kind a
 
 unfoldable pub followed : Tree → Scanned → Item
 followed x (tok t) = item x t
@@ -39,9 +42,12 @@ finished (ok x u) = followed x (lex u)
 finished (no r) = refused r
 
 -- refusals 1, 2 and 3, in this order; then what the text says
-unfoldable pub readItem : ℕ → List ℕ → ℕ → Item
-readItem kind text at =
+abbrev pub itemOver : (ℕ → Reader) → ℕ → List ℕ → ℕ → Item
+itemOver one kind text at =
     when (ltb textLimit (length text)) (λ _. refused (refusal TextTooLong 0 0)) λ _.
     when (ltb (length text) at) (λ _. refused (refusal StartPastEnd 0 0)) λ _.
     when (eqb kind 0 || ltb 5 kind) (λ _. refused (refusal NoSuchKind 0 0)) λ _.
-    finished (look (lex (opened text at)) (readKind kind))
+    finished (look (lex (opened text at)) (one kind))
+
+unfoldable pub readItem : ℕ → List ℕ → ℕ → Item
+readItem kind text at = itemOver readKind kind text at

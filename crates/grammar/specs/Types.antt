@@ -50,14 +50,17 @@ module _ (item : Reader) where
   unfoldable pub named : Reader
   named a = then (chain a) λ c u. withArguments a c u
 
-  -- a type by its first token
-  unfoldable pub typeOver : Reader
-  typeOver a =
-      when (eqb (a .kind) LParen) (λ _. brackets a) λ _.
+  -- a type by its first token, over the reader of brackets
+  abbrev pub typeBy : Reader → Reader
+  typeBy inBrackets a =
+      when (eqb (a .kind) LParen) (λ _. inBrackets a) λ _.
       when (eqb (a .kind) Amp) (λ _. reference RecRef a) λ _.
       when (eqb (a .kind) AmpMut) (λ _. reference RecRefMut a) λ _.
       when (eqb (a .kind) Pipe) (λ _. function a) λ _.
       named a
+
+  unfoldable pub typeOver : Reader
+  typeOver a = typeBy brackets a
 
 -- a type where n levels are left, its own among them
 unfoldable pub readType : ℕ → Reader

@@ -1,5 +1,5 @@
 -- Contracts, put together: one law for each way in which a function of the walk ends.
-use mathlib.Core.Path.{_≡_, refl, sym, subst}
+use mathlib.Core.Path.{_≡_, refl, ap, sym, subst}
 use mathlib.Core.List.{List}
 use Prim.Native.Nat.{ℕ, _≤_}
 use native.Mathlib.Omega.{arith}
@@ -10,17 +10,23 @@ use Rattle.tokens.specs.declared.Token.{Token as Answer}
 use Rattle.tokens.specs.declared.Lexed.{Lexed}
 use Rattle.tokens.specs.declared.Lexed.the-variants.{Found, Refused as Bad}
 use Rattle.records.specs.Tree.{Tree}
-use Rattle.sources.specs.Source.{opened}
-use Rattle.answers.specs.Reading.{Ans, ok, no}
+use Rattle.sources.specs.Source.{Source, opened, Token, lex}
+use Rattle.answers.specs.Reading.{Ans, ok, no, then, look}
 use Rattle.forms.specs.Forms.{laid}
 use Rattle.forms.specs.code.Spots.{Placed}
 use Rattle.forms.specs.declared.Spot.{Spot}
+use Rattle.parts.specs.declared.Part.{Part}
 use Rattle.parts.specs.declared.Parsed.{Parsed}
 use Rattle.parts.specs.declared.Parsed.the-variants.{Read, Refused}
-use Rattle.parts.specs.code.Meets.{followedBy, Refuses, Meets, Follows, Reads}
+use Rattle.parts.specs.code.Meets.{followedBy, Refuses, Had, Meets, Follows, Reads}
 use Rattle.parts.proofs.Held.{next-refused}
 
 module _ (form : ℕ) (text : List ℕ) (fits : Type 0) (x : Ans Tree) (from : ℕ) (s : Spot) (l m : List ℕ) where
+  -- it is refused, or the token behind it is
+  pub reads-refused : (r : Refusal) → (fits → Refuses x r) → Reads form text fits x from s l (Refused r) m
+  unfolding Meets Follows
+  reads-refused r h = record { meets = h; goes = tt }
+
   -- it is refused
   pub reads-no : (r : Refusal) → (fits → x ≡ no r) → Reads form text fits x from s l (Refused r) m
   unfolding Meets Refuses Follows
@@ -31,6 +37,11 @@ module _ (form : ℕ) (text : List ℕ) (fits : Type 0) (x : Ans Tree) (from : �
       → Reads form text fits x from s l (Read (record { to = to; end = q; next = n })) m
   unfolding Meets Follows
   reads-read what q n to h g e b = record { meets = λ f. record { what = what; is = g f; bytes = b }; goes = (h, e) }
+
+  -- the same, where only tokens that fit tell what it is
+  pub reads-built : (p : Part) → (fits → Had form text x s l p m) → from ≤ p .end → nextToken text (p .end) ≡ Found (p .next) → Reads form text fits x from s l (Read p) m
+  unfolding Meets Follows
+  reads-built p h i e = record { meets = h; goes = (i, e) }
 
   -- something was read, and the token behind it is read last
   pub reads-finished : (what : Tree) (q : ℕ) (to : Spot) (r : Parsed) → from ≤ q → (fits → (length text ≤ textLimit) × (q ≤ length text)) → (fits → x ≡ ok what (opened text q)) → Placed l s (laid form what) to m
@@ -55,3 +66,28 @@ reads-as form text fits fits₂ x x₂ from from₂ s l m r h g e d =
     go : (r : Parsed) → Follows text from₂ r → Follows text from r
     go (Read p) z = (omega (arith, h, z .0), z .1)
     go (Refused r₂) z = tt
+
+-- a contract, opened by what the answer is
+module _ (form : ℕ) (text : List ℕ) (fits : Type 0) (x : Ans Tree) (from : ℕ) (s : Spot) (l m : List ℕ) (r : Parsed) (d : Reads form text fits x from s l r m) where
+  pub reads-had : (p : Part) → r ≡ Read p → fits → Had form text x s l p m
+  unfolding Meets
+  reads-had p e f = subst (λ (y : Parsed). Meets form text x s l y m) e (d .meets f)
+
+  pub reads-goes : (p : Part) → r ≡ Read p → (from ≤ p .end) × (nextToken text (p .end) ≡ Found (p .next))
+  unfolding Follows
+  reads-goes p e = subst (λ (y : Parsed). Follows text from y) e (d .goes)
+
+  pub reads-not : (q : Refusal) → r ≡ Refused q → fits → Refuses x q
+  unfolding Meets
+  reads-not q e f = subst (λ (y : Parsed). Meets form text x s l y m) e (d .meets f)
+
+-- a refusal, handed on: what was read was to stand in something else, or the token behind it was to be looked at
+pub refuses-ok : {A B : Type 0} (x : Ans A) (r : Refusal) (g : A → Source → B) → Refuses x r → Refuses (then x (λ y u. ok (g y u) u)) r
+unfolding Refuses then
+refuses-ok (ok y u) r g h = h
+refuses-ok (no q) r g h = h
+
+pub refuses-look : {A B : Type 0} (x : Ans A) (r : Refusal) (g : A → Source → Token → Ans B) → Refuses x r → then x (λ y u. look (lex u) (g y u)) ≡ no r
+unfolding Refuses then look
+refuses-look (ok y u) r g h = rw h
+refuses-look (no q) r g h = ap no h

@@ -19,7 +19,7 @@ use Rattle.parts.specs.code.Meets.{Fits, held}
 
 module _ (text : List ℕ) where
   -- n bytes on
-  past-opened : (n p q : ℕ) → p + n ≡ q → past n (opened text p) ≡ opened text q
+  pub past-opened : (n p q : ℕ) → p + n ≡ q → past n (opened text p) ≡ opened text q
   past-opened n p q h = rw (drop-drop n p text, h)
 
   module _ (a : Answer) (f : Fits text a) where

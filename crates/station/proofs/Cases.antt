@@ -10,12 +10,12 @@ use Rattle.tokens.specs.declared.Lexed.{Lexed}
 use Rattle.tokens.specs.declared.Lexed.the-variants.{Found, Refused}
 use Rattle.tokens.specs.declared.DocComment.{DocComment}
 use Rattle.tokens.specs.declared.DocComment.the-variants.{Doc, Nothing, Broken}
-use Rattle.reader.specs.Calls.{readNumber, readValues}
-use Rattle.reader.specs.declared.Answer.{Answer}
-use Rattle.reader.specs.declared.Answer.the-variants.{Item, Refused as Rejected}
-use Rattle.display.specs.Calls.{displayNumber, displayValues}
-use Rattle.display.specs.declared.Displayed.{Displayed}
-use Rattle.display.specs.declared.Displayed.the-variants.{Line, Refused as Undisplayed}
+use Rattle.calls.specs.Calls.{readNumber, readValues}
+use Rattle.calls.specs.declared.Answer.{Answer}
+use Rattle.calls.specs.declared.Answer.the-variants.{Item, Refused as Rejected}
+use Rattle.calls.specs.Calls.{displayNumber, displayValues}
+use Rattle.calls.specs.declared.Displayed.{Displayed}
+use Rattle.calls.specs.declared.Displayed.the-variants.{Line, Refused as Undisplayed}
 
 module _ (a : Lexed) where
   pub found : (t : Token) → a ≡ Found t → (0 ≡ tokenNumber a) × (t .kind ∷ t .start ∷ t .end ∷ 0 ∷ 0 ∷ 0 ∷ [] ≡ tokenValues a)

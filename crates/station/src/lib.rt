@@ -4,10 +4,9 @@ ghost use mathlib.Core.Path.{_≡_};
 ghost use Rattle.tokens.specs.Answers.{places, tokenNumber, tokenValues, commentNumber, commentValues};
 ghost use Rattle.tokens.specs.Calls.{nextToken, nextComment};
 ghost use lib.ListN.{length};
-ghost use Rattle.reader.specs.Calls.{answered, readNumber, readValues, read, readBuffer};
-ghost use Rattle.display.specs.Calls.{displayed, displayNumber, displayValues, display, displayBuffer};
-use display::Displayed;
-use reader::Answer;
+ghost use Rattle.calls.specs.Calls.{answered, readNumber, readValues, read, readBuffer, displayed, displayNumber, displayValues, display, displayBuffer};
+use calls::Answer;
+use calls::Displayed;
 use tokens::DocComment;
 use tokens::Lexed;
 use tokens::Refusal;
@@ -88,7 +87,7 @@ pub extern "C" fn movesig_read(
     ensures values { λ r. ⌜ now (answer .exit) ≡ readValues (answered (read kind (now (text .entry)) at (length (now (out .entry))))) ⌝ }
     ensures buffer { λ r. ⌜ now (out .exit) ≡ readBuffer kind (now (text .entry)) at (now (out .entry)) ⌝ }
 {
-    let a = reader::read(kind, text, at, out);
+    let a = calls::read(kind, text, at, out);
     match a {
         Answer::Item(n, t) => {
             *answer = [n as u64, t.kind as u64, t.start as u64, t.end as u64, 0, 0];
@@ -114,7 +113,7 @@ pub extern "C" fn movesig_display(
     ensures values { λ r. ⌜ now (answer .exit) ≡ displayValues (displayed (display kind (now (text .entry)) at (length (now (line .entry))))) ⌝ }
     ensures buffer { λ r. ⌜ now (line .exit) ≡ displayBuffer kind (now (text .entry)) at (now (line .entry)) ⌝ }
 {
-    let d = display::display(kind, text, at, line);
+    let d = calls::display(kind, text, at, line);
     match d {
         Displayed::Line(n) => {
             *answer = [n as u64, 0, 0, 0, 0, 0];

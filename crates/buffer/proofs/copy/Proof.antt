@@ -14,9 +14,6 @@ Inv-loop out₀ from n i₀ out i = (sets out i (drop i from) ≡ sets out₀ 0 
 abbrev μ-loop : tie.MeasureT-loop
 μ-loop out₀ from n i₀ out i = n - i
 
-smaller-requires : tie.Need-smaller-requires Inv-loop μ-loop
-smaller-requires c κs = search needs
-
 loop-holds : tie.Need-loop-holds Inv-loop μ-loop
 loop-holds c = (refl, refl)
 
@@ -35,9 +32,6 @@ loop-less c = omega (arith, c .before .loop-test .taken)
 loop-again : tie.Need-loop-again Inv-loop μ-loop
 loop-again c = (sym (sets-step (c .before .before .before .before .before .before .args .from .now) (c .before .before .loop .out) (c .before .before .loop .i) (omega (arith, c .before .before .before .smaller .ensures, c .before .loop-test .taken))) ∙ c .before .before .loop .inv .0, simp length-set (c .before .before .loop .inv .1))
 
-same-length : tie.Need-same-length Inv-loop μ-loop
-same-length c = search needs
-
 returns : tie.Need-returns Inv-loop μ-loop
 returns c = sym (sets-done (c .before .before .before .before .before .args .from .now) (c .before .before .before .before .before .args .out .now) _ _ _ (c .before .before .smaller .ensures) (c .before .loop .inv .1) (c .loop-test .left)) ∙ c .before .loop .inv .0
 
@@ -45,14 +39,5 @@ pub copy-spec : {M : Type 1} → statement M
 copy-spec =
     tie.close
     (tie.spec
-    Inv-loop
-    μ-loop
-    smaller-requires
-    loop-holds
-    shared-slice-read-out
-    slice-write-out
-    add-i
-    loop-less
-    loop-again
-    same-length
-    returns)
+    Inv-loop μ-loop (λ c κs. search needs) loop-holds shared-slice-read-out slice-write-out add-i loop-less loop-again
+    (λ c. search needs) returns)

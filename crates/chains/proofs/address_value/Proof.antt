@@ -6,40 +6,16 @@ use borrow.Author.Needs.{needs}
 use Rattle.chains.proofs.address_value.Statement.{statement}
 use Rattle.chains.proofs.address_value.Tie as tie
 
-next-token-requires : tie.Need-next-token-requires
-next-token-requires c κs = search needs
-
-enum-known-l : tie.Need-enum-known-l
-enum-known-l c = search needs
-
-enum-known-l-2 : tie.Need-enum-known-l-2
-enum-known-l-2 c = search needs
-
-is-first-requires : tie.Need-is-first-requires
-is-first-requires c κs = search needs
-
-unexpected-requires : tie.Need-unexpected-requires
-unexpected-requires c κs = search needs
-
 returns : tie.Need-returns
 returns c =
     let x = c .before .before .before .before .before .before .before .before .before .args in
     address-other (x .w .form) (now (x .text)) (x .s) (now (x .out)) _ (x .a) _ (sym (c .before .before .before .before .before .before .next-token .ensures) ∙ c .before .before .before .before .l2 .given .1) _ (c .before .before .is-first .ensures) _
     (not-true _ (c .before .if1 .taken)) (c .unexpected .ensures)
 
-put-address-requires : tie.Need-put-address-requires
-put-address-requires c κs = search needs
-
-finish-requires : tie.Need-finish-requires
-finish-requires c κs = search needs
-
 returns-2 : tie.Need-returns-2
 returns-2 c =
     let x = c .before .before .before .before .before .before .args in
     address-bad (x .w .form) (now (x .text)) (x .s) (now (x .out)) _ (x .a) _ (sym (c .before .before .before .next-token .ensures) ∙ c .before .l .given .1)
-
-same-length : tie.Need-same-length
-same-length c = search needs
 
 returns-3 : tie.Need-returns-3
 returns-3 c =
@@ -51,14 +27,5 @@ pub address-value-spec : {M : Type 1} → statement M
 address-value-spec =
     tie.close
     (tie.spec
-    next-token-requires
-    enum-known-l
-    enum-known-l-2
-    is-first-requires
-    unexpected-requires
-    returns
-    put-address-requires
-    finish-requires
-    returns-2
-    same-length
-    returns-3)
+    (λ c κs. search needs) (λ c. search needs) (λ c. search needs) (λ c κs. search needs) (λ c κs. search needs)
+    returns (λ c κs. search needs) (λ c κs. search needs) returns-2 (λ c. search needs) returns-3)

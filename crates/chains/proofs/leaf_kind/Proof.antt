@@ -9,14 +9,8 @@ returns c = leaf-true _ _ (c .if1 .taken)
 returns-2 : tie.Need-returns-2
 returns-2 c = leaf-false _ _ (c .before .if1 .left) (c .if2 .taken)
 
-is-number-requires : tie.Need-is-number-requires
-is-number-requires c κs = search needs
-
 returns-3 : tie.Need-returns-3
 returns-3 c = leaf-number _ _ (c .before .before .before .if1 .left) (c .before .before .if2 .left) _ (c .before .is-number .ensures) (c .if3 .taken)
-
-string-kind-requires : tie.Need-string-kind-requires
-string-kind-requires c κs = search needs
 
 returns-4 : tie.Need-returns-4
 returns-4 c = leaf-string _ _ (c .before .before .before .before .before .if1 .left) (c .before .before .before .before .if2 .left) _ (c .before .before .before .is-number .ensures) (c .before .before .if3 .left) (c .before .if4 .taken) _ (c .string-kind .ensures)
@@ -28,10 +22,4 @@ pub leaf-kind-spec : {M : Type 1} → statement M
 leaf-kind-spec =
     tie.close
     (tie.spec
-    returns
-    returns-2
-    is-number-requires
-    returns-3
-    string-kind-requires
-    returns-4
-    returns-5)
+    returns returns-2 (λ c κs. search needs) returns-3 (λ c κs. search needs) returns-4 returns-5)

@@ -5,24 +5,6 @@ use borrow.Author.Needs.{needs}
 use Rattle.chains.proofs.put_address.Statement.{statement}
 use Rattle.chains.proofs.put_address.Tie as tie
 
-step-inside-requires : tie.Need-step-inside-requires
-step-inside-requires c κs = search needs
-
-put-mark-requires : tie.Need-put-mark-requires
-put-mark-requires c κs = search needs
-
-first-kind-requires : tie.Need-first-kind-requires
-first-kind-requires c κs = search needs
-
-put-leaf-requires : tie.Need-put-leaf-requires
-put-leaf-requires c κs = search needs
-
-seal-requires : tie.Need-seal-requires
-seal-requires c κs = search needs
-
-same-length : tie.Need-same-length
-same-length c = search needs
-
 returns : tie.Need-returns
 returns c =
     let x = c .before .before .before .before .before .before .before .before .before .before .before .before .before .before .before .before .args in
@@ -33,4 +15,4 @@ returns c =
 pub put-address-spec : {M : Type 1} → statement M
 put-address-spec =
     tie.close
-    (tie.spec step-inside-requires put-mark-requires first-kind-requires put-leaf-requires seal-requires same-length returns)
+    (tie.spec (λ c κs. search needs) (λ c κs. search needs) (λ c κs. search needs) (λ c κs. search needs) (λ c κs. search needs) (λ c. search needs) returns)

@@ -5,30 +5,12 @@ use borrow.Author.Needs.{needs}
 use Rattle.chains.proofs.second_part.Statement.{statement}
 use Rattle.chains.proofs.second_part.Tie as tie
 
-next-token-requires : tie.Need-next-token-requires
-next-token-requires c κs = search needs
-
-enum-known-l : tie.Need-enum-known-l
-enum-known-l c = search needs
-
-enum-known-l-2 : tie.Need-enum-known-l-2
-enum-known-l-2 c = search needs
-
-third-part-requires : tie.Need-third-part-requires
-third-part-requires c κs = search needs
-
-same-length : tie.Need-same-length
-same-length c = search needs
-
 returns : tie.Need-returns
 returns c =
     let x = c .before .before .before .before .before .before .before .before .before .before .before .before .args in
     second-name (x .w .form) (now (x .text)) (x .s) (now (x .out)) _ (x .a) (x .d) _ _
     (sym (c .before .before .before .before .before .before .before .before .before .next-token .ensures) ∙ c .before .before .before .before .before .before .before .l2 .given .1)
     (c .before .before .before .before .if1 .taken) (c .before .before .third-part .ensures)
-
-unexpected-requires : tie.Need-unexpected-requires
-unexpected-requires c κs = search needs
 
 returns-2 : tie.Need-returns-2
 returns-2 c =
@@ -46,12 +28,5 @@ pub second-part-spec : {M : Type 1} → statement M
 second-part-spec =
     tie.close
     (tie.spec
-    next-token-requires
-    enum-known-l
-    enum-known-l-2
-    third-part-requires
-    same-length
-    returns
-    unexpected-requires
-    returns-2
-    returns-3)
+    (λ c κs. search needs) (λ c. search needs) (λ c. search needs) (λ c κs. search needs) (λ c. search needs) returns
+    (λ c κs. search needs) returns-2 returns-3)

@@ -5,21 +5,6 @@ use borrow.Author.Needs.{needs}
 use Rattle.chains.proofs.third_part.Statement.{statement}
 use Rattle.chains.proofs.third_part.Tie as tie
 
-next-token-requires : tie.Need-next-token-requires
-next-token-requires c κs = search needs
-
-enum-known-l : tie.Need-enum-known-l
-enum-known-l c = search needs
-
-enum-known-l-2 : tie.Need-enum-known-l-2
-enum-known-l-2 c = search needs
-
-last-part-requires : tie.Need-last-part-requires
-last-part-requires c κs = search needs
-
-same-length : tie.Need-same-length
-same-length c = search needs
-
 returns : tie.Need-returns
 returns c =
     let x = c .before .before .before .before .before .before .before .before .before .before .before .before .args in
@@ -27,16 +12,10 @@ returns c =
     (sym (c .before .before .before .before .before .before .before .before .before .next-token .ensures) ∙ c .before .before .before .before .before .before .before .l2 .given .1)
     (c .before .before .before .before .if1 .taken) (c .before .before .last-part .ensures)
 
-put-pair-requires : tie.Need-put-pair-requires
-put-pair-requires c κs = search needs
-
 returns-2 : tie.Need-returns-2
 returns-2 c =
     let x = c .before .before .before .before .before .before .args in
     third-bad (x .w .form) (now (x .text)) (x .s) (now (x .out)) _ (x .a) (x .b) _ (sym (c .before .before .before .next-token .ensures) ∙ c .before .l .given .1)
-
-same-length-2 : tie.Need-same-length-2
-same-length-2 c = search needs
 
 returns-3 : tie.Need-returns-3
 returns-3 c =
@@ -49,13 +28,5 @@ pub third-part-spec : {M : Type 1} → statement M
 third-part-spec =
     tie.close
     (tie.spec
-    next-token-requires
-    enum-known-l
-    enum-known-l-2
-    last-part-requires
-    same-length
-    returns
-    put-pair-requires
-    returns-2
-    same-length-2
-    returns-3)
+    (λ c κs. search needs) (λ c. search needs) (λ c. search needs) (λ c κs. search needs) (λ c. search needs) returns
+    (λ c κs. search needs) returns-2 (λ c. search needs) returns-3)

@@ -4,22 +4,13 @@ use borrow.Author.Needs.{needs}
 use Rattle.classes.proofs.in_class.Statement.{statement}
 use Rattle.classes.proofs.in_class.Tie as tie
 
-is-name-requires : tie.Need-is-name-requires
-is-name-requires c κs = search needs
-
 returns : tie.Need-returns
 unfolding inClass
 returns c = rw (eq-eqb _ _ (c .before .if1 .taken)) (c .is-name .ensures)
 
-is-digit-requires : tie.Need-is-digit-requires
-is-digit-requires c κs = search needs
-
 returns-2 : tie.Need-returns-2
 unfolding inClass
 returns-2 c = rw (ne-eqb _ _ (c .before .before .if1 .left), eq-eqb _ _ (c .before .if2 .taken)) (c .is-digit .ensures)
-
-is-hex-requires : tie.Need-is-hex-requires
-is-hex-requires c κs = search needs
 
 returns-3 : tie.Need-returns-3
 unfolding inClass
@@ -37,11 +28,5 @@ pub in-class-spec : {M : Type 1} → statement M
 in-class-spec =
     tie.close
     (tie.spec
-    is-name-requires
-    returns
-    is-digit-requires
-    returns-2
-    is-hex-requires
-    returns-3
-    returns-4
+    (λ c κs. search needs) returns (λ c κs. search needs) returns-2 (λ c κs. search needs) returns-3 returns-4
     returns-5)

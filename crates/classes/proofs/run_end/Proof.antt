@@ -15,23 +15,8 @@ Inv-loop k text at i₀ i = runEnd (inClass k) text at ≡ runEnd (inClass k) te
 abbrev μ-loop : tie.MeasureT-loop
 μ-loop k text at i₀ i = length text - i
 
-loop-holds : tie.Need-loop-holds Inv-loop μ-loop
-loop-holds c = search needs
-
-shared-slice-read-in-class : tie.Need-shared-slice-read-in-class Inv-loop μ-loop
-shared-slice-read-in-class c = search needs
-
-in-class-requires : tie.Need-in-class-requires Inv-loop μ-loop
-in-class-requires c κs = search needs
-
 returns : tie.Need-returns Inv-loop μ-loop
 returns c = sym (c .before .before .before .before .loop .inv ∙ run-out (inClass _) _ _ (search needs) (sym (c .before .in-class .ensures) ∙ not-true _ (c .if1 .taken)))
-
-add-i : tie.Need-add-i Inv-loop μ-loop
-add-i c = search needs
-
-loop-less : tie.Need-loop-less Inv-loop μ-loop
-loop-less c = search needs
 
 loop-again : tie.Need-loop-again Inv-loop μ-loop
 loop-again c = c .before .before .before .before .loop .inv ∙ run-in (inClass _) _ _ (search needs) (sym (c .before .in-class .ensures) ∙ not-false _ (c .if1 .left))
@@ -43,13 +28,5 @@ pub run-end-spec : {M : Type 1} → statement M
 run-end-spec =
     tie.close
     (tie.spec
-    Inv-loop
-    μ-loop
-    loop-holds
-    shared-slice-read-in-class
-    in-class-requires
-    returns
-    add-i
-    loop-less
-    loop-again
-    returns-2)
+    Inv-loop μ-loop (λ c. search needs) (λ c. search needs) (λ c κs. search needs) returns (λ c. search needs)
+    (λ c. search needs) loop-again returns-2)

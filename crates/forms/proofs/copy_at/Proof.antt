@@ -8,21 +8,6 @@ use borrow.Author.Needs.{needs}
 use Rattle.forms.proofs.copy_at.Statement.{statement}
 use Rattle.forms.proofs.copy_at.Tie as tie
 
-sub-copy : tie.Need-sub-copy
-sub-copy c = search needs
-
-part-copy-start : tie.Need-part-copy-start
-part-copy-start c = search needs
-
-part-copy-end : tie.Need-part-copy-end
-part-copy-end c = search needs
-
-copy-requires : tie.Need-copy-requires
-copy-requires c κs = search needs
-
-same-length : tie.Need-same-length
-same-length c = search needs
-
 returns : tie.Need-returns
 returns c = sets-mid (c .before .before .before .before .before .before .before .args .pos) (now (c .before .before .before .before .before .before .before .args .out)) _ (now (c .before .before .before .before .before .before .before .args .from)) (omega arith) (c .before .before .copy .ensures)
 
@@ -32,4 +17,4 @@ returns-2 c = sym (sets-out (now (c .before .before .before .args .from)) (now (
 pub copy-at-spec : {M : Type 1} → statement M
 copy-at-spec =
     tie.close
-    (tie.spec sub-copy part-copy-start part-copy-end copy-requires same-length returns returns-2)
+    (tie.spec (λ c. search needs) (λ c. search needs) (λ c. search needs) (λ c κs. search needs) (λ c. search needs) returns returns-2)

@@ -3,12 +3,10 @@ use Rattle.forms.specs.Forms.{headSize}
 use Rattle.forms.proofs.head_size.Statement.{statement}
 use Rattle.forms.proofs.head_size.Tie as tie
 
--- src/lib.rt:64:9
 returns : tie.Need-returns
 unfolding headSize
 returns c = rw (eq-eqb _ _ (c .if1 .taken))
 
--- src/lib.rt:60:1
 returns-2 : tie.Need-returns-2
 unfolding headSize
 returns-2 c = rw (ne-eqb _ _ (c .if1 .left))

@@ -17,34 +17,19 @@ abbrev μ-loop : tie.MeasureT-loop
 loop-holds : tie.Need-loop-holds Inv-loop μ-loop
 loop-holds c = refl
 
-part-at-requires : tie.Need-part-at-requires Inv-loop μ-loop
-part-at-requires c κs = search needs
-
-enum-known-p : tie.Need-enum-known-p Inv-loop μ-loop
-enum-known-p c = search needs
-
 loop-less : tie.Need-loop-less Inv-loop μ-loop
 loop-less c = let r = gap-pass (c .before .before .before .before .before .before .before .args .text .now) (c .before .before .before .before .before .loop .i) (search needs) (c .before .p .given .0 .0) (sym (c .before .before .before .part-at .ensures) ∙ c .before .p .given .1) in omega arith
 
 loop-again : tie.Need-loop-again Inv-loop μ-loop
 loop-again c = c .before .before .before .before .before .loop .inv ∙ ap docOf (gap-pass _ _ (search needs) _ (sym (c .before .before .before .part-at .ensures) ∙ c .before .p .given .1) .0)
 
-enum-known-p-2 : tie.Need-enum-known-p-2 Inv-loop μ-loop
-enum-known-p-2 c = search needs
-
 returns : tie.Need-returns Inv-loop μ-loop
 unfolding docOf firstDoc
 returns c = sym (c .before .before .before .before .before .loop .inv ∙ ap docOf (gap-doc _ _ (search needs) _ (sym (c .before .before .before .part-at .ensures) ∙ c .before .p2 .given .1) .0))
 
-enum-known-p-3 : tie.Need-enum-known-p-3 Inv-loop μ-loop
-enum-known-p-3 c = search needs
-
 returns-2 : tie.Need-returns-2 Inv-loop μ-loop
 unfolding docOf firstDoc
 returns-2 c = sym (c .before .before .before .before .before .loop .inv ∙ ap docOf (gap-broken _ _ (search needs) _ _ (sym (c .before .before .before .part-at .ensures) ∙ c .before .p3 .given .1)))
-
-enum-told : tie.Need-enum-told Inv-loop μ-loop
-enum-told c = search needs
 
 returns-3 : tie.Need-returns-3 Inv-loop μ-loop
 unfolding docOf firstDoc
@@ -58,17 +43,5 @@ pub first-doc-spec : {M : Type 1} → statement M
 first-doc-spec =
     tie.close
     (tie.spec
-    Inv-loop
-    μ-loop
-    loop-holds
-    part-at-requires
-    enum-known-p
-    loop-less
-    loop-again
-    enum-known-p-2
-    returns
-    enum-known-p-3
-    returns-2
-    enum-told
-    returns-3
-    returns-4)
+    Inv-loop μ-loop loop-holds (λ c κs. search needs) (λ c. search needs) loop-less loop-again (λ c. search needs)
+    returns (λ c. search needs) returns-2 (λ c. search needs) returns-3 returns-4)

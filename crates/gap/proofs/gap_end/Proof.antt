@@ -17,29 +17,8 @@ abbrev μ-loop : tie.MeasureT-loop
 loop-holds : tie.Need-loop-holds Inv-loop μ-loop
 loop-holds c = refl
 
-shared-slice-read-a : tie.Need-shared-slice-read-a Inv-loop μ-loop
-shared-slice-read-a c = search needs
-
-is-space-requires : tie.Need-is-space-requires Inv-loop μ-loop
-is-space-requires c κs = search needs
-
-add-i : tie.Need-add-i Inv-loop μ-loop
-add-i c = search needs
-
-loop-less : tie.Need-loop-less Inv-loop μ-loop
-loop-less c = search needs
-
 loop-again : tie.Need-loop-again Inv-loop μ-loop
 loop-again c = c .before .before .before .before .loop .inv ∙ ap (λ (g : Gap). gapEndOf (g .last)) (gap-space _ _ (search needs) (sym (c .before .is-space .ensures) ∙ c .if1 .taken))
-
-begins-part-requires : tie.Need-begins-part-requires Inv-loop μ-loop
-begins-part-requires c κs = search needs
-
-part-at-requires : tie.Need-part-at-requires Inv-loop μ-loop
-part-at-requires c κs = search needs
-
-enum-known-p : tie.Need-enum-known-p Inv-loop μ-loop
-enum-known-p c = search needs
 
 loop-less-2 : tie.Need-loop-less-2 Inv-loop μ-loop
 loop-less-2 c = let r = gap-pass (c .before .before .before .before .before .before .before .before .before .before .before .before .args .text .now) (c .before .before .before .before .before .before .before .before .before .before .loop .i) (search needs) (c .before .p .given .0 .0) (sym (c .before .before .before .part-at .ensures) ∙ c .before .p .given .1) in omega arith
@@ -47,24 +26,15 @@ loop-less-2 c = let r = gap-pass (c .before .before .before .before .before .bef
 loop-again-2 : tie.Need-loop-again-2 Inv-loop μ-loop
 loop-again-2 c = c .before .before .before .before .before .before .before .before .before .before .loop .inv ∙ ap (λ (g : Gap). gapEndOf (g .last)) (gap-pass _ _ (search needs) _ (sym (c .before .before .before .part-at .ensures) ∙ c .before .p .given .1) .0)
 
-enum-known-p-2 : tie.Need-enum-known-p-2 Inv-loop μ-loop
-enum-known-p-2 c = search needs
-
 loop-less-3 : tie.Need-loop-less-3 Inv-loop μ-loop
 loop-less-3 c = let r = gap-doc (c .before .before .before .before .before .before .before .before .before .before .before .before .args .text .now) (c .before .before .before .before .before .before .before .before .before .before .loop .i) (search needs) (c .before .p2 .given .0 .0) (sym (c .before .before .before .part-at .ensures) ∙ c .before .p2 .given .1) in omega arith
 
 loop-again-3 : tie.Need-loop-again-3 Inv-loop μ-loop
 loop-again-3 c = c .before .before .before .before .before .before .before .before .before .before .loop .inv ∙ ap (λ (g : Gap). gapEndOf (g .last)) (gap-doc _ _ (search needs) _ (sym (c .before .before .before .part-at .ensures) ∙ c .before .p2 .given .1) .0)
 
-enum-known-p-3 : tie.Need-enum-known-p-3 Inv-loop μ-loop
-enum-known-p-3 c = search needs
-
 returns : tie.Need-returns Inv-loop μ-loop
 unfolding gapEndOf
 returns c = sym (c .before .before .before .before .before .before .before .before .before .before .loop .inv ∙ ap (λ (g : Gap). gapEndOf (g .last)) (gap-broken _ _ (search needs) _ _ (sym (c .before .before .before .part-at .ensures) ∙ c .before .p3 .given .1)))
-
-enum-told : tie.Need-enum-told Inv-loop μ-loop
-enum-told c = search needs
 
 returns-2 : tie.Need-returns-2 Inv-loop μ-loop
 unfolding gapEndOf
@@ -82,25 +52,7 @@ pub gap-end-spec : {M : Type 1} → statement M
 gap-end-spec =
     tie.close
     (tie.spec
-    Inv-loop
-    μ-loop
-    loop-holds
-    shared-slice-read-a
-    is-space-requires
-    add-i
-    loop-less
-    loop-again
-    begins-part-requires
-    part-at-requires
-    enum-known-p
-    loop-less-2
-    loop-again-2
-    enum-known-p-2
-    loop-less-3
-    loop-again-3
-    enum-known-p-3
-    returns
-    enum-told
-    returns-2
-    returns-3
+    Inv-loop μ-loop loop-holds (λ c. search needs) (λ c κs. search needs) (λ c. search needs) (λ c. search needs)
+    loop-again (λ c κs. search needs) (λ c κs. search needs) (λ c. search needs) loop-less-2 loop-again-2
+    (λ c. search needs) loop-less-3 loop-again-3 (λ c. search needs) returns (λ c. search needs) returns-2 returns-3
     returns-4)

@@ -5,9 +5,6 @@ use borrow.Author.Needs.{needs}
 use Rattle.gap.proofs.is_blank.Statement.{statement}
 use Rattle.gap.proofs.is_blank.Tie as tie
 
-is-space-requires : tie.Need-is-space-requires
-is-space-requires c κs = search needs
-
 returns : tie.Need-returns
 unfolding isBlank
 returns c = rw (sym (c .before .is-space .ensures) ∙ c .if1 .taken)
@@ -21,4 +18,4 @@ unfolding isBlank
 returns-3 c = rw (sym (c .before .before .is-space .ensures) ∙ c .before .if1 .left, ne-eqb _ _ (c .if2 .left))
 
 pub is-blank-spec : {M : Type 1} → statement M
-is-blank-spec = tie.close (tie.spec is-space-requires returns returns-2 returns-3)
+is-blank-spec = tie.close (tie.spec (λ c κs. search needs) returns returns-2 returns-3)

@@ -17,55 +17,13 @@ abbrev μ-loop : tie.MeasureT-loop
 loop-holds : tie.Need-loop-holds Inv-loop μ-loop
 loop-holds c = (search needs, refl)
 
-shared-slice-read-a : tie.Need-shared-slice-read-a Inv-loop μ-loop
-shared-slice-read-a c = search needs
-
-add-byte-at : tie.Need-add-byte-at Inv-loop μ-loop
-add-byte-at c = search needs
-
-byte-at-requires : tie.Need-byte-at-requires Inv-loop μ-loop
-byte-at-requires c κs = search needs
-
-pair-requires : tie.Need-pair-requires Inv-loop μ-loop
-pair-requires c κs = search needs
-
-add-n : tie.Need-add-n Inv-loop μ-loop
-add-n c = search needs
-
-where-equal-requires : tie.Need-where-equal-requires Inv-loop μ-loop
-where-equal-requires c κs = search needs
-
-add-i : tie.Need-add-i Inv-loop μ-loop
-add-i c = search needs
-
-loop-less : tie.Need-loop-less Inv-loop μ-loop
-loop-less c = search needs
-
 loop-again : tie.Need-loop-again Inv-loop μ-loop
 unfolding opens
 loop-again c = (search needs, c .before .before .before .before .before .before .loop .inv .1 ∙ opened _ _ _ _ _ _ (search needs) (c .before .before .before .byte-at .ensures) _ (c .where-equal .ensures) (sym (c .before .before .pair .ensures) ∙ c .before .if1 .taken))
 
-pair-requires-2 : tie.Need-pair-requires-2 Inv-loop μ-loop
-pair-requires-2 c κs = search needs
-
-less-requires : tie.Need-less-requires Inv-loop μ-loop
-less-requires c κs = search needs
-
-add-i-2 : tie.Need-add-i-2 Inv-loop μ-loop
-add-i-2 c = search needs
-
-loop-less-2 : tie.Need-loop-less-2 Inv-loop μ-loop
-loop-less-2 c = search needs
-
 loop-again-2 : tie.Need-loop-again-2 Inv-loop μ-loop
 unfolding opens closes
 loop-again-2 c = (search needs, c .before .before .before .before .before .before .before .before .loop .inv .1 ∙ closed _ _ _ _ _ _ (search needs) (c .before .before .before .before .before .byte-at .ensures) (sym (c .before .before .before .before .pair .ensures) ∙ c .before .before .before .if1 .left) _ (c .less .ensures) (sym (c .before .before .pair2 .ensures) ∙ c .before .if2 .taken))
-
-add-i-3 : tie.Need-add-i-3 Inv-loop μ-loop
-add-i-3 c = search needs
-
-loop-less-3 : tie.Need-loop-less-3 Inv-loop μ-loop
-loop-less-3 c = search needs
 
 loop-again-3 : tie.Need-loop-again-3 Inv-loop μ-loop
 unfolding opens closes
@@ -78,24 +36,7 @@ pub opener-of-spec : {M : Type 1} → statement M
 opener-of-spec =
     tie.close
     (tie.spec
-    Inv-loop
-    μ-loop
-    loop-holds
-    shared-slice-read-a
-    add-byte-at
-    byte-at-requires
-    pair-requires
-    add-n
-    where-equal-requires
-    add-i
-    loop-less
-    loop-again
-    pair-requires-2
-    less-requires
-    add-i-2
-    loop-less-2
-    loop-again-2
-    add-i-3
-    loop-less-3
-    loop-again-3
-    returns)
+    Inv-loop μ-loop loop-holds (λ c. search needs) (λ c. search needs) (λ c κs. search needs) (λ c κs. search needs)
+    (λ c. search needs) (λ c κs. search needs) (λ c. search needs) (λ c. search needs) loop-again
+    (λ c κs. search needs) (λ c κs. search needs) (λ c. search needs) (λ c. search needs) loop-again-2
+    (λ c. search needs) (λ c. search needs) loop-again-3 returns)

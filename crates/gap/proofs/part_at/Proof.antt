@@ -5,43 +5,22 @@ use borrow.Author.Needs.{needs}
 use Rattle.gap.proofs.part_at.Statement.{statement}
 use Rattle.gap.proofs.part_at.Tie as tie
 
-shared-slice-read-a : tie.Need-shared-slice-read-a
-shared-slice-read-a c = search needs
-
-add-byte-at : tie.Need-add-byte-at
-add-byte-at c = search needs
-
-byte-at-requires : tie.Need-byte-at-requires
-byte-at-requires c κs = search needs
-
-is-blank-requires : tie.Need-is-blank-requires
-is-blank-requires c κs = search needs
-
-add-t9 : tie.Need-add-t9
-add-t9 c = search needs
-
 returns : tie.Need-returns
 returns c = part-blank _ _ _ (c .before .before .byte-at .ensures) (sym (c .before .is-blank .ensures) ∙ c .if1 .taken)
-
-pair-requires : tie.Need-pair-requires
-pair-requires c κs = search needs
-
-line-comment-requires : tie.Need-line-comment-requires
-line-comment-requires c κs = search needs
 
 returns-2 : tie.Need-returns-2
 unfolding slashes
 returns-2 c = c .line-comment .ensures ∙ part-line _ _ _ (c .before .before .before .before .before .byte-at .ensures) (sym (c .before .before .before .before .is-blank .ensures) ∙ c .before .before .before .if1 .left) (sym (c .before .before .pair .ensures) ∙ c .before .if2 .taken)
 
-pair-requires-2 : tie.Need-pair-requires-2
-pair-requires-2 c κs = search needs
-
-block-comment-requires : tie.Need-block-comment-requires
-block-comment-requires c κs = search needs
-
 returns-3 : tie.Need-returns-3
 unfolding slashes opens
-returns-3 c = c .block-comment .ensures ∙ part-block _ _ _ (c .before .before .before .before .before .before .before .byte-at .ensures) (sym (c .before .before .before .before .before .before .is-blank .ensures) ∙ c .before .before .before .before .before .if1 .left) (sym (c .before .before .before .before .pair .ensures) ∙ c .before .before .before .if2 .left) (sym (c .before .before .pair2 .ensures) ∙ c .before .if3 .taken)
+returns-3 c =
+    let c₁ = c .before .before .before .before in
+    let c₂ = c₁ .before in
+    let c₃ = c₂ .before in
+    let c₄ = c₃ .before in
+    c .block-comment .ensures ∙ part-block _ _ _ (c₄ .byte-at .ensures) (sym (c₃ .is-blank .ensures) ∙ c₂ .if1 .left) (sym (c₁ .pair .ensures) ∙ c .before .before .before .if2 .left)
+    (sym (c .before .before .pair2 .ensures) ∙ c .before .if3 .taken)
 
 returns-4 : tie.Need-returns-4
 unfolding slashes opens
@@ -51,16 +30,6 @@ pub part-at-spec : {M : Type 1} → statement M
 part-at-spec =
     tie.close
     (tie.spec
-    shared-slice-read-a
-    add-byte-at
-    byte-at-requires
-    is-blank-requires
-    add-t9
-    returns
-    pair-requires
-    line-comment-requires
-    returns-2
-    pair-requires-2
-    block-comment-requires
-    returns-3
+    (λ c. search needs) (λ c. search needs) (λ c κs. search needs) (λ c κs. search needs) (λ c. search needs) returns
+    (λ c κs. search needs) (λ c κs. search needs) returns-2 (λ c κs. search needs) (λ c κs. search needs) returns-3
     returns-4)

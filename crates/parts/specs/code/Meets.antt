@@ -36,7 +36,7 @@ followedBy s q (Found n) = Read (record { to = s; end = q; next = n })
 followedBy s q (Bad r) = Refused r
 
 -- a reader refuses, or the token behind what it read is refused
-unfoldable pub Refuses : Ans Tree → Refusal → Type 0
+unfoldable pub Refuses : {A : Type 0} → Ans A → Refusal → Type 0
 Refuses (ok x u) r = lex u ≡ bad r
 Refuses (no r₂) r = r₂ ≡ r
 

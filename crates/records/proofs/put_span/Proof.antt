@@ -6,18 +6,6 @@ use borrow.Author.Needs.{needs}
 use Rattle.records.proofs.put_span.Statement.{statement}
 use Rattle.records.proofs.put_span.Tie as tie
 
-put-two-requires : tie.Need-put-two-requires
-put-two-requires c κs = search needs
-
-add-put-two : tie.Need-add-put-two
-add-put-two c = search needs
-
-put-two-requires-2 : tie.Need-put-two-requires-2
-put-two-requires-2 c κs = search needs
-
-same-length : tie.Need-same-length
-same-length c = search needs
-
 returns : tie.Need-returns
 returns c = span-pieces _ _ _ _ _ _ (c .before .before .before .before .before .before .put-two .ensures) (c .before .before .put-two2 .ensures)
 
@@ -27,4 +15,4 @@ returns-2 c = sym (sets-out (span _ _) _ _ (c .if1 .left))
 pub put-span-spec : {M : Type 1} → statement M
 put-span-spec =
     tie.close
-    (tie.spec put-two-requires add-put-two put-two-requires-2 same-length returns returns-2)
+    (tie.spec (λ c κs. search needs) (λ c. search needs) (λ c κs. search needs) (λ c. search needs) returns returns-2)

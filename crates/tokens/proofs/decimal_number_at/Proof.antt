@@ -6,12 +6,6 @@ use borrow.Author.Needs.{needs}
 use Rattle.tokens.proofs.decimal_number_at.Statement.{statement}
 use Rattle.tokens.proofs.decimal_number_at.Tie as tie
 
-run-end-requires : tie.Need-run-end-requires
-run-end-requires c κs = search needs
-
-suffix-len-requires : tie.Need-suffix-len-requires
-suffix-len-requires c κs = search needs
-
 typed-at-requires : tie.Need-typed-at-requires
 typed-at-requires c κs = let r = number-room (c .before .before .before .args .text .now) (c .before .before .before .args .at) _ _ (c .suffix-len .ensures) (inClass 1) (c .before .run-end .ensures) (search needs) in omega arith
 
@@ -20,4 +14,4 @@ returns c = c .typed-at .ensures ∙ decimal-at _ _ _ _ (c .before .suffix-len .
 
 pub decimal-number-at-spec : {M : Type 1} → statement M
 decimal-number-at-spec =
-    tie.close (tie.spec run-end-requires suffix-len-requires typed-at-requires returns)
+    tie.close (tie.spec (λ c κs. search needs) (λ c κs. search needs) typed-at-requires returns)

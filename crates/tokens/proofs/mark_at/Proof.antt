@@ -6,12 +6,6 @@ use borrow.Author.Needs.{needs}
 use Rattle.tokens.proofs.mark_at.Statement.{statement}
 use Rattle.tokens.proofs.mark_at.Tie as tie
 
-mark-at-requires : tie.Need-mark-at-requires
-mark-at-requires c κs = search needs
-
-refuse-requires : tie.Need-refuse-requires
-refuse-requires c κs = search needs
-
 returns : tie.Need-returns
 returns c = ap Refused (c .refuse .ensures) ∙ no-mark _ _ _ (c .before .before .mark-at .ensures) (c .before .if1 .taken)
 
@@ -22,4 +16,4 @@ returns-2 : tie.Need-returns-2
 returns-2 c = some-mark _ _ _ (c .before .mark-at .ensures) (c .if1 .left)
 
 pub mark-at-spec : {M : Type 1} → statement M
-mark-at-spec = tie.close (tie.spec mark-at-requires refuse-requires returns add-t7 returns-2)
+mark-at-spec = tie.close (tie.spec (λ c κs. search needs) (λ c κs. search needs) returns add-t7 returns-2)

@@ -6,17 +6,11 @@ use borrow.Author.Needs.{needs}
 use Rattle.tokens.proofs.name_at.Statement.{statement}
 use Rattle.tokens.proofs.name_at.Tie as tie
 
-run-end-requires : tie.Need-run-end-requires
-run-end-requires c κs = search needs
-
 sub-name-kind : tie.Need-sub-name-kind
 sub-name-kind c = omega (arith, run-from (inClass 0) (c .before .before .args .text .now) (c .before .before .args .at), c .run-end .ensures)
-
-name-kind-requires : tie.Need-name-kind-requires
-name-kind-requires c κs = search needs
 
 returns : tie.Need-returns
 returns c = name-at (c .before .before .before .args .text .now) (c .before .before .before .args .at) _ _ (c .before .run-end .ensures) (c .name-kind .ensures)
 
 pub name-at-spec : {M : Type 1} → statement M
-name-at-spec = tie.close (tie.spec run-end-requires sub-name-kind name-kind-requires returns)
+name-at-spec = tie.close (tie.spec (λ c κs. search needs) sub-name-kind (λ c κs. search needs) returns)

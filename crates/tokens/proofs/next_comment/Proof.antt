@@ -6,34 +6,13 @@ use borrow.Author.Needs.{needs}
 use Rattle.tokens.proofs.next_comment.Statement.{statement}
 use Rattle.tokens.proofs.next_comment.Tie as tie
 
-refuse-requires : tie.Need-refuse-requires
-refuse-requires c κs = search needs
-
 returns : tie.Need-returns
 unfolding nextComment
 returns c = ap Broken (c .refuse .ensures) ∙ too-long Broken _ _ _ (c .before .if1 .taken)
 
-refuse-requires-2 : tie.Need-refuse-requires-2
-refuse-requires-2 c κs = search needs
-
 returns-2 : tie.Need-returns-2
 unfolding nextComment
 returns-2 c = ap Broken (c .refuse2 .ensures) ∙ past-end Broken _ _ _ (c .before .before .if1 .left) (c .before .if2 .taken)
-
-first-doc-requires : tie.Need-first-doc-requires
-first-doc-requires c κs = search needs
-
-enum-known-d : tie.Need-enum-known-d
-enum-known-d c = search needs
-
-enum-told : tie.Need-enum-told
-enum-told c = search needs
-
-enum-known-d-2 : tie.Need-enum-known-d-2
-enum-known-d-2 c = search needs
-
-refuse-requires-3 : tie.Need-refuse-requires-3
-refuse-requires-3 c κs = search needs
 
 returns-3 : tie.Need-returns-3
 unfolding commentOf
@@ -51,15 +30,5 @@ pub next-comment-spec : {M : Type 1} → statement M
 next-comment-spec =
     tie.close
     (tie.spec
-    refuse-requires
-    returns
-    refuse-requires-2
-    returns-2
-    first-doc-requires
-    enum-known-d
-    enum-told
-    enum-known-d-2
-    refuse-requires-3
-    returns-3
-    returns-4
-    returns-5)
+    (λ c κs. search needs) returns (λ c κs. search needs) returns-2 (λ c κs. search needs) (λ c. search needs)
+    (λ c. search needs) (λ c. search needs) (λ c κs. search needs) returns-3 returns-4 returns-5)

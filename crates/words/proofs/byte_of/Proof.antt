@@ -4,12 +4,6 @@ use borrow.Author.Needs.{needs}
 use Rattle.words.proofs.byte_of.Statement.{statement}
 use Rattle.words.proofs.byte_of.Tie as tie
 
-add-result : tie.Need-add-result
-add-result c = search needs
-
-shared-slice-read-result : tie.Need-shared-slice-read-result
-shared-slice-read-result c = search needs
-
 returns : tie.Need-returns
 returns c = byte-in (c .before .before .args .text .now) (c .before .before .args .at) _ _ (c .before .if1 .taken)
 
@@ -17,4 +11,4 @@ returns-2 : tie.Need-returns-2
 returns-2 c = byte-past (c .before .args .text .now) (c .before .args .at) _ _ (c .if1 .left)
 
 pub byte-of-spec : {M : Type 1} → statement M
-byte-of-spec = tie.close (tie.spec add-result shared-slice-read-result returns returns-2)
+byte-of-spec = tie.close (tie.spec (λ c. search needs) (λ c. search needs) returns returns-2)

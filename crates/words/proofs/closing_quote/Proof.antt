@@ -18,41 +18,17 @@ abbrev μ-loop : tie.MeasureT-loop
 loop-holds : tie.Need-loop-holds Inv-loop μ-loop
 loop-holds c = refl
 
-ends-line-requires : tie.Need-ends-line-requires Inv-loop μ-loop
-ends-line-requires c κs = search needs
-
 returns : tie.Need-returns Inv-loop μ-loop
 returns c = sym (c .before .before .before .loop .inv ∙ line-over _ _ (search needs) _ (c .before .ends-line .ensures) _ (c .if1 .taken))
 
-shared-slice-read-a : tie.Need-shared-slice-read-a Inv-loop μ-loop
-shared-slice-read-a c = search needs
-
-add-i : tie.Need-add-i Inv-loop μ-loop
-add-i c = search needs
-
-loop-less : tie.Need-loop-less Inv-loop μ-loop
-loop-less c = search needs
-
 loop-again : tie.Need-loop-again Inv-loop μ-loop
 loop-again c = c .before .before .before .before .before .loop .inv ∙ behind-backslash _ _ (search needs) _ (c .before .before .before .ends-line .ensures) _ (c .before .before .if1 .left) (c .if2 .taken)
-
-add-i-2 : tie.Need-add-i-2 Inv-loop μ-loop
-add-i-2 c = search needs
-
-loop-less-2 : tie.Need-loop-less-2 Inv-loop μ-loop
-loop-less-2 c = search needs
 
 loop-again-2 : tie.Need-loop-again-2 Inv-loop μ-loop
 loop-again-2 c = c .before .before .before .before .before .before .loop .inv ∙ backslash _ _ (search needs) _ (c .before .before .before .before .ends-line .ensures) _ (c .before .before .before .if1 .left) (c .before .if2 .left) (c .if3 .taken)
 
 returns-2 : tie.Need-returns-2 Inv-loop μ-loop
 returns-2 c = sym (c .before .before .before .before .before .before .before .loop .inv ∙ quote _ _ (search needs) _ (c .before .before .before .before .before .ends-line .ensures) _ (c .before .before .before .before .if1 .left) (c .before .before .if2 .left) (c .before .if3 .left) (c .if4 .taken))
-
-add-i-3 : tie.Need-add-i-3 Inv-loop μ-loop
-add-i-3 c = search needs
-
-loop-less-3 : tie.Need-loop-less-3 Inv-loop μ-loop
-loop-less-3 c = search needs
 
 loop-again-3 : tie.Need-loop-again-3 Inv-loop μ-loop
 loop-again-3 c = c .before .before .before .before .before .before .before .loop .inv ∙ other _ _ (search needs) _ (c .before .before .before .before .before .ends-line .ensures) _ (c .before .before .before .before .if1 .left) (c .before .before .if2 .left) (c .before .if3 .left) (c .if4 .left)
@@ -64,20 +40,6 @@ pub closing-quote-spec : {M : Type 1} → statement M
 closing-quote-spec =
     tie.close
     (tie.spec
-    Inv-loop
-    μ-loop
-    loop-holds
-    ends-line-requires
-    returns
-    shared-slice-read-a
-    add-i
-    loop-less
-    loop-again
-    add-i-2
-    loop-less-2
-    loop-again-2
-    returns-2
-    add-i-3
-    loop-less-3
-    loop-again-3
-    returns-3)
+    Inv-loop μ-loop loop-holds (λ c κs. search needs) returns (λ c. search needs) (λ c. search needs)
+    (λ c. search needs) loop-again (λ c. search needs) (λ c. search needs) loop-again-2 returns-2 (λ c. search needs)
+    (λ c. search needs) loop-again-3 returns-3)

@@ -20,36 +20,6 @@ abbrev μ-loop : tie.MeasureT-loop
 loop-holds : tie.Need-loop-holds Inv-loop μ-loop
 loop-holds c = refl
 
-mul-if1 : tie.Need-mul-if1 Inv-loop μ-loop
-mul-if1 c = search needs
-
-index-1-if1 : tie.Need-index-1-if1 Inv-loop μ-loop
-index-1-if1 c = search needs
-
-index-2-if1 : tie.Need-index-2-if1 Inv-loop μ-loop
-index-2-if1 c = search needs
-
-mul-packed-row : tie.Need-mul-packed-row Inv-loop μ-loop
-mul-packed-row c = search needs
-
-array-copy-out-packed-row : tie.Need-array-copy-out-packed-row Inv-loop μ-loop
-array-copy-out-packed-row c = search needs
-
-packed-row-requires : tie.Need-packed-row-requires Inv-loop μ-loop
-packed-row-requires c κs = search needs
-
-mul-row-len : tie.Need-mul-row-len Inv-loop μ-loop
-mul-row-len c = search needs
-
-array-copy-out-row-len : tie.Need-array-copy-out-row-len Inv-loop μ-loop
-array-copy-out-row-len c = search needs
-
-row-len-requires : tie.Need-row-len-requires Inv-loop μ-loop
-row-len-requires c κs = search needs
-
-array-read-result : tie.Need-array-read-result Inv-loop μ-loop
-array-read-result c = search needs
-
 returns : tie.Need-returns Inv-loop μ-loop
 unfolding tables
 returns c =
@@ -57,12 +27,6 @@ returns c =
     let at-row = first .before .before .before in
     sym (at-row .loop .inv ∙ packed-hit 26 (at-row .loop .j) _ _ _ (omega arith) (first .before .before .loop-test .taken) (first .if1 .taken)
     (sym (c .before .before .before .before .packed-row .ensures) ∙ c .before .before .before .if2 .taken) (sym (c .before .row-len .ensures) ∙ c .if3 .taken))
-
-add-j : tie.Need-add-j Inv-loop μ-loop
-add-j c = search needs
-
-loop-less : tie.Need-loop-less Inv-loop μ-loop
-loop-less c = search needs
 
 loop-again : tie.Need-loop-again Inv-loop μ-loop
 unfolding tables
@@ -79,21 +43,6 @@ pub keyword-of-last-rows-spec : {M : Type 1} → statement M
 keyword-of-last-rows-spec =
     tie.close
     (tie.spec
-    Inv-loop
-    μ-loop
-    loop-holds
-    mul-if1
-    index-1-if1
-    index-2-if1
-    mul-packed-row
-    array-copy-out-packed-row
-    packed-row-requires
-    mul-row-len
-    array-copy-out-row-len
-    row-len-requires
-    array-read-result
-    returns
-    add-j
-    loop-less
-    loop-again
-    returns-2)
+    Inv-loop μ-loop loop-holds (λ c. search needs) (λ c. search needs) (λ c. search needs) (λ c. search needs)
+    (λ c. search needs) (λ c κs. search needs) (λ c. search needs) (λ c. search needs) (λ c κs. search needs)
+    (λ c. search needs) returns (λ c. search needs) (λ c. search needs) loop-again returns-2)

@@ -21,21 +21,6 @@ loop-holds : tie.Need-loop-holds Inv-loop μ-loop
 unfolding tables
 loop-holds c = refl
 
-mul-if1 : tie.Need-mul-if1 Inv-loop μ-loop
-mul-if1 c = search needs
-
-index-1-if1 : tie.Need-index-1-if1 Inv-loop μ-loop
-index-1-if1 c = search needs
-
-index-2-if1 : tie.Need-index-2-if1 Inv-loop μ-loop
-index-2-if1 c = search needs
-
-mul-row-fit : tie.Need-mul-row-fit Inv-loop μ-loop
-mul-row-fit c = search needs
-
-array-copy-out-row-fit : tie.Need-array-copy-out-row-fit Inv-loop μ-loop
-array-copy-out-row-fit c = search needs
-
 row-fit-requires : tie.Need-row-fit-requires Inv-loop μ-loop
 unfolding tables
 row-fit-requires c κs = long-room _ (c .before .before .before .loop-test .taken)
@@ -43,12 +28,6 @@ row-fit-requires c κs = long-room _ (c .before .before .before .loop-test .take
 returns : tie.Need-returns Inv-loop μ-loop
 unfolding tables
 returns c = sym (c .before .before .before .before .before .before .before .loop .inv ∙ long-hit (c .before .before .before .before .before .before .before .loop .k) (c .before .before .before .before .before .before .loop-test .taken) _ _ (c .before .before .row-fit .ensures) (c .if2 .taken))
-
-add-k : tie.Need-add-k Inv-loop μ-loop
-add-k c = search needs
-
-loop-less : tie.Need-loop-less Inv-loop μ-loop
-loop-less c = search needs
 
 loop-again : tie.Need-loop-again Inv-loop μ-loop
 unfolding tables
@@ -59,9 +38,6 @@ loop-again c =
     (λ w. long-other (c .before .before .before .loop .k) (c .before .before .loop-test .taken) _ (λ p. w .left (p ∙ sym (place (c .before .before .before .before .before .args .text .now) (c .before .before .before .before .before .args .at)) ∙ sym (c .before .before .before .before .before .pre))))
     (c .if1 .came)
 
-no-mark-requires : tie.Need-no-mark-requires Inv-loop μ-loop
-no-mark-requires c κs = search needs
-
 returns-2 : tie.Need-returns-2 Inv-loop μ-loop
 unfolding tables
 returns-2 c = c .no-mark .ensures ∙ sym (c .before .before .loop .inv ∙ fit-end 3 (c .before .before .loop .k) _ (c .before .loop-test .left))
@@ -70,18 +46,6 @@ pub long-mark-spec : {M : Type 1} → statement M
 long-mark-spec =
     tie.close
     (tie.spec
-    Inv-loop
-    μ-loop
-    loop-holds
-    mul-if1
-    index-1-if1
-    index-2-if1
-    mul-row-fit
-    array-copy-out-row-fit
-    row-fit-requires
-    returns
-    add-k
-    loop-less
-    loop-again
-    no-mark-requires
-    returns-2)
+    Inv-loop μ-loop loop-holds (λ c. search needs) (λ c. search needs) (λ c. search needs) (λ c. search needs)
+    (λ c. search needs) row-fit-requires returns (λ c. search needs) (λ c. search needs) loop-again
+    (λ c κs. search needs) returns-2)

@@ -5,29 +5,11 @@ use borrow.Author.Needs.{needs}
 use Rattle.words.proofs.mark_at.Statement.{statement}
 use Rattle.words.proofs.mark_at.Tie as tie
 
-no-mark-requires : tie.Need-no-mark-requires
-no-mark-requires c κs = search needs
-
 returns : tie.Need-returns
 returns c = c .no-mark .ensures ∙ past-end _ _ (c .before .if1 .taken)
 
-shared-slice-read-a : tie.Need-shared-slice-read-a
-shared-slice-read-a c = search needs
-
-long-mark-requires : tie.Need-long-mark-requires
-long-mark-requires c κs = search needs
-
 returns-2 : tie.Need-returns-2
 returns-2 c = is-long (c .before .before .before .before .before .before .args .text .now) (c .before .before .before .before .before .before .args .at) _ (c .before .before .long-mark .ensures) (c .if2 .taken)
-
-add-byte-at : tie.Need-add-byte-at
-add-byte-at c = search needs
-
-byte-at-requires : tie.Need-byte-at-requires
-byte-at-requires c κs = search needs
-
-double-mark-requires : tie.Need-double-mark-requires
-double-mark-requires c κs = search needs
 
 returns-3 : tie.Need-returns-3
 returns-3 c =
@@ -35,9 +17,6 @@ returns-3 c =
     let start = searched .before .before .before .before in
     is-double (start .args .text .now) (start .args .at) _ (searched .long-mark .ensures) (c .before .before .before .before .if2 .left) _
     (c .before .before .before .byte-at .ensures) _ (c .before .before .double-mark .ensures) (c .if3 .taken)
-
-single-mark-requires : tie.Need-single-mark-requires
-single-mark-requires c κs = search needs
 
 returns-4 : tie.Need-returns-4
 returns-4 c =
@@ -51,14 +30,5 @@ pub mark-at-spec : {M : Type 1} → statement M
 mark-at-spec =
     tie.close
     (tie.spec
-    no-mark-requires
-    returns
-    shared-slice-read-a
-    long-mark-requires
-    returns-2
-    add-byte-at
-    byte-at-requires
-    double-mark-requires
-    returns-3
-    single-mark-requires
-    returns-4)
+    (λ c κs. search needs) returns (λ c. search needs) (λ c κs. search needs) returns-2 (λ c. search needs)
+    (λ c κs. search needs) (λ c κs. search needs) returns-3 (λ c κs. search needs) returns-4)

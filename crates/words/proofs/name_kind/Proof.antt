@@ -6,23 +6,11 @@ use borrow.Author.Needs.{needs}
 use Rattle.words.proofs.name_kind.Statement.{statement}
 use Rattle.words.proofs.name_kind.Tie as tie
 
-clip-requires : tie.Need-clip-requires
-clip-requires c κs = search needs
-
 returns : tie.Need-returns
 returns c = other-length (c .before .before .before .args .text .now) (c .before .before .before .args .at) (c .before .before .before .args .n) _ (c .before .clip .ensures) (λ l u. absurd (omega arith))
 
 returns-2 : tie.Need-returns-2
 returns-2 c = other-length (c .before .before .before .before .args .text .now) (c .before .before .before .before .args .at) (c .before .before .before .before .args .n) _ (c .before .before .clip .ensures) (λ l u. absurd (omega arith))
-
-shared-slice-read-keyword-kind : tie.Need-shared-slice-read-keyword-kind
-shared-slice-read-keyword-kind c = search needs
-
-packed-requires : tie.Need-packed-requires
-packed-requires c κs = search needs
-
-keyword-kind-requires : tie.Need-keyword-kind-requires
-keyword-kind-requires c κs = search needs
 
 returns-3 : tie.Need-returns-3
 returns-3 c =
@@ -36,10 +24,5 @@ pub name-kind-spec : {M : Type 1} → statement M
 name-kind-spec =
     tie.close
     (tie.spec
-    clip-requires
-    returns
-    returns-2
-    shared-slice-read-keyword-kind
-    packed-requires
-    keyword-kind-requires
+    (λ c κs. search needs) returns returns-2 (λ c. search needs) (λ c κs. search needs) (λ c κs. search needs)
     returns-3)

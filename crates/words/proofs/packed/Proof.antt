@@ -18,23 +18,11 @@ abbrev μ-loop : tie.MeasureT-loop
 loop-holds : tie.Need-loop-holds Inv-loop μ-loop
 loop-holds c = (pack-start (c .before .args .text .now) (c .before .args .at) _ (c .before .pre .1), search needs)
 
-sub-j : tie.Need-sub-j Inv-loop μ-loop
-sub-j c = search needs
-
 mul-v : tie.Need-mul-v Inv-loop μ-loop
 mul-v c = omega (arith, pack-small (c .before .before .before .args .text .now) (c .before .before .before .args .at) _ (c .before .before .before .pre .1) _ _ (c .loop-test .taken) (c .before .loop .inv .0) (λ i. c .before .before .shared-slice-known .given i .fits))
 
-byte-of-requires : tie.Need-byte-of-requires Inv-loop μ-loop
-byte-of-requires c κs = search needs
-
-cast-v : tie.Need-cast-v Inv-loop μ-loop
-cast-v c = search needs
-
 add-v : tie.Need-add-v Inv-loop μ-loop
 add-v c = omega (arith, pack-small (c .before .before .before .before .args .text .now) (c .before .before .before .before .args .at) _ (c .before .before .before .before .pre .1) _ _ (c .before .loop-test .taken) (c .before .before .loop .inv .0) (λ i. c .before .before .before .shared-slice-known .given i .fits))
-
-loop-less : tie.Need-loop-less Inv-loop μ-loop
-loop-less c = search needs
 
 loop-again : tie.Need-loop-again Inv-loop μ-loop
 loop-again c = (pack-step (c .before .before .before .before .args .text .now) (c .before .before .before .before .args .at) _ (c .before .before .before .before .pre .1) _ _ (c .before .loop-test .taken) (c .before .before .loop .inv .0) _ (c .byte-of .ensures), search needs)
@@ -46,14 +34,5 @@ pub packed-spec : {M : Type 1} → statement M
 packed-spec =
     tie.close
     (tie.spec
-    Inv-loop
-    μ-loop
-    loop-holds
-    sub-j
-    mul-v
-    byte-of-requires
-    cast-v
-    add-v
-    loop-less
-    loop-again
-    returns)
+    Inv-loop μ-loop loop-holds (λ c. search needs) mul-v (λ c κs. search needs) (λ c. search needs) add-v
+    (λ c. search needs) loop-again returns)

@@ -39,44 +39,23 @@ module _ (row : List ℕ) where
   unfolding rowLen
   len-two e = let z : lenUpTo 2 row ≤ 2 = at-most 2 in omega arith
 
-array-read-if1 : tie.Need-array-read-if1
-array-read-if1 c = search needs
-
 returns : tie.Need-returns
 returns c = len-is _ 8 (omega arith) refl (c .if1 .taken)
-
-array-read-if2 : tie.Need-array-read-if2
-array-read-if2 c = search needs
 
 returns-2 : tie.Need-returns-2
 returns-2 c = len-is _ 7 (omega arith) (less _ 8 (c .before .if1 .left)) (c .if2 .taken)
 
-array-read-if3 : tie.Need-array-read-if3
-array-read-if3 c = search needs
-
 returns-3 : tie.Need-returns-3
 returns-3 c = len-is _ 6 (omega arith) (less _ 8 (c .before .before .if1 .left) ∙ less _ 7 (c .before .if2 .left)) (c .if3 .taken)
-
-array-read-if4 : tie.Need-array-read-if4
-array-read-if4 c = search needs
 
 returns-4 : tie.Need-returns-4
 returns-4 c = len-is _ 5 (omega arith) (less _ 8 (c .before .before .before .if1 .left) ∙ less _ 7 (c .before .before .if2 .left) ∙ less _ 6 (c .before .if3 .left)) (c .if4 .taken)
 
-array-read-if5 : tie.Need-array-read-if5
-array-read-if5 c = search needs
-
 returns-5 : tie.Need-returns-5
 returns-5 c = len-is _ 4 (omega arith) (less _ 8 (c .before .before .before .before .if1 .left) ∙ less _ 7 (c .before .before .before .if2 .left) ∙ less _ 6 (c .before .before .if3 .left) ∙ less _ 5 (c .before .if4 .left)) (c .if5 .taken)
 
-array-read-if6 : tie.Need-array-read-if6
-array-read-if6 c = search needs
-
 returns-6 : tie.Need-returns-6
 returns-6 c = len-is _ 3 (omega arith) (less _ 8 (c .before .before .before .before .before .if1 .left) ∙ less _ 7 (c .before .before .before .before .if2 .left) ∙ less _ 6 (c .before .before .before .if3 .left) ∙ less _ 5 (c .before .before .if4 .left) ∙ less _ 4 (c .before .if5 .left)) (c .if6 .taken)
-
-array-read-if7 : tie.Need-array-read-if7
-array-read-if7 c = search needs
 
 returns-7 : tie.Need-returns-7
 returns-7 c = len-is _ 2 (omega arith) (less _ 8 (c .before .before .before .before .before .before .if1 .left) ∙ less _ 7 (c .before .before .before .before .before .if2 .left) ∙ less _ 6 (c .before .before .before .before .if3 .left) ∙ less _ 5 (c .before .before .before .if4 .left) ∙ less _ 4 (c .before .before .if5 .left) ∙ less _ 3 (c .before .if6 .left)) (c .if7 .taken)
@@ -88,18 +67,5 @@ pub row-len-spec : {M : Type 1} → statement M
 row-len-spec =
     tie.close
     (tie.spec
-    array-read-if1
-    returns
-    array-read-if2
-    returns-2
-    array-read-if3
-    returns-3
-    array-read-if4
-    returns-4
-    array-read-if5
-    returns-5
-    array-read-if6
-    returns-6
-    array-read-if7
-    returns-7
-    returns-8)
+    (λ c. search needs) returns (λ c. search needs) returns-2 (λ c. search needs) returns-3 (λ c. search needs)
+    returns-4 (λ c. search needs) returns-5 (λ c. search needs) returns-6 (λ c. search needs) returns-7 returns-8)

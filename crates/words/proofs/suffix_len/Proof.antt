@@ -4,29 +4,11 @@ use borrow.Author.Needs.{needs}
 use Rattle.words.proofs.suffix_len.Statement.{statement}
 use Rattle.words.proofs.suffix_len.Tie as tie
 
-slice-aggregate-starts : tie.Need-slice-aggregate-starts
-slice-aggregate-starts c = search needs
-
-starts-requires : tie.Need-starts-requires
-starts-requires c κs = search needs
-
 returns : tie.Need-returns
 returns c = is-u8 _ _ (c .before .starts .ensures) (c .if1 .taken)
 
-slice-aggregate-starts-2 : tie.Need-slice-aggregate-starts-2
-slice-aggregate-starts-2 c = search needs
-
-starts-requires-2 : tie.Need-starts-requires-2
-starts-requires-2 c κs = search needs
-
 returns-2 : tie.Need-returns-2
 returns-2 c = is-u64 _ _ (c .before .before .before .before .starts .ensures) (c .before .before .before .if1 .left) _ (c .before .starts2 .ensures) (c .if2 .taken)
-
-slice-aggregate-starts-3 : tie.Need-slice-aggregate-starts-3
-slice-aggregate-starts-3 c = search needs
-
-starts-requires-3 : tie.Need-starts-requires-3
-starts-requires-3 c κs = search needs
 
 returns-3 : tie.Need-returns-3
 returns-3 c = is-u128 _ _ (c .before .before .before .before .before .before .before .starts .ensures) (c .before .before .before .before .before .before .if1 .left) _ (c .before .before .before .before .starts2 .ensures) (c .before .before .before .if2 .left) _ (c .before .starts3 .ensures) (c .if3 .taken)
@@ -38,13 +20,5 @@ pub suffix-len-spec : {M : Type 1} → statement M
 suffix-len-spec =
     tie.close
     (tie.spec
-    slice-aggregate-starts
-    starts-requires
-    returns
-    slice-aggregate-starts-2
-    starts-requires-2
-    returns-2
-    slice-aggregate-starts-3
-    starts-requires-3
-    returns-3
-    returns-4)
+    (λ c. search needs) (λ c κs. search needs) returns (λ c. search needs) (λ c κs. search needs) returns-2
+    (λ c. search needs) (λ c κs. search needs) returns-3 returns-4)

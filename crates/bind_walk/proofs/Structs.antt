@@ -1,0 +1,188 @@
+-- Structs and their fields: one law for each way through the code.
+use mathlib.Core.Path.{_≡_, ap, sym, _∙_, subst}
+use mathlib.Core.List.{List, _++_, append-assoc}
+use Prim.Native.Nat.{ℕ, _≤_}
+use native.Mathlib.Omega.{arith}
+use borrow.Author.Tests.{eq-eqb, ne-eqb}
+use lib.Dec.{eqb}
+use lib.ListN.{length}
+use Rattle.classes.specs.Bytes.{bytes}
+use Rattle.words.specs.Kinds.{Less, Greater, LBrace, RBrace}
+use Rattle.tokens.specs.Refusals.{UnexpectedToken}
+use Rattle.tokens.specs.Answers.{refusal}
+use Rattle.tokens.specs.Calls.{nextToken}
+use Rattle.tokens.specs.declared.Refusal.{Refusal}
+use Rattle.tokens.specs.declared.Token.{Token as Answer}
+use Rattle.tokens.specs.declared.Lexed.the-variants.{Found}
+use Rattle.records.specs.Kinds.{RecStruct, RecStructTyped}
+use Rattle.records.specs.Tree.{Tree, node, Trees, more, joined}
+use Rattle.sources.specs.Source.{Source, opened, Token, lex}
+use Rattle.answers.specs.Reading.{Ans, ok, no, then, look, when, listBehind}
+use Rattle.grammar.specs.Names.{chain}
+use Rattle.grammar.specs.Types.{readType}
+use Rattle.grammar.specs.Binds.{fields, structOver, unpacked}
+use Rattle.forms.specs.Forms.{mark, laid, headed, listed}
+use Rattle.forms.specs.code.Spots.{last, inside, Placed}
+use Rattle.forms.specs.declared.Spot.{Spot}
+use Rattle.forms.proofs.Placing.{placed-both}
+use Rattle.forms.proofs.Constructs.{laid-struct, laid-struct-typed}
+use Rattle.frames.proofs.Told.{types-behind, fields-every}
+use Rattle.parts.specs.declared.Part.{Part}
+use Rattle.parts.specs.declared.Parsed.{Parsed}
+use Rattle.parts.specs.declared.Parsed.the-variants.{Read, Refused}
+use Rattle.parts.specs.code.Meets.{Fits, held, refusedToken, Had, Reads}
+use Rattle.parts.proofs.Held.{Next, next-found}
+use Rattle.parts.proofs.Contracts.{reads-no, reads-had, reads-goes, reads-not, refuses-look}
+use Rattle.lists.specs.declared.Listed.{Listed}
+use Rattle.lists.specs.code.Lists.{ReadsAll}
+use Rattle.chains.proofs.Names.{when-true, when-false, token-refused}
+use Rattle.bind_walk.specs.code.Pieces.{fieldAt, angled, braced, partOf, endedBy, markedBy, headedBy, HadBy, ReadsBy}
+use Rattle.bind_walk.proofs.Parted.{then-ok, had-by, had-not, goes-by, goes-from, list-part, front, marked, closed-by, by-as, by-refused}
+
+-- looking at the token that stands at a place
+look-at : {B : Type 0} (text : List ℕ) (q : ℕ) (b : Answer) (g : Token → Ans B) → nextToken text q ≡ Found b → look (lex (opened text q)) g ≡ g (held text b)
+unfolding look
+look-at text q b g h = rw (next-found text q b h .is)
+
+-- five pieces, bracketed otherwise
+joins : (a b c d e : List ℕ) → a ++ (b ++ (c ++ (d ++ e))) ≡ (a ++ (b ++ (c ++ d))) ++ e
+joins a b c d e = simp append-assoc
+
+-- the types behind the `<` o
+pub types-enclosed : (f : ℕ) (text : List ℕ) (n : ℕ) (o : Answer) (s q : Spot) (l l₂ m₂ m : List ℕ) (t : Listed) (p r : Parsed) → length l ≤ last → Placed l s (mark f (bytes "<")) q l₂
+    → ReadsAll f text (Fits text o) (listBehind (readType n) Greater (held text o)) (o .end) q l₂ t m₂ → p ≡ partOf t → (r ≡ endedBy f 62 p) × (m ≡ markedBy f 62 p m₂)
+    → ReadsBy (angled f) text (Fits text o) (listBehind (readType n) Greater (held text o)) (o .end) s l r m
+types-enclosed f text n o s q l l₂ m₂ m t p r h g d e w =
+    let x = listBehind (readType n) Greater (held text o) in
+    marked (listed f) text x f 62 (bytes "<") (Fits text o) (o .end) s q l l₂ m₂ m p r h g (list-part f text (Fits text o) x (o .end) q l₂ m₂ t d p e) (w .0) (w .1)
+
+module _ (f : ℕ) (text : List ℕ) (n : ℕ) where
+  -- fields
+  module _ (b : Answer) (s : Spot) (l m : List ℕ) where
+    abbrev braces : Ans Trees
+    braces = fields (readType n) (fieldAt n) (held text b)
+
+    abbrev Fields : Parsed → Type 0
+    Fields r = ReadsBy (braced f) text (Fits text b) braces (b .end) s l r m
+
+    pub fields-other : (r : Parsed) → (b .kind ≡ LBrace → ⊥) → r ≡ refusedToken UnexpectedToken b → Fields r
+    unfolding fields
+    fields-other r k e =
+        subst (λ (y : Parsed). Fields y) (sym e)
+        (by-refused (braced f) text (Fits text b) braces (b .end) s l m (refusal UnexpectedToken (b .start) (b .end))
+        (λ z. when-false (eqb (b .kind) LBrace) _ _ (ne-eqb (b .kind) LBrace k) ∙ ap no (token-refused text UnexpectedToken b z)))
+
+    pub fields-enclosed : (q : Spot) (l₂ m₂ : List ℕ) (t : Listed) (p r : Parsed) → length l ≤ last → b .kind ≡ LBrace → Placed l s (mark f (bytes " {")) q l₂
+        → ReadsAll f text (Fits text b) (listBehind (fieldAt n) RBrace (held text b)) (b .end) q l₂ t m₂ → p ≡ partOf t → (r ≡ endedBy f 125 p) × (m ≡ markedBy f 125 p m₂) → Fields r
+    unfolding fields
+    fields-enclosed q l₂ m₂ t p r h k g d e w =
+        let x = listBehind (fieldAt n) RBrace (held text b) in
+        by-as (braced f) text (Fits text b) braces x (b .end) s l m r (λ _. when-true (eqb (b .kind) LBrace) _ _ (eq-eqb (b .kind) LBrace k))
+        (marked (listed f) text x f 125 (bytes " {") (Fits text b) (b .end) s q l l₂ m₂ m p r h g (list-part f text (Fits text b) x (b .end) q l₂ m₂ t d p e) (w .0) (w .1))
+
+  -- structs
+  module _ (a : Answer) (s i : Spot) (l l₁ : List ℕ) (c : Parsed) (d : Reads f text (Fits text a) (chain (held text a)) (a .end) i l c l₁) where
+    abbrev struct : Ans Tree
+    struct = unpacked (readType n) (fieldAt n) (held text a)
+
+    abbrev Unpack : Parsed → List ℕ → Type 0
+    Unpack r m = Reads f text (Fits text a) struct (a .end) s l r m
+
+    -- the name is refused, or the token behind it
+    pub unpack-unnamed : (r : Refusal) → c ≡ Refused r → Unpack (Refused r) l₁
+    unfolding unpacked structOver
+    unpack-unnamed r e = reads-no f text (Fits text a) struct (a .end) s l l₁ r (λ z. refuses-look (chain (held text a)) r _ (reads-not f text (Fits text a) (chain (held text a)) (a .end) i l l₁ c d r e z))
+
+    module _ (p : Part) (e : c ≡ Read p) where
+      name-had : Fits text a → Had f text (chain (held text a)) i l p l₁
+      name-had = reads-had f text (Fits text a) (chain (held text a)) (a .end) i l l₁ c d p e
+
+      name-goes : (a .end ≤ p .end) × (nextToken text (p .end) ≡ Found (p .next))
+      name-goes = reads-goes f text (Fits text a) (chain (held text a)) (a .end) i l l₁ c d p e
+
+      abbrev here : Next text (p .end) (p .next)
+      here = next-found text (p .end) (p .next) (name-goes .1)
+
+      -- behind the name x
+      abbrev plain : Tree → Ans Tree
+      plain x = then (fields (readType n) (fieldAt n) (held text (p .next))) (λ fs v. ok (node RecStruct (a .start) (v .at) (more x fs)) v)
+
+      abbrev typed : Tree → Ans Tree
+      typed x = then (listBehind (readType n) Greater (held text (p .next))) (λ xs v. look (lex v) (λ t. then (fields (readType n) (fieldAt n) t) (λ fs w. ok (node RecStructTyped (a .start) (w .at) (more x (joined xs fs))) w)))
+
+      is-named : (z : Fits text a) → struct ≡ when (eqb (p .next .kind) Less) (λ _. typed (name-had z .what)) (λ _. plain (name-had z .what))
+      unfolding unpacked structOver
+      is-named z =
+          let w = name-had z in
+          then-ok (chain (held text a)) (λ x u. structOver (readType n) (fieldAt n) (held text a) x u) (w .what) (opened text (p .end)) (w .is) ∙ look-at text (p .end) (p .next) _ (name-goes .1)
+
+      -- no types
+      pub unpack-plain : length l ≤ last → i ≡ inside f s → (p .next .kind ≡ Less → ⊥) → (q r : Parsed) (m₂ m : List ℕ)
+          → ReadsBy (braced f) text (Fits text (p .next)) (fields (readType n) (fieldAt n) (held text (p .next))) (p .next .end) (p .to) l₁ q m₂ → (r ≡ q) × (m ≡ headedBy f RecStruct (a .start) s q m₂) → Unpack r m
+      unpack-plain h j k q r m₂ m g w =
+          let y = fields (readType n) (fieldAt n) (held text (p .next)) in
+          subst (λ (x : Parsed). Unpack x m) (sym (w .0))
+          (record {
+            meets = λ z.
+                (let v = name-had z in
+                closed-by (λ fs. laid f (v .what) ++ braced f fs) f text struct y (λ fs x. node RecStruct (a .start) x (more (v .what) fs)) RecStruct (a .start) s l m₂ m q h
+                (is-named z ∙ when-false (eqb (p .next .kind) Less) _ _ (ne-eqb (p .next .kind) Less k))
+                (λ fs u x _. laid-struct f (a .start) x (v .what) fs)
+                (front (braced f) text y (laid f (v .what)) (inside f s) (p .to) l l₁ m₂ q h (subst (λ (x : Spot). Placed l x (laid f (v .what)) (p .to) l₁) j (v .bytes)) (g .meets (here .fits))) (w .1));
+            goes = goes-from text (p .next .end) q (g .goes) (a .end) (omega (arith, name-goes .0, here .from, here .fits .1));
+          })
+
+      -- types in `<` and `>`
+      module _ (k : p .next .kind ≡ Less) (t : Parsed) (l₂ : List ℕ)
+          (g : ReadsBy (angled f) text (Fits text (p .next)) (listBehind (readType n) Greater (held text (p .next))) (p .next .end) (p .to) l₁ t l₂) where
+        abbrev types : Ans Trees
+        types = listBehind (readType n) Greater (held text (p .next))
+
+        is-typed : (z : Fits text a) → struct ≡ typed (name-had z .what)
+        is-typed z = is-named z ∙ when-true (eqb (p .next .kind) Less) _ _ (eq-eqb (p .next .kind) Less k)
+
+        pub unpack-untyped : (r : Refusal) → t ≡ Refused r → Unpack (Refused r) l₂
+        unpack-untyped r x =
+            reads-no f text (Fits text a) struct (a .end) s l l₂ r (λ z. is-typed z ∙ refuses-look types r _ (had-not (angled f) text types (p .to) l₁ t l₂ (g .meets (here .fits)) r x))
+
+        module _ (q : Part) (x : t ≡ Read q) where
+          types-had : HadBy (angled f) text types (p .to) l₁ q l₂
+          types-had = had-by (angled f) text types (p .to) l₁ t l₂ (g .meets (here .fits)) q x
+
+          types-goes : (p .next .end ≤ q .end) × (nextToken text (q .end) ≡ Found (q .next))
+          types-goes = goes-by text (p .next .end) t (g .goes) q x
+
+          abbrev there : Next text (q .end) (q .next)
+          there = next-found text (q .end) (q .next) (types-goes .1)
+
+          abbrev rest : Ans Trees
+          rest = fields (readType n) (fieldAt n) (held text (q .next))
+
+          is-both : (z : Fits text a) → struct ≡ then rest (λ fs w. ok (node RecStructTyped (a .start) (w .at) (more (name-had z .what) (joined (types-had .what) fs))) w)
+          is-both z = is-typed z ∙ then-ok types _ (types-had .what) (opened text (q .end)) (types-had .is) ∙ look-at text (q .end) (q .next) _ (types-goes .1)
+
+          -- the name and the types, laid down
+          both-laid : length l ≤ last → i ≡ inside f s → (z : Fits text a) → Placed l (inside f s) (laid f (name-had z .what) ++ angled f (types-had .what)) (q .to) l₂
+          both-laid h j z =
+              let v = name-had z in
+              placed-both l l₁ l₂ (laid f (v .what)) (angled f (types-had .what)) (inside f s) (p .to) (q .to) h (subst (λ (x : Spot). Placed l x (laid f (v .what)) (p .to) l₁) j (v .bytes)) (types-had .bytes)
+
+          struct-laid : (y : Tree) (fs : Trees) (u : Source) (e : ℕ) → rest ≡ ok fs u
+              → laid f (node RecStructTyped (a .start) e (more y (joined (types-had .what) fs))) ≡ headed f RecStructTyped (a .start) e ((laid f y ++ angled f (types-had .what)) ++ braced f fs)
+          struct-laid y fs u e o =
+              laid-struct-typed f (a .start) e y (types-had .what) fs (types-behind n Greater (held text (p .next)) (types-had .what) (opened text (q .end)) (types-had .is)) (fields-every (readType n) n _ (held text (q .next)) fs u o)
+              ∙ ap (headed f RecStructTyped (a .start) e) (joins (laid f y) (mark f (bytes "<")) (listed f (types-had .what)) (mark f (bytes ">")) (braced f fs))
+
+          pub unpack-typed : length l ≤ last → i ≡ inside f s → (v r : Parsed) (m₂ m : List ℕ) → ReadsBy (braced f) text (Fits text (q .next)) rest (q .next .end) (q .to) l₂ v m₂
+              → (r ≡ v) × (m ≡ headedBy f RecStructTyped (a .start) s v m₂) → Unpack r m
+          unpack-typed h j v r m₂ m o w =
+              subst (λ (x : Parsed). Unpack x m) (sym (w .0))
+              (record {
+                meets = λ z.
+                    (let y = name-had z .what in
+                    let before = laid f y ++ angled f (types-had .what) in
+                    closed-by (λ fs. before ++ braced f fs) f text struct rest (λ fs e. node RecStructTyped (a .start) e (more y (joined (types-had .what) fs))) RecStructTyped (a .start) s l m₂ m v h (is-both z)
+                    (λ fs u e x. struct-laid y fs u e x)
+                    (front (braced f) text rest before (inside f s) (q .to) l l₂ m₂ v h (both-laid h j z) (o .meets (there .fits))) (w .1));
+                goes = goes-from text (q .next .end) v (o .goes) (a .end) (omega (arith, name-goes .0, here .from, here .fits .1, types-goes .0, there .from, there .fits .1));
+              })

@@ -1,0 +1,85 @@
+-- Pieces of bindings as they are laid down, and what a function answers that reads a part of a binding.
+use Prim.Native.Nat.{ℕ}
+use mathlib.Core.Path.{_≡_}
+use mathlib.Core.Bool.{Bool, _||_}
+use mathlib.Core.List.{List, [], _∷_, _++_}
+use lib.Dec.{eqb}
+use lib.ListN.{length}
+use lib.Seq.{sets}
+use Rattle.classes.specs.Bytes.{bytes}
+use Rattle.words.specs.Kinds.{ColonColon, Less, LBrace}
+use Rattle.tokens.specs.declared.Token.{Token}
+use Rattle.records.specs.Kinds.{RecName, RecVariable, RecField}
+use Rattle.records.specs.Tree.{Tree, node, Trees, none, more}
+use Rattle.sources.specs.Source.{opened}
+use Rattle.answers.specs.Reading.{Ans, ok, Reader}
+use Rattle.grammar.specs.Binds.{readField, readBind}
+use Rattle.forms.specs.Forms.{mark, laid, listed}
+use Rattle.forms.specs.code.Spots.{moved, sealed, Placed}
+use Rattle.forms.specs.declared.Spot.{Spot}
+use Rattle.parts.specs.declared.Part.{Part}
+use Rattle.parts.specs.declared.Parsed.{Parsed}
+use Rattle.parts.specs.declared.Parsed.the-variants.{Read, Refused}
+use Rattle.parts.specs.code.Meets.{Refuses, Follows}
+use Rattle.chains.specs.code.Parts.{leafAt}
+use Rattle.lists.specs.declared.Listed.{Listed}
+use Rattle.lists.specs.declared.Listed.the-variants.{All, Refused as Broken}
+
+-- the kind of the token behind an identifier: the binding is no variable
+abbrev pub structKind : ℕ → Bool
+structKind k = eqb k LBrace || eqb k Less || eqb k ColonColon
+
+-- the reader of a field where n levels are left
+abbrev pub fieldAt : ℕ → Reader
+fieldAt n = readField n (readBind n)
+
+-- a field that binds its own name a
+abbrev pub shortAt : List ℕ → Token → Tree
+shortAt text a = node RecField (a .start) (a .end) (more (leafAt RecName text a) (more (leafAt RecVariable text a) none))
+
+-- the name of a field, and what stands behind it
+abbrev pub fieldName : ℕ → List ℕ → Token → List ℕ
+fieldName f text a = laid f (leafAt RecName text a) ++ mark f (bytes ": ")
+
+-- what stands between two marks, of which the second is one byte; the types and the fields of a struct
+abbrev pub enclosed : ℕ → List ℕ → ℕ → List ℕ → List ℕ
+enclosed f xs b body = mark f xs ++ (body ++ mark f (b ∷ []))
+
+abbrev pub angled : ℕ → Trees → List ℕ
+angled f ts = enclosed f (bytes "<") 62 (listed f ts)
+
+abbrev pub braced : ℕ → Trees → List ℕ
+braced f fs = enclosed f (bytes " {") 125 (listed f fs)
+
+-- a list, as a part of a record
+unfoldable pub partOf : Listed → Parsed
+partOf (All n) = Read (record { to = n .to; end = n .end; next = n .next })
+partOf (Broken r) = Refused r
+
+-- a part with a mark of one byte behind it: the answer, and the buffer
+unfoldable pub endedBy : ℕ → ℕ → Parsed → Parsed
+endedBy f b (Read p) = Read (record { to = moved (p .to) (length (mark f (b ∷ []))); end = p .end; next = p .next })
+endedBy f b (Refused r) = Refused r
+
+unfoldable pub markedBy : ℕ → ℕ → Parsed → List ℕ → List ℕ
+markedBy f b (Read p) l = sets l (p .to .pos) (mark f (b ∷ []))
+markedBy f b (Refused r) l = l
+
+-- the buffer with the head of a record of kind k that starts at s and whose last part is p
+unfoldable pub headedBy : ℕ → ℕ → ℕ → Spot → Parsed → List ℕ → List ℕ
+headedBy f k start s (Read p) l = sealed f k start (p .end) s (p .to) l
+headedBy f k start s (Refused r) l = l
+
+-- a contract as `Reads`, of what is laid down by `lay`
+pub record HadBy {A : Type 0} (lay : A → List ℕ) (text : List ℕ) (x : Ans A) (s : Spot) (l : List ℕ) (p : Part) (m : List ℕ) : Type 0 where
+  pub what : A
+  pub is : x ≡ ok what (opened text (p .end))
+  pub bytes : Placed l s (lay what) (p .to) m
+
+unfoldable pub MeetsBy : {A : Type 0} → (A → List ℕ) → List ℕ → Ans A → Spot → List ℕ → Parsed → List ℕ → Type 0
+MeetsBy lay text x s l (Read p) m = HadBy lay text x s l p m
+MeetsBy lay text x s l (Refused r) m = Refuses x r
+
+pub record ReadsBy {A : Type 0} (lay : A → List ℕ) (text : List ℕ) (fits : Type 0) (x : Ans A) (from : ℕ) (s : Spot) (l : List ℕ) (r : Parsed) (m : List ℕ) : Type 0 where
+  pub meets : (fits → MeetsBy lay text x s l r m)
+  pub goes : Follows text from r

@@ -1,0 +1,362 @@
+// Bindings, their fields, and the two lists of bindings, laid down in the form that the caller asks for.
+ghost use mathlib.Core.Path.{_≡_};
+ghost use Rattle.words.specs.Kinds.{Greater, RBrace};
+ghost use Rattle.answers.specs.Reading.{listBehind};
+ghost use Rattle.grammar.specs.Types.{readType};
+ghost use Rattle.grammar.specs.Binds.{fields, unpacked, readBind, readBindList, readLambdaList};
+ghost use Rattle.forms.specs.Forms.{laid};
+ghost use Rattle.forms.specs.code.Spots.{inside, Placed};
+ghost use Rattle.parts.specs.code.Meets.{Fits, held, Reads};
+ghost use Rattle.lists.specs.code.Lists.{ReadsAll};
+ghost use Rattle.bind_walk.specs.code.Pieces.{structKind, fieldAt, shortAt, fieldName, angled, braced, partOf, endedBy, markedBy, headedBy, ReadsBy};
+use forms::Spot;
+use lists::Listed;
+use lists::Step;
+use lists::Turn;
+use parts::Parsed;
+use parts::Part;
+use parts::Way;
+use records::kinds::REC_BIND_LIST;
+use records::kinds::REC_FIELD;
+use records::kinds::REC_LAMBDA_BIND_LIST;
+use records::kinds::REC_NAME;
+use records::kinds::REC_STRUCT;
+use records::kinds::REC_STRUCT_TYPED;
+use records::kinds::REC_VARIABLE;
+use tokens::Lexed;
+use tokens::Token;
+use words::kinds::COLON;
+use words::kinds::COLON_COLON;
+use words::kinds::IDENTIFIER;
+use words::kinds::L_BRACE;
+use words::kinds::L_PAREN;
+use words::kinds::LESS;
+use words::kinds::PIPE;
+use words::kinds::R_BRACE;
+use words::kinds::R_PAREN;
+
+// The most levels.
+const LEVELS: usize = 64;
+
+// Whether a binding that begins with an identifier is a struct, by the kind of the token behind it.
+fn is_struct(kind: u8) -> bool
+    ensures { λ r. ⌜ r ≡ structKind kind ⌝ }
+{
+    if kind == L_BRACE {
+        return true;
+    }
+    if kind == LESS {
+        return true;
+    }
+    kind == COLON_COLON
+}
+
+// A list, as a part of a record.
+fn part_of(l: Listed) -> Parsed
+    ensures { λ r. ⌜ r ≡ partOf l ⌝ }
+{
+    match l {
+        Listed::Refused(r) => Parsed::Refused(r),
+        Listed::All(n) => {
+            let to = n.to;
+            let next = n.next;
+            Parsed::Read(Part {
+                to: to,
+                end: n.end,
+                next: next,
+            })
+        }
+    }
+}
+
+// Writes a mark behind the part p.
+fn end_part(form: u8, b: u8, p: Parsed, out: &mut [u8]) -> Parsed
+    ensures answer { λ r. ⌜ r ≡ endedBy form b p ⌝ }
+    ensures bytes { λ _. ⌜ now (out .exit) ≡ markedBy form b p (now (out .entry)) ⌝ }
+{
+    match p {
+        Parsed::Refused(r) => Parsed::Refused(r),
+        Parsed::Read(i) => {
+            let next = i.next;
+            let to = forms::put_mark(form, b, out, i.to);
+            Parsed::Read(Part {
+                to: to,
+                end: i.end,
+                next: next,
+            })
+        }
+    }
+}
+
+// Writes the head of a record of this kind that starts at s and whose last part is p. What refuses p
+// refuses the record.
+fn close_record(form: u8, kind: usize, start: usize, p: Parsed, out: &mut [u8], s: Spot) -> Parsed
+    ensures answer { λ r. ⌜ r ≡ p ⌝ }
+    ensures bytes { λ _. ⌜ now (out .exit) ≡ headedBy form kind start s p (now (out .entry)) ⌝ }
+{
+    match p {
+        Parsed::Refused(r) => Parsed::Refused(r),
+        Parsed::Read(i) => {
+            forms::seal(form, kind, start, i.end, s, i.to, out);
+            Parsed::Read(i)
+        }
+    }
+}
+
+// Lays down the name a of a field and what stands behind it, inside the field that starts at s.
+fn put_field_name(w: Way, text: &[u8], a: Token, out: &mut [u8], s: Spot) -> Spot
+    ensures { λ r. ⌜ Placed (now (out .entry)) (inside (w .form) s) (fieldName (w .form) (now (text .entry)) a) r (now (out .exit)) ⌝ }
+{
+    let i = forms::step_inside(w.form, s);
+    let p = forms::put_leaf(w.form, REC_NAME, text, a, out, i);
+    forms::put_marks(w.form, b':', b' ', out, p)
+}
+
+// Lays down a field that binds its own name a.
+fn put_short(w: Way, text: &[u8], a: Token, out: &mut [u8], s: Spot) -> Spot
+    ensures { λ r. ⌜ Placed (now (out .entry)) s (laid (w .form) (shortAt (now (text .entry)) a)) r (now (out .exit)) ⌝ }
+{
+    let p = put_field_name(w, text, a, out, s);
+    let r = forms::put_leaf(w.form, REC_VARIABLE, text, a, out, p);
+    forms::seal(w.form, REC_FIELD, a.start, a.end, s, r, out);
+    r
+}
+
+// The types of a struct, between the `<` o and `>`.
+fn types_at(w: Way, text: &[u8], o: Token, out: &mut [u8], s: Spot) -> Parsed
+    ensures { λ r. ⌜ ReadsBy (angled (w .form)) (now (text .entry)) (Fits (now (text .entry)) o) (listBehind (readType (w .left)) Greater (held (now (text .entry)) o)) (o .end) s (now (out .entry)) r (now (out .exit)) ⌝ }
+{
+    let p = forms::put_mark(w.form, b'<', out, s);
+    let l = type_walk::parse_type_args(w, text, o, out, p);
+    end_part(w.form, b'>', part_of(l), out)
+}
+
+// The binding whose first token is a; the levels that are left count its own.
+fn parse_bind(w: Way, text: &[u8], a: Token, out: &mut [u8], s: Spot) -> Parsed
+    ensures { λ r. ⌜ Reads (w .form) (now (text .entry)) (Fits (now (text .entry)) a) (readBind (w .left) (held (now (text .entry)) a)) (a .end) s (now (out .entry)) r (now (out .exit)) ⌝ }
+{
+    if w.left == 0 {
+        return type_walk::too_deep(a);
+    }
+    let deeper = Way {
+        form: w.form,
+        left: w.left - 1,
+    };
+    if a.kind != IDENTIFIER {
+        return unpack_at(deeper, text, a, out, s);
+    }
+    let l = tokens::next_token(text, a.end);
+    match l {
+        Lexed::Refused(r) => Parsed::Refused(r),
+        Lexed::Found(n) => {
+            if is_struct(n.kind) {
+                return unpack_at(deeper, text, a, out, s);
+            }
+            let to = forms::put_leaf(w.form, REC_VARIABLE, text, a, out, s);
+            Parsed::Read(Part {
+                to: to,
+                end: a.end,
+                next: n,
+            })
+        }
+    }
+}
+
+// The struct that the name at a begins, with its types, if any, and its fields. The levels that are left
+// count those of a type and of a field.
+fn unpack_at(w: Way, text: &[u8], a: Token, out: &mut [u8], s: Spot) -> Parsed
+    ensures { λ r. ⌜ Reads (w .form) (now (text .entry)) (Fits (now (text .entry)) a) (unpacked (readType (w .left)) (fieldAt (w .left)) (held (now (text .entry)) a)) (a .end) s (now (out .entry)) r (now (out .exit)) ⌝ }
+{
+    let i = forms::step_inside(w.form, s);
+    let c = chains::parse_name_access_chain(w, text, a, out, i);
+    match c {
+        Parsed::Refused(r) => Parsed::Refused(r),
+        Parsed::Read(p) => {
+            if p.next.kind != LESS {
+                let f = fields_at(w, text, p.next, out, p.to);
+                return close_record(w.form, REC_STRUCT, a.start, f, out, s);
+            }
+            let t = types_at(w, text, p.next, out, p.to);
+            match t {
+                Parsed::Refused(r) => Parsed::Refused(r),
+                Parsed::Read(q) => {
+                    let f = fields_at(w, text, q.next, out, q.to);
+                    close_record(w.form, REC_STRUCT_TYPED, a.start, f, out, s)
+                }
+            }
+        }
+    }
+}
+
+// The fields in the braces that b opens.
+fn fields_at(w: Way, text: &[u8], b: Token, out: &mut [u8], s: Spot) -> Parsed
+    ensures { λ r. ⌜ ReadsBy (braced (w .form)) (now (text .entry)) (Fits (now (text .entry)) b) (fields (readType (w .left)) (fieldAt (w .left)) (held (now (text .entry)) b)) (b .end) s (now (out .entry)) r (now (out .exit)) ⌝ }
+{
+    if b.kind != L_BRACE {
+        return parts::unexpected(b);
+    }
+    let p = forms::put_marks(w.form, b' ', b'{', out, s);
+    let l = field_list(w, text, b, out, p);
+    end_part(w.form, b'}', part_of(l), out)
+}
+
+// The list of fields that o opens, its items one behind the other (parse_comma_list of the Rust).
+fn field_list(w: Way, text: &[u8], o: Token, out: &mut [u8], s: Spot) -> Listed
+    ensures { λ r. ⌜ ReadsAll (w .form) (now (text .entry)) (Fits (now (text .entry)) o) (listBehind (fieldAt (w .left)) RBrace (held (now (text .entry)) o)) (o .end) s (now (out .entry)) r (now (out .exit)) ⌝ }
+{
+    let mut i = o.end;
+    let mut to = forms::move_by(s, 0);
+    let mut count = 0;
+    loop {
+        let b = lists::next_item(R_BRACE, text, i);
+        match b {
+            Turn::Refused(r) => {
+                return Listed::Refused(r);
+            }
+            Turn::Closes(q) => {
+                return lists::close_list(text, q, count, to);
+            }
+            Turn::Item(a) => {
+                let p = forms::put_between(w.form, count == 0, out, to);
+                let t = parse_bind_field(w, text, a, out, p);
+                let c = lists::after_item(R_BRACE, o, t);
+                match c {
+                    Step::Refused(r) => {
+                        return Listed::Refused(r);
+                    }
+                    Step::Last(e, q) => {
+                        return lists::close_list(text, q, lists::count_more(count), e);
+                    }
+                    Step::Goes(e, q) => {
+                        to = e;
+                        count = lists::count_more(count);
+                        i = q;
+                    }
+                }
+            }
+        }
+    }
+}
+
+// The field whose first token is a. Its level is tested before its name is read, and its binding adds none.
+fn parse_bind_field(w: Way, text: &[u8], a: Token, out: &mut [u8], s: Spot) -> Parsed
+    ensures { λ r. ⌜ Reads (w .form) (now (text .entry)) (Fits (now (text .entry)) a) (fieldAt (w .left) (held (now (text .entry)) a)) (a .end) s (now (out .entry)) r (now (out .exit)) ⌝ }
+{
+    if w.left == 0 { // also where the field binds its own name
+        return type_walk::too_deep(a);
+    }
+    if a.kind != IDENTIFIER {
+        return parts::unexpected(a);
+    }
+    let l = tokens::next_token(text, a.end);
+    match l {
+        Lexed::Refused(r) => Parsed::Refused(r),
+        Lexed::Found(n) => {
+            if n.kind != COLON {
+                let to = put_short(w, text, a, out, s);
+                return Parsed::Read(Part {
+                    to: to,
+                    end: a.end,
+                    next: n,
+                });
+            }
+            let m = tokens::next_token(text, n.end);
+            match m {
+                Lexed::Refused(r) => Parsed::Refused(r),
+                Lexed::Found(b) => {
+                    let p = put_field_name(w, text, a, out, s);
+                    let f = parse_bind(w, text, b, out, p);
+                    close_record(w.form, REC_FIELD, a.start, f, out, s)
+                }
+            }
+        }
+    }
+}
+
+// The list of bindings that o opens and a token of the kind `close` ends, its items one behind the other
+// (parse_comma_list of the Rust).
+fn bind_list(w: Way, close: u8, text: &[u8], o: Token, out: &mut [u8], s: Spot) -> Listed
+    ensures { λ r. ⌜ ReadsAll (w .form) (now (text .entry)) (Fits (now (text .entry)) o) (listBehind (readBind (w .left)) close (held (now (text .entry)) o)) (o .end) s (now (out .entry)) r (now (out .exit)) ⌝ }
+{
+    let mut i = o.end;
+    let mut to = forms::move_by(s, 0);
+    let mut count = 0;
+    loop {
+        let b = lists::next_item(close, text, i);
+        match b {
+            Turn::Refused(r) => {
+                return Listed::Refused(r);
+            }
+            Turn::Closes(q) => {
+                return lists::close_list(text, q, count, to);
+            }
+            Turn::Item(a) => {
+                let p = forms::put_between(w.form, count == 0, out, to);
+                let t = parse_bind(w, text, a, out, p);
+                let c = lists::after_item(close, o, t);
+                match c {
+                    Step::Refused(r) => {
+                        return Listed::Refused(r);
+                    }
+                    Step::Last(e, q) => {
+                        return lists::close_list(text, q, lists::count_more(count), e);
+                    }
+                    Step::Goes(e, q) => {
+                        to = e;
+                        count = lists::count_more(count);
+                        i = q;
+                    }
+                }
+            }
+        }
+    }
+}
+
+// The bindings in brackets, or the one binding, whose first token is a. The levels begin here.
+pub fn parse_bind_list(w: Way, text: &[u8], a: Token, out: &mut [u8], s: Spot) -> Parsed
+    ensures { λ r. ⌜ Reads (w .form) (now (text .entry)) (Fits (now (text .entry)) a) (readBindList (held (now (text .entry)) a)) (a .end) s (now (out .entry)) r (now (out .exit)) ⌝ }
+{
+    let outermost = Way {
+        form: w.form,
+        left: LEVELS,
+    };
+    let i = forms::step_inside(w.form, s);
+    let p = forms::put_mark(w.form, b'(', out, i);
+    if a.kind != L_PAREN {
+        let b = parse_bind(outermost, text, a, out, p);
+        let c = end_part(w.form, b')', b, out);
+        return close_record(w.form, REC_BIND_LIST, a.start, c, out, s);
+    }
+    let l = bind_list(outermost, R_PAREN, text, a, out, p);
+    let c = end_part(w.form, b')', part_of(l), out);
+    close_record(w.form, REC_BIND_LIST, a.start, c, out, s)
+}
+
+// The bindings of a lambda, between the `|` a and the next. The levels begin here.
+pub fn parse_lambda_bind_list(w: Way, text: &[u8], a: Token, out: &mut [u8], s: Spot) -> Parsed
+    ensures { λ r. ⌜ Reads (w .form) (now (text .entry)) (Fits (now (text .entry)) a) (readLambdaList (held (now (text .entry)) a)) (a .end) s (now (out .entry)) r (now (out .exit)) ⌝ }
+{
+    if a.kind != PIPE {
+        return parts::unexpected(a);
+    }
+    let outermost = Way {
+        form: w.form,
+        left: LEVELS,
+    };
+    let i = forms::step_inside(w.form, s);
+    let p = forms::put_mark(w.form, b'|', out, i);
+    let l = bind_list(outermost, PIPE, text, a, out, p);
+    match l {
+        Listed::Refused(r) => Parsed::Refused(r),
+        Listed::All(n) => {
+            let next = n.next;
+            let to = forms::close_bars(w.form, n.count == 0, out, n.to);
+            forms::seal(w.form, REC_LAMBDA_BIND_LIST, a.start, n.end, s, to, out);
+            Parsed::Read(Part {
+                to: to,
+                end: n.end,
+                next: next,
+            })
+        }
+    }
+}

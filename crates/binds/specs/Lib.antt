@@ -1,2 +1,0 @@
-pub mod Binds
-pub mod Written

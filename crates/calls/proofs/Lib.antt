@@ -1,0 +1,5 @@
+pub mod Room
+pub mod RefusalSets
+pub mod Faithful
+pub mod Answers
+pub mod Ends

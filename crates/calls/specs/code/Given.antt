@@ -1,0 +1,53 @@
+-- What the functions of a call answer, and what they leave in the buffer.
+use Prim.Native.Nat.{ℕ, _≤_}
+use mathlib.Core.Path.{_≡_}
+use mathlib.Core.List.{List}
+use lib.ListN.{length, take}
+use lib.Seq.{sets}
+use Rattle.tokens.specs.Answers.{refusal}
+use Rattle.tokens.specs.Calls.{nextToken}
+use Rattle.tokens.specs.declared.Token.{Token as First}
+use Rattle.tokens.specs.declared.Lexed.{Lexed}
+use Rattle.records.specs.Tree.{Tree}
+use Rattle.sources.specs.Source.{Token}
+use Rattle.grammar.specs.Items.{Item, item, readKind, finished, readItem}
+use Rattle.forms.specs.Forms.{laid}
+use Rattle.forms.specs.declared.Spot.{Spot}
+use Rattle.parts.specs.code.Meets.{Fits, held}
+use Rattle.calls.specs.Calls.{roomed, written, answeredIn, display, displayBuffer, displayed}
+use Rattle.calls.specs.declared.Answer.{Answer}
+use Rattle.calls.specs.declared.Answer.the-variants.{Refused}
+use Rattle.calls.specs.declared.Displayed.{Displayed}
+
+abbrev pub refusedWith : ℕ → Answer
+refusedWith number = Refused (refusal number 0 0)
+
+-- the place where an answer begins
+abbrev pub atStart : Spot
+atStart = record { pos = 0; low = 0 }
+
+-- the item of a kind whose first token is a
+abbrev pub itemFrom : ℕ → List ℕ → First → Item
+itemFrom kind text a = finished (readKind kind (held text a))
+
+-- an item that is accepted is written in front of the buffer l, which becomes m: n is its length, and `made` begins with its bytes if
+-- it has so many
+abbrev pub Writes : ℕ → ℕ → List ℕ → First → ℕ → List ℕ → List ℕ → List ℕ → Type 0
+Writes form kind text a n made l m = Fits text a → (x : Tree) (t : Token) → itemFrom kind text a ≡ item x t → (n ≤ length made → take n made ≡ laid form x) → m ≡ sets l 0 (laid form x)
+
+-- the answer for an item i in a form, over a buffer l that becomes m
+pub record Gives (form : ℕ) (i : Item) (l : List ℕ) (r : Answer) (m : List ℕ) : Type 0 where
+  pub answer : r ≡ answeredIn form (roomed form (length l) i)
+  pub buffer : m ≡ written form (roomed form (length l) i) l
+
+-- for the item of a first token, where that fits; and for the item at an offset, where the token is the one found there
+abbrev pub Lays : ℕ → ℕ → List ℕ → First → List ℕ → Answer → List ℕ → Type 0
+Lays form kind text a l r m = Fits text a → Gives form (itemFrom kind text a) l r m
+
+abbrev pub Calls : ℕ → ℕ → List ℕ → ℕ → Lexed → List ℕ → Answer → List ℕ → Type 0
+Calls form kind text at first l r m = first ≡ nextToken text at → Gives form (readItem kind text at) l r m
+
+-- the display with the token that is found at the offset
+pub record Displays (kind : ℕ) (text : List ℕ) (at : ℕ) (first : Lexed) (l : List ℕ) (r : Displayed) (m : List ℕ) : Type 0 where
+  pub answer : (first ≡ nextToken text at → r ≡ displayed (display kind text at (length l)))
+  pub buffer : (first ≡ nextToken text at → m ≡ displayBuffer kind text at l)

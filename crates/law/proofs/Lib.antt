@@ -1,6 +1,0 @@
-pub mod Ways
-pub mod Readers
-pub mod Raised
-pub mod Checked
-pub mod Deeper
-pub mod Unbracketed

@@ -1,1 +1,0 @@
-// The reading back of display lines: no functions, only what is proved of the definitions of the read and display calls.

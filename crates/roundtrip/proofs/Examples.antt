@@ -1,0 +1,49 @@
+-- P1 to P15 hold of the definitions that the contracts of the calls cite, by computation.
+use mathlib.Core.Path.{_≡_, refl}
+use mathlib.Core.List.{map}
+use Rattle.classes.specs.Bytes.{begins}
+use Rattle.classes.specs.Class.{inRange, isDigit, isHex, isLetter, isName, isAscii, inLine}
+use Rattle.classes.specs.Run.{runLen}
+use Rattle.gap.specs.Marks.{isSpace, isBlank, slashes, opens, closes, docLine, docBlock}
+use Rattle.gap.specs.Comments.{inside, lineText, lineComment, blockComment, partAt}
+use Rattle.gap.specs.Gap.{gap}
+use Rattle.words.specs.Tables.{keywords, longMarks, doubleMarks, singleMarks, marks}
+use Rattle.words.specs.Search.{same, lookup, kindOf, longest, markOf, frontLen, suffixes, suffixLen}
+use Rattle.words.specs.Quote.{endsLine, quoteFrom}
+use Rattle.tokens.specs.Token.{typed, decimal, hexTyped, hexLen, hexNumber, number, stringBy, string, opensString, stringRefusal, name, word, mark, findToken, placed, behindGap, lex as lexFrom}
+use Rattle.tokens.specs.Answers.{tokenNumber, tokenValues}
+use Rattle.tokens.specs.Calls.{admitted, lexed, nextToken}
+use Rattle.records.specs.Tree.{build, builds, behind, joined}
+use Rattle.records.specs.Stored.{two, span, header}
+use Rattle.sources.specs.Source.{scanned, lex}
+use Rattle.answers.specs.Reading.{then, look, when, closed, list, listBehind}
+use Rattle.grammar.specs.Names.{lastPart, thirdPart, secondPart, chain}
+use Rattle.grammar.specs.Values.{leafKind, leafValue, addressValue, value}
+use Rattle.grammar.specs.Types.{bracketed, brackets, reference, function, withArguments, named, typeOver, readType}
+use Rattle.grammar.specs.Binds.{fields, structOver, unpacked, bindOver, fieldOver, readField, readBind, readBindList, readLambdaList}
+use Rattle.grammar.specs.Items.{readKind, followed, finished, readItem}
+use Rattle.forms.specs.Line.{plain, others, commas, bars, angles, brackets as inBrackets, braces, first, later, initial, final, select, isField, isType, shape, kindOf as kindOfBuild, line as lineOf, pieces, shown}
+use Rattle.forms.specs.Forms.{head, recorded, recordedAll, laid}
+use Rattle.calls.specs.Calls.{limitOf, roomed, written, called, calledBuffer, answeredIn, read as readCall, readBuffer, answered, readNumber, readValues, display as displayCall, displayBuffer, displayed, displayNumber, displayValues}
+use Rattle.roundtrip.specs.Examples.{expected, given, examples}
+
+-- the definitions by which a gap and a word are found; a token; an item; and its bytes and answer
+unfoldable scanning : Unit {0}
+unfolding begins inRange isDigit isHex isLetter isName isAscii inLine runLen isSpace isBlank slashes opens closes docLine docBlock inside lineText lineComment blockComment partAt gap
+scanning = tt
+
+unfoldable lexing : Unit {0}
+unfolding keywords longMarks doubleMarks singleMarks marks same lookup kindOf longest markOf frontLen suffixes suffixLen endsLine quoteFrom typed decimal hexTyped hexLen hexNumber number stringBy string opensString stringRefusal name word mark findToken placed behindGap lexFrom tokenNumber tokenValues admitted lexed nextToken scanned lex
+lexing = tt
+
+unfoldable reading : Unit {0}
+unfolding then look when closed list listBehind lastPart thirdPart secondPart chain leafKind leafValue addressValue value bracketed brackets reference function withArguments named typeOver readType fields structOver unpacked bindOver fieldOver readField readBind readBindList readLambdaList readKind followed finished readItem behind joined
+reading = tt
+
+unfoldable calling : Unit {0}
+unfolding build builds two span header plain others commas bars angles inBrackets braces first later initial final select isField isType shape kindOfBuild lineOf pieces shown head recorded recordedAll laid limitOf roomed written called calledBuffer answeredIn readCall readBuffer answered readNumber readValues displayCall displayBuffer displayed displayNumber displayValues
+calling = tt
+
+pub examples-hold : map given examples ≡ map expected examples
+unfolding given examples scanning lexing reading calling
+examples-hold = refl

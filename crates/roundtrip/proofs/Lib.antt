@@ -1,0 +1,11 @@
+pub mod Words
+pub mod Tokens
+pub mod Answers
+pub mod Marks
+pub mod Lists
+pub mod Names
+pub mod Types
+pub mod Binds
+pub mod Round
+pub mod Theorem
+pub mod Examples

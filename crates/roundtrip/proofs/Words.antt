@@ -1,0 +1,276 @@
+-- Words in front of other bytes: a name, a keyword, a number or a string is the same token wherever what follows cannot go on with it.
+use mathlib.Core.Path.{_≡_, refl, ap, sym, _∙_, subst}
+use mathlib.Core.Bool.{Bool, true, false, not, cond, _&&_, _||_}
+use mathlib.Core.List.{List, [], _∷_, _++_}
+use Prim.Native.Nat.{ℕ, zero, suc, _+_, _-_, _<_, _≤_}
+use native.Mathlib.Omega.{arith}
+use native.Mathlib.Nat.{not-suc-le-zero}
+use borrow.Author.Tests.{eqb-true, not-true, leb-true, le-leb, ltb-false, le-ltb}
+use lib.Dec.{eqb, leb, ltb}
+use lib.ListN.{length, getD, take, drop, length-drop}
+use lib.Seq.{take-length, take-append-le, drop-append-le, take-append-seam, drop-append-seam, length-take-le}
+use Rattle.classes.specs.Bytes.{bytes, begins}
+use Rattle.classes.specs.Class.{inRange, isDigit, isHex, isLetter, isName, isAscii}
+use Rattle.classes.specs.Run.{runLen}
+use Rattle.classes.proofs.Bools.{false-true, and-left, and-right, and-false, or-left, or-right}
+use Rattle.classes.proofs.Cut.{begins-short}
+use Rattle.classes.proofs.Runs.{run-short}
+use Rattle.gap.specs.Marks.{isSpace, isBlank, slashes, opens}
+use Rattle.gap.specs.Comments.{partAt}
+use Rattle.gap.specs.Gap.{End, clear, broken, gap}
+use Rattle.words.specs.Tables.{Entry, marks, longMarks, doubleMarks, singleMarks}
+use Rattle.words.specs.Search.{markOf, firstFit, frontLen, suffixes, suffixLen}
+use Rattle.words.specs.Quote.{quoteFrom}
+use Rattle.words.specs.declared.Quote.{Quote}
+use Rattle.words.specs.declared.Quote.the-variants.{Found, Missing}
+use Rattle.words.proofs.Quotes.{Within, within, quote-local}
+use Rattle.words.proofs.Marks.{mark-first}
+use Rattle.tokens.specs.Token.{Front, front, fault, decimal, hexLen, hexNumber, number, stringBy, string, opensString, stringRefusal, name, word, mark, findToken, Scanned, tok, bad, placed, behindGap, lex}
+use Rattle.tokens.proofs.Fronts.{Takes, find-takes}
+use Rattle.tokens.proofs.Alone.{Alone, find-alone}
+
+-- the first byte, where there is one, is outside a class
+abbrev pub Stops : (ℕ → Bool) → List ℕ → Type 0
+Stops f [] = Unit {0}
+Stops f (a ∷ z) = f a ≡ false
+
+-- what would go on with a word: a byte of a name, or the quote that makes a string of `x` or `b`
+abbrev pub extends : ℕ → Bool
+extends a = isName a || eqb a 34
+
+pub stops-less : (f g : ℕ → Bool) → ((a : ℕ) → g a ≡ false → f a ≡ false) → (z : List ℕ) → Stops g z → Stops f z
+stops-less f g h [] s = tt
+stops-less f g h (a ∷ z) s = h a s
+
+-- a byte of a class is not one outside it
+pub differs : (f : ℕ → Bool) (n a : ℕ) → f n ≡ false → f a ≡ true → eqb a n ≡ false
+differs f n a h t = go (eqb a n) refl
+  where
+    go : (b : Bool) → eqb a n ≡ b → eqb a n ≡ false
+    go false e = e
+    go true e = false-true _ (sym h ∙ ap f (sym (eqb-true a n e)) ∙ t)
+
+-- a narrower range
+narrower : (lo hi lo₂ hi₂ a : ℕ) → lo ≤ lo₂ → hi₂ ≤ hi → inRange lo hi a ≡ false → inRange lo₂ hi₂ a ≡ false
+unfolding inRange
+narrower lo hi lo₂ hi₂ a h g n = go (inRange lo₂ hi₂ a) refl
+  where
+    go : (b : Bool) → inRange lo₂ hi₂ a ≡ b → inRange lo₂ hi₂ a ≡ false
+    go false e = e
+    go true e =
+        let x : lo₂ ≤ a = leb-true lo₂ a (and-left (leb lo₂ a) (leb a hi₂) e) in
+        let y : a ≤ hi₂ = leb-true a hi₂ (and-right (leb lo₂ a) (leb a hi₂) e) in
+        let z : leb lo a && leb a hi ≡ true = rw (le-leb lo a (omega arith), le-leb a hi (omega arith)) in
+        false-true _ (sym n ∙ z)
+
+-- what is no byte of a name is no digit, no hex digit
+no-digit : (a : ℕ) → isName a ≡ false → isDigit a ≡ false
+unfolding isName
+no-digit a h = or-right (isLetter a) (isDigit a) h
+
+no-hex : (a : ℕ) → isName a ≡ false → isHex a ≡ false
+unfolding isName isLetter isDigit isHex
+no-hex a h =
+    let l : isLetter a ≡ false = or-left (isLetter a) (isDigit a) h in
+    let m : inRange 97 122 a || inRange 65 90 a ≡ false = or-left (inRange 97 122 a || inRange 65 90 a) (eqb a 95) l in
+    rw (no-digit a h, narrower 65 90 65 70 a (omega arith) (omega arith) (or-right (inRange 97 122 a) (inRange 65 90 a) m), narrower 97 122 97 102 a (omega arith) (omega arith) (or-left (inRange 97 122 a) (inRange 65 90 a) m))
+
+-- a run, and a beginning, is the same with such bytes behind
+run-front : (f : ℕ → Bool) (w z : List ℕ) → Stops f z → runLen f (w ++ z) ≡ runLen f w
+unfolding runLen
+run-front f [] [] s = refl
+run-front f [] (a ∷ z) s = rw s
+run-front f (a ∷ w) z s = rw (run-front f w z s)
+
+run-grows : (f : ℕ → Bool) (w z : List ℕ) → runLen f w ≤ runLen f (w ++ z)
+unfolding runLen
+run-grows f [] z = omega arith
+run-grows f (a ∷ w) z = go (f a) (run-grows f w z)
+  where
+    go : (b : Bool) → runLen f w ≤ runLen f (w ++ z) → cond b (suc (runLen f w)) 0 ≤ cond b (suc (runLen f (w ++ z))) 0
+    go true h = omega arith
+    go false h = omega arith
+
+abbrev every : (ℕ → Bool) → List ℕ → Bool
+every f [] = true
+every f (a ∷ w) = f a && every f w
+
+begins-front : (v w z : List ℕ) → every isName v ≡ true → Stops isName z → begins v (w ++ z) ≡ begins v w
+unfolding begins
+begins-front [] w z e s = refl
+begins-front (a ∷ v) [] [] e s = refl
+begins-front (a ∷ v) [] (b ∷ z) e s = rw (differs (λ (n : ℕ). not (isName n)) a b (rw (and-left (isName a) (every isName v) e)) (rw s))
+begins-front (a ∷ v) (b ∷ w) z e s = rw (begins-front v w z (and-right (isName a) (every isName v) e) s)
+
+suffix-front : (w z : List ℕ) → Stops isName z → suffixLen (w ++ z) ≡ suffixLen w
+unfolding suffixLen suffixes frontLen isName isLetter isDigit inRange
+suffix-front w z s = rw (begins-front (bytes "u8") w z refl s, begins-front (bytes "u64") w z refl s, begins-front (bytes "u128") w z refl s)
+
+-- numbers
+decimal-front : (w z : List ℕ) → Stops isName z → decimal (w ++ z) ≡ decimal w
+unfolding decimal
+decimal-front w z s =
+    rw (run-front isDigit w z (stops-less isDigit isName no-digit z s), drop-append-le (runLen isDigit w) w z (run-short isDigit w), suffix-front (drop (runLen isDigit w) w) z s)
+
+hex-len : (w z : List ℕ) → 2 ≤ length w → Stops isName z → hexLen (w ++ z) ≡ hexLen w
+unfolding hexLen
+hex-len w z g s = rw (drop-append-le 2 w z g, run-front isHex (drop 2 w) z (stops-less isHex isName no-hex z s))
+
+hex-short : (w : List ℕ) → 2 ≤ length w → hexLen w ≤ length w
+unfolding hexLen
+hex-short w g = omega (arith, run-short isHex (drop 2 w), length-drop 2 w)
+
+hex-front : (w z : List ℕ) → 2 ≤ length w → Stops isName z → hexNumber (w ++ z) ≡ hexNumber w
+unfolding hexNumber
+hex-front w z g s = rw (hex-len w z g s, drop-append-le (hexLen w) w z (hex-short w g), suffix-front (drop (hexLen w) w) z s)
+
+number-front : (w z : List ℕ) → Stops isName z → number (w ++ z) ≡ number w
+unfolding number isName isLetter isDigit inRange
+number-front w z s = rw (begins-front (bytes "0x") w z refl s) (go (begins (bytes "0x") w) refl)
+  where
+    go : (b : Bool) → begins (bytes "0x") w ≡ b → cond b (hexNumber (w ++ z)) (decimal (w ++ z)) ≡ cond b (hexNumber w) (decimal w)
+    go true e = hex-front w z (begins-short (bytes "0x") w e) s
+    go false e = decimal-front w z s
+
+-- names
+opens-front : (a : ℕ) (w z : List ℕ) → Stops extends z → opensString a (getD w 0 0) ≡ false → opensString a (getD (w ++ z) 0 0) ≡ false
+unfolding opensString
+opens-front a [] [] s h = h
+opens-front a [] (b ∷ z) s h = rw (or-right (isName b) (eqb b 34) s) (and-false (eqb a 120 || eqb a 98))
+opens-front a (b ∷ w) z s h = h
+
+name-front : (w z : List ℕ) → Stops isName z → name (w ++ z) ≡ name w
+unfolding name
+name-front w z s = rw (run-front isName w z s, take-append-le (runLen isName w) w z (run-short isName w))
+
+by-name : (a : ℕ) (s : List ℕ) → opensString a (getD s 0 0) ≡ false → word (a ∷ s) ≡ name (a ∷ s)
+unfolding word
+by-name a s h = rw h
+
+-- strings: all of them, whatever follows
+string-ends : (m a b : ℕ) (u z : List ℕ) (q : ℕ) → quoteFrom false 2 (u ++ z) ≡ Found q → ltb (2 + runLen isAscii (u ++ z)) q ≡ false → string m (a ∷ b ∷ (u ++ z)) ≡ front 3 (q + 1)
+unfolding string stringBy
+string-ends m a b u z q h l = rw (h, l)
+
+string-front : (m a b : ℕ) (u z : List ℕ) (k : ℕ) (x : Quote) → quoteFrom false 2 u ≡ x → stringBy m (2 + runLen isAscii u) x ≡ front k (length (a ∷ b ∷ u)) → string m (a ∷ b ∷ (u ++ z)) ≡ front k (length (a ∷ b ∷ u))
+unfolding stringBy
+string-front m a b u z k (Missing e) h g = let y : _≡_ {A = ℕ} 0 1 = cc in absurd (omega arith)
+string-front m a b u z k (Found q) h g = go (ltb (2 + runLen isAscii u) q) refl g
+  where
+    go : (c : Bool) → ltb (2 + runLen isAscii u) q ≡ c → cond c (fault 9 (2 + runLen isAscii u) (2 + runLen isAscii u + 1)) (front 3 (q + 1)) ≡ front k (length (a ∷ b ∷ u))
+        → string m (a ∷ b ∷ (u ++ z)) ≡ front k (length (a ∷ b ∷ u))
+    go true e f = let y : _≡_ {A = ℕ} 0 1 = cc in absurd (omega arith)
+    go false e f =
+        let n : q + 1 ≡ length (a ∷ b ∷ u) = cc in
+        let r : (2 ≤ q) × (q < 2 + length u) = subst (Within 2 (length u)) h (within u false 2) in
+        let i : suc (q - 2) ≡ length u = omega arith in
+        let t : take (suc (q - 2)) u ≡ u = rw i (take-length u) in
+        let d : quoteFrom false 2 (u ++ z) ≡ Found q = rw t at (quote-local u false 2 q h z) in
+        string-ends m a b u z q d (le-ltb (2 + runLen isAscii (u ++ z)) q (omega (arith, ltb-false (2 + runLen isAscii u) q e, run-grows isAscii u z))) ∙ f
+
+by-string : (a b : ℕ) (s : List ℕ) → opensString a b ≡ true → word (a ∷ b ∷ s) ≡ string (stringRefusal a) (a ∷ b ∷ s)
+unfolding word
+by-string a b s h = rw h
+
+string-by : (m a b : ℕ) (u : List ℕ) → string m (a ∷ b ∷ u) ≡ stringBy m (2 + runLen isAscii u) (quoteFrom false 2 u)
+unfolding string
+string-by m a b u = refl
+
+word-front : (a : ℕ) (w z : List ℕ) (k : ℕ) → Stops extends z → word (a ∷ w) ≡ front k (length (a ∷ w)) → word (a ∷ (w ++ z)) ≡ front k (length (a ∷ w))
+unfolding opensString
+word-front a w z k s h = go w (opensString a (getD w 0 0)) refl h
+  where
+    go : (w : List ℕ) (c : Bool) → opensString a (getD w 0 0) ≡ c → word (a ∷ w) ≡ front k (length (a ∷ w)) → word (a ∷ (w ++ z)) ≡ front k (length (a ∷ w))
+    go w false e h = by-name a (w ++ z) (opens-front a w z s e) ∙ name-front (a ∷ w) z (stops-less isName extends (λ b. or-left (isName b) (eqb b 34)) z s) ∙ sym (by-name a w e) ∙ h
+    go [] true e h = false-true _ (and-right (eqb a 120 || eqb a 98) false e)
+    go (b ∷ u) true e h =
+        by-string a b (u ++ z) e ∙ string-front (stringRefusal a) a b u z k (quoteFrom false 2 u) refl (sym (string-by (stringRefusal a) a b u) ∙ sym (by-string a b u e) ∙ h)
+
+-- the token at the front, where it begins with a letter or a digit
+find-front : (a : ℕ) (w z : List ℕ) (k : ℕ) → isName a ≡ true → Stops extends z → findToken (a ∷ w) ≡ front k (length (a ∷ w)) → findToken (a ∷ (w ++ z)) ≡ front k (length (a ∷ w))
+unfolding findToken isName
+find-front a w z k n s h = go (isDigit a) refl (isLetter a) refl
+  where
+    go : (b : Bool) → isDigit a ≡ b → (c : Bool) → isLetter a ≡ c → findToken (a ∷ (w ++ z)) ≡ front k (length (a ∷ w))
+    go true e c f = rw e (number-front (a ∷ w) z (stops-less isName extends (λ b. or-left (isName b) (eqb b 34)) z s) ∙ (rw e at h))
+    go false e true f = rw (e, f) (word-front a w z k s (rw (e, f) at h))
+    go false e false f = false-true _ (rw (e, f) at n)
+
+-- no gap stands before a letter or a digit
+no-part : (a : ℕ) (s : List ℕ) → isName a ≡ true → gap 0 0 (a ∷ s) .last ≡ clear 0 (a ∷ s)
+unfolding gap partAt isBlank isSpace slashes opens isName isLetter isDigit inRange
+no-part a s h = rw (differs isName 32 a refl h, differs isName 9 a refl h, differs isName 10 a refl h, differs isName 13 a refl h, differs isName 47 a refl h)
+
+-- w begins with a byte of a name
+abbrev pub Headed : List ℕ → Type 0
+Headed [] = ⊥
+Headed (a ∷ w) = isName a ≡ true
+
+-- w is a token of kind k, wherever nothing goes on with it
+abbrev pub Spelled : ℕ → List ℕ → Type 0
+Spelled k w = Headed w × ((z : List ℕ) → Stops extends z → lex 0 (w ++ z) ≡ tok k 0 (0 + length w) w z)
+
+word-spelled : (a : ℕ) (w : List ℕ) (k : ℕ) → isName a ≡ true → findToken (a ∷ w) ≡ front k (length (a ∷ w)) → Spelled k (a ∷ w)
+unfolding lex behindGap placed
+word-spelled a w k n h = (n, λ z s. rw (no-part a (w ++ z) n, find-front a w z k n s h, take-append-seam (a ∷ w) z, drop-append-seam (a ∷ w) z))
+
+-- the kinds of tokens that are words: identifiers, numbers, strings, `true` and `false`
+abbrev pub wordy : ℕ → Bool
+wordy k = (eqb k 4 || eqb k 1) || (eqb k 2 || (eqb k 3 || (eqb k 43 || eqb k 55)))
+
+abbrev pub Good : Scanned → Type 0
+Good (tok k s e w r) = wordy k ≡ true → Spelled k w
+Good (bad r) = Unit {0}
+
+-- no mark is a word
+abbrev all : (Entry → Bool) → List Entry → Bool
+all p [] = true
+all p (e ∷ es) = p e && all p es
+
+marks-not : all (λ e. not (wordy (e .kind))) marks ≡ true
+unfolding marks longMarks doubleMarks singleMarks
+marks-not = refl
+
+fit-not : (t : List Entry) (s : List ℕ) → all (λ e. not (wordy (e .kind))) t ≡ true → wordy (firstFit t s .kind) ≡ false
+unfolding firstFit
+fit-not [] s h = refl
+fit-not (e ∷ es) s h = go (begins (e .word) s) (fit-not es s (and-right (not (wordy (e .kind))) (all (λ e. not (wordy (e .kind))) es) h))
+  where
+    go : (b : Bool) → wordy (firstFit es s .kind) ≡ false → wordy (cond b (record { len = length (e .word); kind = e .kind }) (firstFit es s) .kind) ≡ false
+    go true i = not-true _ (and-left (not (wordy (e .kind))) (all (λ e. not (wordy (e .kind))) es) h)
+    go false i = i
+
+abbrev Unworded : Front → Type 0
+Unworded (front k n) = wordy k ≡ false
+Unworded (fault m i j) = Unit {0}
+
+mark-not : (s : List ℕ) → Unworded (mark (markOf s))
+unfolding mark
+mark-not s = go (eqb (markOf s .len) 0) (rw (mark-first s) (fit-not marks s marks-not))
+  where
+    go : (b : Bool) → wordy (markOf s .kind) ≡ false → Unworded (cond b (fault 5 0 0) (front (markOf s .kind) (markOf s .len)))
+    go true h = tt
+    go false h = h
+
+no-word : (a : ℕ) (s : List ℕ) → isName a ≡ false → Unworded (findToken (a ∷ s))
+unfolding findToken isName
+no-word a s h = rw (or-right (isLetter a) (isDigit a) h, or-left (isLetter a) (isDigit a) h) (mark-not (a ∷ s))
+
+found-good : (q a : ℕ) (s : List ℕ) (x : Front) (b : Bool) → isName a ≡ b → (b ≡ false → Unworded x) → Takes (length (a ∷ s)) x → Alone findToken (a ∷ s) x → Good (placed q (a ∷ s) x)
+unfolding placed
+found-good q a s (fault m i j) b e u t h = tt
+found-good q a s (front k zero) b e u t h = absurd (not-suc-le-zero (t .1))
+found-good q a s (front k (suc n)) true e u t h = λ _.
+    let l : length (take (suc n) (a ∷ s)) ≡ suc n = length-take-le (suc n) (a ∷ s) (t .2) in
+    word-spelled a (take n s) k e (h ∙ ap (front k) (sym l))
+found-good q a s (front k (suc n)) false e u t h = λ x. false-true _ (sym (u refl) ∙ x)
+
+behind-good : (e : End) → Good (behindGap e)
+unfolding behindGap placed findToken
+behind-good (clear q []) = λ x. false-true _ x
+behind-good (clear q (a ∷ s)) = found-good q a s (findToken (a ∷ s)) (isName a) refl (no-word a s) (find-takes a s) (find-alone a s)
+behind-good (broken o q) = tt
+
+pub lex-good : (s : List ℕ) → Good (lex 0 s)
+unfolding lex
+lex-good s = behind-good (gap 0 0 s .last)

@@ -1,0 +1,79 @@
+-- The words of demand 3 (docs/PROMISES.md), over the definitions that the contracts of the read and the display call cite.
+use mathlib.Core.Path.{_≡_}
+use mathlib.Core.List.{List, [], _∷_, _++_}
+use Prim.Native.Nat.{ℕ}
+use lib.ListN.{length, take, drop, getD}
+use Rattle.words.specs.Kinds.{EOF}
+use Rattle.tokens.specs.Answers.{token}
+use Rattle.tokens.specs.declared.Token.{Token as Answer}
+use Rattle.records.specs.Tree.{Tree, build}
+use Rattle.records.specs.Stored.{stored}
+use Rattle.sources.specs.Source.{Token, tokenOf}
+use Rattle.grammar.specs.Items.{Item, item, refused}
+use Rattle.calls.specs.Calls.{read, readBuffer, answered, readNumber, readValues, display, displayBuffer, displayed, displayNumber, displayValues}
+
+-- an item is a text, a start offset and an item kind; with it come the buffers lent to its read and to its display
+pub record Lent : Type 0 where
+  pub text : List ℕ
+  pub at : ℕ
+  pub kind : ℕ
+  pub forTree : List ℕ
+  pub forLine : List ℕ
+
+-- the answers of its read and of its display
+abbrev pub readOf : Lent → Item
+readOf i = read (i .kind) (i .text) (i .at) (length (i .forTree))
+
+abbrev pub displayOf : Lent → Item
+displayOf i = display (i .kind) (i .text) (i .at) (length (i .forLine))
+
+-- an answer that is no refusal
+abbrev pub NotRefused : Item → Type 0
+NotRefused (item t n) = Unit {0}
+NotRefused (refused r) = ⊥
+
+-- it is accepted where its read and its display, with the buffers lent, both are; its tree is t, and the token n follows. Its build is
+-- `build t`
+pub record Accepted (i : Lent) (t : Tree) (n : Token) : Type 0 where
+  pub isRead : readOf i ≡ item t n
+  pub isShown : NotRefused (displayOf i)
+
+-- the stored length that its read answers, and the line's length that its display answers
+abbrev pub treeLength : Lent → ℕ
+treeLength i = getD (readValues (answered (readOf i))) 0 0
+
+abbrev pub lineLength : Lent → ℕ
+lineLength i = getD (displayValues (displayed (displayOf i))) 0 0
+
+-- its line is the bytes that the display writes: so many of its buffer, from the first on
+abbrev pub lineOf : Lent → List ℕ
+lineOf i = take (lineLength i) (displayBuffer (i .kind) (i .text) (i .at) (i .forLine))
+
+-- reading a line back means that the line alone is the text, the offset 0 and the item kind the same; two buffers are lent for it
+abbrev pub lineBack : Lent → List ℕ → List ℕ → Lent
+lineBack i out lineOut = record { text = lineOf i; at = 0; kind = i .kind; forTree = out; forLine = lineOut }
+
+-- EOF at (n,n)
+abbrev pub eofAt : ℕ → Answer
+eofAt n = token EOF n n
+
+-- the line of i, whose tree is t, is read back as j: accepted to its last byte, since the token that follows is EOF at (n,n), n being the
+-- line's length; with the same build and the same line, the tree's records in front of the buffer, and with as much room taken by both
+pub record ReadBack (i : Lent) (t : Tree) (j : Lent) : Type 0 where
+  pub tree : Tree
+  pub next : Token
+  pub accepted : Accepted j tree next
+  pub atEnd : tokenOf next ≡ eofAt (length (lineOf i))
+  pub sameBuild : build tree ≡ build t
+  pub treeWritten : readBuffer (j .kind) (j .text) (j .at) (j .forTree) ≡ stored tree ++ drop (treeLength i) (j .forTree)
+  pub sameLine : lineOf j ≡ lineOf i
+  pub sameTreeLength : treeLength j ≡ treeLength i
+  pub sameLineLength : lineLength j ≡ lineLength i
+
+-- the same as the calls answer it: numbers 0, the lengths of i, EOF at (n,n), and the line in front of the buffer, whose other bytes stay
+pub record AnsweredBack (i j : Lent) : Type 0 where
+  pub readNumberIs : readNumber (answered (readOf j)) ≡ 0
+  pub readValuesAre : readValues (answered (readOf j)) ≡ treeLength i ∷ EOF ∷ lineLength i ∷ lineLength i ∷ 0 ∷ 0 ∷ []
+  pub displayNumberIs : displayNumber (displayed (displayOf j)) ≡ 0
+  pub displayValuesAre : displayValues (displayed (displayOf j)) ≡ lineLength i ∷ 0 ∷ 0 ∷ 0 ∷ 0 ∷ 0 ∷ []
+  pub displayWrites : displayBuffer (j .kind) (j .text) (j .at) (j .forLine) ≡ lineOf i ++ drop (lineLength i) (j .forLine)

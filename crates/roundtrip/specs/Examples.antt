@@ -1,0 +1,58 @@
+-- The examples P1 to P15: one list. Each entry has its name, the call that is made of a text from 0, and what the call must give. That it
+-- gives that is one lemma, `examples-hold` in proofs/Examples.
+use mathlib.Core.List.{List, [], _∷_, map}
+use Prim.Native.Nat.{ℕ}
+use Prim.Native.String.{String}
+use lib.ListN.{length}
+use Rattle.classes.specs.Bytes.{bytes}
+use Rattle.tokens.specs.Answers.{tokenNumber, tokenValues}
+use Rattle.tokens.specs.Calls.{nextToken}
+use Rattle.calls.specs.Calls.{treeLimit, read as readCall, readBuffer, answered, readNumber, readValues, display as displayCall, displayBuffer, displayed, displayNumber}
+
+-- by name and text: the token call's number and values; the read call's, for an item kind, with room for every answer; the bytes that a
+-- read, for an item kind, writes into a buffer of just their length, the tree; and those that a display writes, the line
+pub data Example : Type 0 where
+  token : String → List ℕ → ℕ → List ℕ → Example
+  read : String → ℕ → List ℕ → ℕ → List ℕ → Example
+  tree : String → ℕ → List ℕ → List ℕ → Example
+  line : String → ℕ → List ℕ → List ℕ → Example
+
+-- a call's number, and its values or the bytes of its buffer
+pub record Result : Type 0 where
+  pub number : ℕ
+  pub values : List ℕ
+
+abbrev pub expected : Example → Result
+expected (token p t n v) = record { number = n; values = v }
+expected (read p k t n v) = record { number = n; values = v }
+expected (tree p k t v) = record { number = 0; values = v }
+expected (line p k t v) = record { number = 0; values = v }
+
+unfoldable pub given : Example → Result
+given (token p t n v) = record { number = tokenNumber (nextToken t 0); values = tokenValues (nextToken t 0) }
+given (read p k t n v) = record { number = readNumber (answered (readCall k t 0 treeLimit)); values = readValues (answered (readCall k t 0 treeLimit)) }
+given (tree p k t v) = record { number = readNumber (answered (readCall k t 0 (length v))); values = readBuffer k t 0 (map (λ b. 255) v) }
+given (line p k t v) = record { number = displayNumber (displayed (displayCall k t 0 (length v))); values = displayBuffer k t 0 (map (λ b. 255) v) }
+
+-- six values of which the last two are 0, as in every answer here
+abbrev pub six : ℕ → ℕ → ℕ → ℕ → List ℕ
+six a b c d = a ∷ b ∷ c ∷ d ∷ 0 ∷ 0 ∷ []
+
+unfoldable pub examples : List Example
+examples =
+    token "P1" (bytes "") 0 (six 0 0 0 0)
+    ∷ token "P2" (bytes "0xu8") 0 (six 2 0 4 0)
+    ∷ token "P3" (bytes "0x") 0 (six 1 0 1 0)
+    ∷ token "P4" (bytes "&mut") 0 (six 8 0 1 0)
+    ∷ token "P5" (bytes "/**/a") 0 (six 4 4 5 0)
+    ∷ token "P6" (bytes "/*/") 6 (six 0 2 0 2)
+    ∷ token "P7" (bytes "/** /*") 6 (six 4 6 4 6)
+    ∷ token "P8" (bytes "b\"a\\\"c\"") 0 (six 3 0 7 0)
+    ∷ token "P9" (bytes "b\"a") 8 (six 0 3 0 3)
+    ∷ tree "P10" 3 (bytes "u8") (16 ∷ 0 ∷ 10 ∷ 0 ∷ 0 ∷ 0 ∷ 2 ∷ 0 ∷ 8 ∷ 0 ∷ 3 ∷ 0 ∷ 0 ∷ 0 ∷ 2 ∷ 0 ∷ [])
+    ∷ line "P11" 3 (bytes "|(|u8|u8)|u8") (bytes "|(|u8| u8)| u8")
+    ∷ read "P12" 3 (bytes "(u8") 12 (six 3 3 0 0)
+    ∷ read "P13" 1 (bytes "0x1") 10 (six 3 3 0 3)
+    ∷ line "P14" 4 (bytes "S{f}") (bytes "(S {f: f})")
+    ∷ read "P15" 3 (bytes "a<u8>=") 12 (six 4 4 1 1)
+    ∷ []

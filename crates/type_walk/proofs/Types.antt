@@ -1,0 +1,366 @@
+-- Types: what is laid down, and one law for each way through the code, over the reader of a type one level deeper.
+use mathlib.Core.Path.{_≡_, refl, ap, sym, _∙_, subst}
+use mathlib.Core.Bool.{Bool, true, false, cond}
+use mathlib.Core.List.{List, [], _++_, append-nil}
+use Prim.Native.Nat.{ℕ, suc, _-_, _<_, _≤_}
+use native.Mathlib.Omega.{arith}
+use borrow.Author.Tests.{eq-eqb, ne-eqb}
+use lib.Dec.{eqb}
+use lib.ListN.{length}
+use lib.Seq.{sets}
+use Rattle.classes.specs.Bytes.{bytes}
+use Rattle.words.specs.Kinds.{Amp, AmpMut, LParen, RParen, Less, Greater, Pipe}
+use Rattle.tokens.specs.Refusals.{TooDeep}
+use Rattle.tokens.specs.Answers.{refusal}
+use Rattle.tokens.specs.Calls.{nextToken}
+use Rattle.tokens.specs.declared.Refusal.{Refusal}
+use Rattle.tokens.specs.declared.Token.{Token as Answer}
+use Rattle.tokens.specs.declared.Lexed.the-variants.{Found, Refused as Bad}
+use Rattle.records.specs.Kinds.{RecType, RecRef, RecRefMut, RecFunction}
+use Rattle.records.specs.Tree.{Tree, node, Trees, none, more, behind}
+use Rattle.sources.specs.Source.{Source, opened, Token, start, tok, lex}
+use Rattle.answers.specs.Reading.{Ans, ok, no, then, look, when, Reader, listBehind}
+use Rattle.grammar.specs.Names.{chain}
+use Rattle.grammar.specs.Types.{spanned, bracketed, brackets, reference, function, withArguments, named, typeOver, readType}
+use Rattle.forms.specs.Forms.{mark, laid, headed, listed, inBars, inAngles}
+use Rattle.forms.specs.code.Spots.{last, moved, inside, sealed, Placed}
+use Rattle.forms.specs.declared.Spot.{Spot}
+use Rattle.forms.proofs.Placing.{placed-long, placed-as, placed-both, placed-front, placed-headed}
+use Rattle.forms.proofs.Constructs.{laid-ref, laid-ref-mut, laid-unit, laid-brackets, laid-tuple, laid-function, laid-type}
+use Rattle.parts.specs.declared.Part.{Part}
+use Rattle.parts.specs.declared.Parsed.{Parsed}
+use Rattle.parts.specs.declared.Parsed.the-variants.{Read, Refused}
+use Rattle.parts.specs.code.Meets.{Fits, held, refusedToken, Refuses, Had, Reads}
+use Rattle.parts.proofs.Held.{Next, next-found, look-found, look-refused}
+use Rattle.parts.proofs.Contracts.{reads-no, reads-refused, reads-built, reads-as, reads-had, reads-goes, reads-not, refuses-ok, refuses-look}
+use Rattle.lists.specs.declared.Items.{Items}
+use Rattle.lists.specs.declared.Listed.{Listed}
+use Rattle.lists.specs.declared.Listed.the-variants.{All, Refused as Broken}
+use Rattle.lists.specs.code.Lists.{countOf, HadAll, ReadsAll}
+use Rattle.lists.proofs.Laying.{bars-laid}
+use Rattle.lists.proofs.Contracts.{all-had, all-goes, all-not}
+use Rattle.chains.proofs.Names.{placed-parted, when-true, when-false, token-refused}
+use Rattle.type_walk.specs.code.Types.{bracketsKind, Angled}
+
+-- what is read, by what its parts are
+module _ (item : Reader) (a : Token) where
+  function-of : (xs : Trees) (u : Source) (b : Token) → listBehind item Pipe a ≡ ok xs u → lex u ≡ tok b → function item a ≡ then (item b) (λ x v. ok (spanned RecFunction a v (behind xs x)) v)
+  unfolding function then look
+  function-of xs u b e h = rw (e, h)
+
+  named-of : (c : Tree) (u : Source) (o : Token) → chain a ≡ ok c u → lex u ≡ tok o
+      → named item a ≡ when (eqb (o .kind) Less) (λ _. then (listBehind item Greater o) λ xs v. ok (spanned RecType a v (more c xs)) v) (λ _. ok (spanned RecType a u (more c none)) u)
+  unfolding named withArguments then look
+  named-of c u o e h = rw (e, h)
+
+-- what is laid down
+module _ (f : ℕ) where
+  bracketed-laid : (a : Token) (u : Source) (ts : Trees) → laid f (bracketed a u ts) ≡ headed f (bracketsKind (countOf ts)) (start a) (u .at) (mark f (bytes "(") ++ (listed f ts ++ mark f (bytes ")")))
+  unfolding bracketed countOf
+  bracketed-laid a u none = laid-unit f (start a) (u .at)
+  bracketed-laid a u (more x none) = laid-brackets f (start a) (u .at) (more x none)
+  bracketed-laid a u (more x (more y xs)) = laid-tuple f (start a) (u .at) (more x (more y xs))
+
+  reference-laid : (b : Bool) (st e : ℕ) (x : Tree) → laid f (node (cond b RecRefMut RecRef) st e (more x none)) ≡ headed f (cond b RecRefMut RecRef) st e (mark f (cond b (bytes "&mut ") (bytes "& ")) ++ laid f x)
+  reference-laid true st e x = laid-ref-mut f st e x
+  reference-laid false st e x = laid-ref f st e x
+
+  -- arguments, by whether there are any
+  module _ (l k m : List ℕ) (s j b r : Spot) (h : length l ≤ last) (g : j ≡ moved s (length (mark f (bytes "<")))) where
+    angled-none : Placed l j [] b k → Angled f true k s b r m → Placed l s [] r m
+    angled-none y d = record { ends = d .ends; holds = d .holds ∙ y .holds }
+
+    angled-some : (xs : List ℕ) → Placed l j xs b k → Angled f false k s b r m → Placed l s (mark f (bytes "<") ++ (xs ++ mark f (bytes ">"))) r m
+    angled-some xs y d =
+        let k₂ = sets k (b .pos) (mark f (bytes ">")) in
+        let z : Placed k b (mark f (bytes ">")) r k₂ = record { ends = d .ends; holds = refl } in
+        placed-front l k₂ m (mark f (bytes "<")) (xs ++ mark f (bytes ">")) s r h
+        (subst (λ (q : Spot). Placed l q (xs ++ mark f (bytes ">")) r k₂) g (placed-both l k k₂ xs (mark f (bytes ">")) j b r h y z)) (d .holds)
+
+    angled-placed : (ts : Trees) → Placed l j (listed f ts) b k → Angled f (eqb (countOf ts) 0) k s b r m → Placed l s (inAngles f ts) r m
+    unfolding inAngles listed countOf
+    angled-placed none y d = angled-none y d
+    angled-placed (more x none) y d = angled-some (listed f (more x none)) y d
+    angled-placed (more x (more z ts)) y d = angled-some (listed f (more x (more z ts))) y d
+
+-- the marks, as the code writes them
+module _ (f : ℕ) (empty : Bool) (l : List ℕ) (s b r : Spot) where
+  pub angled-not : empty ≡ true → r ≡ moved s 0 → Angled f empty l s b r l
+  angled-not h e = rw h (record { ends = e; holds = refl })
+
+  pub angled-both : (k m : List ℕ) → empty ≡ false → Placed l b (mark f (bytes ">")) r k → m ≡ sets k (s .pos) (mark f (bytes "<")) → Angled f empty l s b r m
+  angled-both k m h y e = rw h (record { ends = y .ends; holds = e ∙ ap (λ (x : List ℕ). sets x (s .pos) (mark f (bytes "<"))) (y .holds) })
+
+module _ (f : ℕ) (text : List ℕ) (item : Reader) (a : Answer) (s : Spot) (l : List ℕ) where
+  abbrev Is : Ans Tree → Parsed → List ℕ → Type 0
+  Is x r m = Reads f text (Fits text a) x (a .end) s l r m
+
+  -- brackets
+  module _ (p : Spot) (m₁ m₂ : List ℕ) (t : Listed) (w : ReadsAll f text (Fits text a) (listBehind item RParen (held text a)) (a .end) p m₁ t m₂) where
+    abbrev types : Ans Trees
+    types = listBehind item RParen (held text a)
+
+    pub brackets-refused : (r : Refusal) → t ≡ Broken r → Is (brackets item (held text a)) (Refused r) m₂
+    unfolding brackets
+    brackets-refused r e =
+        reads-refused f text (Fits text a) (brackets item (held text a)) (a .end) s l m₂ r
+        (λ fit. refuses-ok types r (λ xs u. bracketed (held text a) u xs) (all-not f text (Fits text a) types (a .end) p m₁ m₂ t w r e fit))
+
+    module _ (n : Items) (e : t ≡ All n) (h : length l ≤ last) (i : Spot) (g : i ≡ inside f s) (y : Placed l i (mark f (bytes "(")) p m₁) where
+      pub brackets-read : (to : Spot) (m₃ m : List ℕ) (k : ℕ) → Placed m₂ (n .to) (mark f (bytes ")")) to m₃ → k ≡ bracketsKind (n .count) → m ≡ sealed f k (a .start) (n .end) s to m₃
+          → Is (brackets item (held text a)) (Read (record { to = to; end = n .end; next = n .next })) m
+      unfolding brackets then
+      brackets-read to m₃ m k v c d =
+          let goes = all-goes f text (Fits text a) types (a .end) p m₁ m₂ t w n e in
+          reads-built f text (Fits text a) (brackets item (held text a)) (a .end) s l m (record { to = to; end = n .end; next = n .next }) built (goes .0) (goes .1)
+        where
+          built : Fits text a → Had f text (brackets item (held text a)) s l (record { to = to; end = n .end; next = n .next }) m
+          built fit =
+              let z = all-had f text (Fits text a) types (a .end) p m₁ m₂ t w n e fit in
+              let what = bracketed (held text a) (opened text (n .end)) (z .what) in
+              let same = ap (λ (x : ℕ). headed f x (a .start) (n .end) (mark f (bytes "(") ++ (listed f (z .what) ++ mark f (bytes ")")))) (c ∙ ap bracketsKind (z .counts)) in
+              record {
+                what = what;
+                is = ap (λ (x : Ans Trees). then x (λ xs u. ok (bracketed (held text a) u xs) u)) (z .is);
+                bytes =
+                    placed-as l m _ (laid f what) s to (same ∙ sym (bracketed-laid f (held text a) (opened text (n .end)) (z .what)))
+                    (placed-parted f k (a .start) (n .end) l m₁ m₂ m₃ m (mark f (bytes "(")) (listed f (z .what)) (mark f (bytes ")")) s i p (n .to) to h g y (z .bytes) v d);
+              }
+
+  -- references
+  module _ (b : Bool) where
+    abbrev refer : Ans Tree
+    refer = reference item (cond b RecRefMut RecRef) (held text a)
+
+    pub reference-bad : (m : List ℕ) (r : Refusal) → nextToken text (a .end) ≡ Bad r → Is refer (Refused r) m
+    unfolding reference
+    reference-bad m r h = reads-no f text (Fits text a) refer (a .end) s l m r (λ fit. look-refused text a fit _ r h)
+
+    module _ (c : Answer) (h : nextToken text (a .end) ≡ Found c) (q : Spot) (m₁ m₂ : List ℕ) (t : Parsed) (w : Reads f text (Fits text c) (item (held text c)) (c .end) q m₁ t m₂) where
+      abbrev next : Next text (a .end) c
+      next = next-found text (a .end) c h
+
+      refer-is : Fits text a → refer ≡ then (item (held text c)) (λ x u. ok (spanned (cond b RecRefMut RecRef) (held text a) u (more x none)) u)
+      unfolding reference
+      refer-is fit = look-found text a fit _ c h
+
+      pub reference-refused : (r : Refusal) → t ≡ Refused r → Is refer (Refused r) m₂
+      reference-refused r e =
+          reads-refused f text (Fits text a) refer (a .end) s l m₂ r
+          (λ fit. subst (λ (x : Ans Tree). Refuses x r) (sym (refer-is fit))
+          (refuses-ok (item (held text c)) r (λ x u. spanned (cond b RecRefMut RecRef) (held text a) u (more x none)) (reads-not f text (Fits text c) (item (held text c)) (c .end) q m₁ m₂ t w r e (next .fits))))
+
+      pub reference-read : (p : Part) → t ≡ Read p → length l ≤ last → (i : Spot) → i ≡ inside f s → Placed l i (mark f (cond b (bytes "&mut ") (bytes "& "))) q m₁ → (m : List ℕ) (k : ℕ) → k ≡ cond b RecRefMut RecRef
+          → m ≡ sealed f k (a .start) (p .end) s (p .to) m₂ → Is refer (Read p) m
+      unfolding then
+      reference-read p e g i z y m k c₁ d =
+          let v = reads-had f text (Fits text c) (item (held text c)) (c .end) q m₁ m₂ t w p e (next .fits) in
+          let goes = reads-goes f text (Fits text c) (item (held text c)) (c .end) q m₁ m₂ t w p e in
+          let marks = mark f (cond b (bytes "&mut ") (bytes "& ")) in
+          let what = node (cond b RecRefMut RecRef) (a .start) (p .end) (more (v .what) none) in
+          let body = placed-both l m₁ m₂ marks (laid f (v .what)) i q (p .to) g y (v .bytes) in
+          let all = placed-headed f k (a .start) (p .end) l m₂ m (marks ++ laid f (v .what)) s (p .to) g (subst (λ (x : Spot). Placed l x (marks ++ laid f (v .what)) (p .to) m₂) z body) d in
+          reads-built f text (Fits text a) refer (a .end) s l m p
+          (λ fit. record {
+            what = what;
+            is = refer-is fit ∙ ap (λ (x : Ans Tree). then x (λ x u. ok (spanned (cond b RecRefMut RecRef) (held text a) u (more x none)) u)) (v .is);
+            bytes = placed-as l m _ (laid f what) s (p .to) (ap (λ (x : ℕ). headed f x (a .start) (p .end) (marks ++ laid f (v .what))) c₁ ∙ sym (reference-laid f b (a .start) (p .end) (v .what))) all;
+          })
+          (omega (arith, next .from, next .fits .1, goes .0)) (goes .1)
+
+  -- functions
+  module _ (p : Spot) (m₁ m₂ : List ℕ) (t : Listed) (w : ReadsAll f text (Fits text a) (listBehind item Pipe (held text a)) (a .end) p m₁ t m₂) where
+    abbrev arguments : Ans Trees
+    arguments = listBehind item Pipe (held text a)
+
+    abbrev result : Trees → Tree → Source → Ans Tree
+    result xs x u = ok (spanned RecFunction (held text a) u (behind xs x)) u
+
+    pub function-refused : (r : Refusal) → t ≡ Broken r → Is (function item (held text a)) (Refused r) m₂
+    unfolding function
+    function-refused r e =
+        reads-no f text (Fits text a) (function item (held text a)) (a .end) s l m₂ r
+        (λ fit. refuses-look arguments r _ (all-not f text (Fits text a) arguments (a .end) p m₁ m₂ t w r e fit))
+
+    module _ (n : Items) (e : t ≡ All n) (d : Spot) (m₄ m₅ : List ℕ) (x : Parsed) (v : Reads f text (Fits text (n .next)) (item (held text (n .next))) (n .next .end) d m₄ x m₅) where
+      abbrev goes : (a .end ≤ n .end) × (nextToken text (n .end) ≡ Found (n .next))
+      goes = all-goes f text (Fits text a) arguments (a .end) p m₁ m₂ t w n e
+
+      abbrev next-one : Next text (n .end) (n .next)
+      next-one = next-found text (n .end) (n .next) (goes .1)
+
+      abbrev had-all : Fits text a → HadAll f text arguments p m₁ n m₂
+      had-all fit = all-had f text (Fits text a) arguments (a .end) p m₁ m₂ t w n e fit
+
+      function-is : (fit : Fits text a) → function item (held text a) ≡ then (item (held text (n .next))) (result (had-all fit .what))
+      function-is fit = function-of item (held text a) (had-all fit .what) (opened text (n .end)) (held text (n .next)) (had-all fit .is) (next-one .is)
+
+      pub result-refused : (r : Refusal) → x ≡ Refused r → Is (function item (held text a)) (Refused r) m₅
+      result-refused r z =
+          reads-refused f text (Fits text a) (function item (held text a)) (a .end) s l m₅ r
+          (λ fit. subst (λ (y : Ans Tree). Refuses y r) (sym (function-is fit))
+          (refuses-ok (item (held text (n .next))) r (λ y u. spanned RecFunction (held text a) u (behind (had-all fit .what) y))
+          (reads-not f text (Fits text (n .next)) (item (held text (n .next))) (n .next .end) d m₄ m₅ x v r z (next-one .fits))))
+
+      pub function-read : (y : Part) → x ≡ Read y → length l ≤ last → (i c : Spot) (m₃ : List ℕ) → i ≡ inside f s → Placed l i (mark f (bytes "|")) p m₁
+          → Placed m₂ (n .to) (mark f (cond (eqb (n .count) 0) (bytes " |") (bytes "|"))) c m₃ → Placed m₃ c (mark f (bytes " ")) d m₄ → (m : List ℕ) → m ≡ sealed f RecFunction (a .start) (y .end) s (y .to) m₅
+          → Is (function item (held text a)) (Read y) m
+      unfolding then
+      function-read y z h i c m₃ g bar close blank m seal =
+          let had = reads-had f text (Fits text (n .next)) (item (held text (n .next))) (n .next .end) d m₄ m₅ x v y z (next-one .fits) in
+          let on = reads-goes f text (Fits text (n .next)) (item (held text (n .next))) (n .next .end) d m₄ m₅ x v y z in
+          reads-built f text (Fits text a) (function item (held text a)) (a .end) s l m y
+          (λ fit.
+          let all = had-all fit in
+          let end = mark f (cond (eqb (n .count) 0) (bytes " |") (bytes "|")) in
+          let what = node RecFunction (a .start) (y .end) (behind (all .what) (had .what)) in
+          let i₁ = placed-long l m₁ (mark f (bytes "|")) i p bar in
+          let items = placed-both m₁ m₂ m₃ (listed f (all .what)) end p (n .to) c (omega (arith, h, i₁)) (all .bytes) close in
+          let named : mark f (bytes "|") ++ (listed f (all .what) ++ end) ≡ inBars f (all .what) = ap (λ (k : ℕ). mark f (bytes "|") ++ (listed f (all .what) ++ mark f (cond (eqb k 0) (bytes " |") (bytes "|")))) (all .counts) ∙ sym (bars-laid f (all .what)) in
+          let bars = placed-as l m₃ _ (inBars f (all .what)) i c named (placed-both l m₁ m₃ (mark f (bytes "|")) (listed f (all .what) ++ end) i p c h bar items) in
+          record {
+            what = what;
+            is = function-is fit ∙ ap (λ (q : Ans Tree). then q (result (all .what))) (had .is);
+            bytes =
+                placed-as l m _ (laid f what) s (y .to) (sym (laid-function f (a .start) (y .end) (all .what) (had .what)))
+                (placed-parted f RecFunction (a .start) (y .end) l m₃ m₄ m₅ m (inBars f (all .what)) (mark f (bytes " ")) (laid f (had .what)) s i c d (y .to) h g bars blank (had .bytes) seal);
+          })
+          (omega (arith, goes .0, next-one .from, next-one .fits .1, on .0)) (on .1)
+
+  -- names
+  module _ (i : Spot) (m₁ : List ℕ) (t : Parsed) (w : Reads f text (Fits text a) (chain (held text a)) (a .end) i l t m₁) where
+    pub named-refused : (r : Refusal) → t ≡ Refused r → Is (named item (held text a)) (Refused r) m₁
+    unfolding named withArguments
+    named-refused r e =
+        reads-no f text (Fits text a) (named item (held text a)) (a .end) s l m₁ r
+        (λ fit. refuses-look (chain (held text a)) r _ (reads-not f text (Fits text a) (chain (held text a)) (a .end) i l m₁ t w r e fit))
+
+    module _ (p : Part) (e : t ≡ Read p) where
+      abbrev on : (a .end ≤ p .end) × (nextToken text (p .end) ≡ Found (p .next))
+      on = reads-goes f text (Fits text a) (chain (held text a)) (a .end) i l m₁ t w p e
+
+      abbrev after-name : Next text (p .end) (p .next)
+      after-name = next-found text (p .end) (p .next) (on .1)
+
+      abbrev name : Fits text a → Had f text (chain (held text a)) i l p m₁
+      name fit = reads-had f text (Fits text a) (chain (held text a)) (a .end) i l m₁ t w p e fit
+
+      abbrev argued : Ans Trees
+      argued = listBehind item Greater (held text (p .next))
+
+      named-is : (fit : Fits text a) → named item (held text a)
+          ≡ when (eqb (p .next .kind) Less) (λ _. then argued λ xs v. ok (spanned RecType (held text a) v (more (name fit .what) xs)) v) (λ _. ok (spanned RecType (held text a) (opened text (p .end)) (more (name fit .what) none)) (opened text (p .end)))
+      named-is fit = named-of item (held text a) (name fit .what) (opened text (p .end)) (held text (p .next)) (name fit .is) (after-name .is)
+
+      pub named-alone : (p .next .kind ≡ Less → ⊥) → length l ≤ last → i ≡ inside f s → (m : List ℕ) → m ≡ sealed f RecType (a .start) (p .end) s (p .to) m₁ → Is (named item (held text a)) (Read p) m
+      unfolding inAngles
+      named-alone k h g m d =
+          reads-built f text (Fits text a) (named item (held text a)) (a .end) s l m p
+          (λ fit.
+          let c = name fit in
+          let what = node RecType (a .start) (p .end) (more (c .what) none) in
+          record {
+            what = what;
+            is = named-is fit ∙ when-false (eqb (p .next .kind) Less) _ _ (ne-eqb (p .next .kind) Less k);
+            bytes =
+                placed-as l m _ (laid f what) s (p .to) (ap (headed f RecType (a .start) (p .end)) (sym (append-nil (laid f (c .what)))) ∙ sym (laid-type f (a .start) (p .end) (c .what) none))
+                (placed-headed f RecType (a .start) (p .end) l m₁ m (laid f (c .what)) s (p .to) h (subst (λ (x : Spot). Placed l x (laid f (c .what)) (p .to) m₁) g (c .bytes)) d);
+          })
+          (on .0) (on .1)
+
+      module _ (k : p .next .kind ≡ Less) (j : Spot) (m₂ : List ℕ) (x : Listed) (v : ReadsAll f text (Fits text (p .next)) argued (p .next .end) j m₁ x m₂) where
+        argued-is : (fit : Fits text a) → named item (held text a) ≡ then argued (λ xs u. ok (spanned RecType (held text a) u (more (name fit .what) xs)) u)
+        argued-is fit = named-is fit ∙ when-true (eqb (p .next .kind) Less) _ _ (eq-eqb (p .next .kind) Less k)
+
+        pub arguments-refused : (r : Refusal) → x ≡ Broken r → Is (named item (held text a)) (Refused r) m₂
+        arguments-refused r z =
+            reads-refused f text (Fits text a) (named item (held text a)) (a .end) s l m₂ r
+            (λ fit. subst (λ (y : Ans Tree). Refuses y r) (sym (argued-is fit))
+            (refuses-ok argued r (λ xs u. spanned RecType (held text a) u (more (name fit .what) xs)) (all-not f text (Fits text (p .next)) argued (p .next .end) j m₁ m₂ x v r z (after-name .fits))))
+
+        pub named-read : (n : Items) → x ≡ All n → length l ≤ last → i ≡ inside f s → j ≡ moved (p .to) (length (mark f (bytes "<"))) → (to : Spot) (m₃ m : List ℕ) → Angled f (eqb (n .count) 0) m₂ (p .to) (n .to) to m₃
+            → m ≡ sealed f RecType (a .start) (n .end) s to m₃ → Is (named item (held text a)) (Read (record { to = to; end = n .end; next = n .next })) m
+        unfolding then
+        named-read n z h g q to m₃ m y d =
+            let all = all-had f text (Fits text (p .next)) argued (p .next .end) j m₁ m₂ x v n z (after-name .fits) in
+            let goes = all-goes f text (Fits text (p .next)) argued (p .next .end) j m₁ m₂ x v n z in
+            reads-built f text (Fits text a) (named item (held text a)) (a .end) s l m (record { to = to; end = n .end; next = n .next })
+            (λ fit.
+            let c = name fit in
+            let what = node RecType (a .start) (n .end) (more (c .what) (all .what)) in
+            let i₁ = placed-long l m₁ (laid f (c .what)) i (p .to) (c .bytes) in
+            let angles = angled-placed f m₁ m₂ m₃ (p .to) j (n .to) to (omega (arith, h, i₁)) q (all .what) (all .bytes) (subst (λ (b : ℕ). Angled f (eqb b 0) m₂ (p .to) (n .to) to m₃) (all .counts) y) in
+            let body = placed-both l m₁ m₃ (laid f (c .what)) (inAngles f (all .what)) i (p .to) to h (c .bytes) angles in
+            record {
+              what = what;
+              is = argued-is fit ∙ ap (λ (b : Ans Trees). then b (λ xs u. ok (spanned RecType (held text a) u (more (c .what) xs)) u)) (all .is);
+              bytes =
+                  placed-as l m _ (laid f what) s to (sym (laid-type f (a .start) (n .end) (c .what) (all .what)))
+                  (placed-headed f RecType (a .start) (n .end) l m₃ m (laid f (c .what) ++ inAngles f (all .what)) s to h (subst (λ (b : Spot). Placed l b (laid f (c .what) ++ inAngles f (all .what)) to m₃) g body) d);
+            })
+            (omega (arith, on .0, after-name .from, after-name .fits .1, goes .0)) (goes .1)
+
+-- a type by its first token
+module _ (item : Reader) (t : Token) where
+  over-brackets : t .kind ≡ LParen → typeOver item t ≡ brackets item t
+  unfolding typeOver
+  over-brackets e = when-true (eqb (t .kind) LParen) _ _ (eq-eqb _ _ e)
+
+  module _ (d : (t .kind ≡ LParen → ⊥)) where
+    over-ref : t .kind ≡ Amp → typeOver item t ≡ reference item RecRef t
+    unfolding typeOver
+    over-ref e = when-false (eqb (t .kind) LParen) _ _ (ne-eqb _ _ d) ∙ when-true (eqb (t .kind) Amp) _ _ (eq-eqb _ _ e)
+
+    module _ (g : (t .kind ≡ Amp → ⊥)) where
+      over-ref-mut : t .kind ≡ AmpMut → typeOver item t ≡ reference item RecRefMut t
+      unfolding typeOver
+      over-ref-mut e = when-false (eqb (t .kind) LParen) _ _ (ne-eqb _ _ d) ∙ when-false (eqb (t .kind) Amp) _ _ (ne-eqb _ _ g) ∙ when-true (eqb (t .kind) AmpMut) _ _ (eq-eqb _ _ e)
+
+      module _ (h : (t .kind ≡ AmpMut → ⊥)) where
+        over-function : t .kind ≡ Pipe → typeOver item t ≡ function item t
+        unfolding typeOver
+        over-function e =
+            when-false (eqb (t .kind) LParen) _ _ (ne-eqb _ _ d) ∙ when-false (eqb (t .kind) Amp) _ _ (ne-eqb _ _ g) ∙ when-false (eqb (t .kind) AmpMut) _ _ (ne-eqb _ _ h)
+            ∙ when-true (eqb (t .kind) Pipe) _ _ (eq-eqb _ _ e)
+
+        over-named : (t .kind ≡ Pipe → ⊥) → typeOver item t ≡ named item t
+        unfolding typeOver
+        over-named e =
+            when-false (eqb (t .kind) LParen) _ _ (ne-eqb _ _ d) ∙ when-false (eqb (t .kind) Amp) _ _ (ne-eqb _ _ g) ∙ when-false (eqb (t .kind) AmpMut) _ _ (ne-eqb _ _ h)
+            ∙ when-false (eqb (t .kind) Pipe) _ _ (ne-eqb _ _ e)
+
+module _ (f : ℕ) (text : List ℕ) (left : ℕ) (a : Answer) (s : Spot) (l m : List ℕ) (r : Parsed) where
+  abbrev Whole : Ans Tree → Type 0
+  Whole x = Reads f text (Fits text a) x (a .end) s l r m
+
+  pub type-deep : left ≡ 0 → r ≡ refusedToken TooDeep a → Whole (readType left (held text a))
+  unfolding readType
+  type-deep h e =
+      subst (λ (y : Parsed). Reads f text (Fits text a) (readType left (held text a)) (a .end) s l y m) (sym e)
+      (reads-no f text (Fits text a) (readType left (held text a)) (a .end) s l m (refusal TooDeep (a .start) (a .end)) (λ fit. rw h (ap no (token-refused text TooDeep a fit))))
+
+  module _ (h : 0 < left) where
+    level : readType left (held text a) ≡ typeOver (readType (left - 1)) (held text a)
+    unfolding readType
+    level = let e : left ≡ suc (left - 1) = omega (arith, h) in ap (λ (n : ℕ). readType n (held text a)) e
+
+    whole-as : (x : Ans Tree) → typeOver (readType (left - 1)) (held text a) ≡ x → Whole x → Whole (readType left (held text a))
+    whole-as x e d = reads-as f text (Fits text a) (Fits text a) (readType left (held text a)) x (a .end) (a .end) s l m r (omega arith) (λ fit. fit) (λ fit. level ∙ e) d
+
+    pub type-brackets : a .kind ≡ LParen → Whole (brackets (readType (left - 1)) (held text a)) → Whole (readType left (held text a))
+    type-brackets e d = whole-as (brackets (readType (left - 1)) (held text a)) (over-brackets (readType (left - 1)) (held text a) e) d
+
+    module _ (k₁ : (a .kind ≡ LParen → ⊥)) where
+      pub type-ref : a .kind ≡ Amp → Whole (reference (readType (left - 1)) RecRef (held text a)) → Whole (readType left (held text a))
+      type-ref e d = whole-as (reference (readType (left - 1)) RecRef (held text a)) (over-ref (readType (left - 1)) (held text a) k₁ e) d
+
+      module _ (k₂ : (a .kind ≡ Amp → ⊥)) where
+        pub type-ref-mut : a .kind ≡ AmpMut → Whole (reference (readType (left - 1)) RecRefMut (held text a)) → Whole (readType left (held text a))
+        type-ref-mut e d = whole-as (reference (readType (left - 1)) RecRefMut (held text a)) (over-ref-mut (readType (left - 1)) (held text a) k₁ k₂ e) d
+
+        module _ (k₃ : (a .kind ≡ AmpMut → ⊥)) where
+          pub type-function : a .kind ≡ Pipe → Whole (function (readType (left - 1)) (held text a)) → Whole (readType left (held text a))
+          type-function e d = whole-as (function (readType (left - 1)) (held text a)) (over-function (readType (left - 1)) (held text a) k₁ k₂ k₃ e) d
+
+          pub type-named : (a .kind ≡ Pipe → ⊥) → Whole (named (readType (left - 1)) (held text a)) → Whole (readType left (held text a))
+          type-named e d = whole-as (named (readType (left - 1)) (held text a)) (over-named (readType (left - 1)) (held text a) k₁ k₂ k₃ e) d

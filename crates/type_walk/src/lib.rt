@@ -1,0 +1,260 @@
+// Types and lists of types, laid down in the form that the caller asks for.
+ghost use mathlib.Core.Path.{_≡_};
+ghost use mathlib.Core.Bool.{cond};
+ghost use Rattle.words.specs.Kinds.{Greater};
+ghost use Rattle.tokens.specs.Refusals.{TooDeep};
+ghost use Rattle.records.specs.Kinds.{RecRef, RecRefMut};
+ghost use Rattle.answers.specs.Reading.{listBehind};
+ghost use Rattle.grammar.specs.Types.{brackets, reference, function, named, readType};
+ghost use Rattle.parts.specs.code.Meets.{Fits, held, refusedToken, Reads};
+ghost use Rattle.lists.specs.code.Lists.{ReadsAll};
+ghost use Rattle.type_walk.specs.code.Types.{Angled, bracketsKind};
+use forms::Spot;
+use lists::Listed;
+use lists::Step;
+use lists::Turn;
+use parts::Parsed;
+use parts::Part;
+use parts::Way;
+use records::kinds::REC_BRACKETS;
+use records::kinds::REC_FUNCTION;
+use records::kinds::REC_REF;
+use records::kinds::REC_REF_MUT;
+use records::kinds::REC_TUPLE;
+use records::kinds::REC_TYPE;
+use records::kinds::REC_UNIT;
+use tokens::Lexed;
+use tokens::Token;
+use tokens::refusals::TOO_DEEP;
+use words::kinds::AMP;
+use words::kinds::AMP_MUT;
+use words::kinds::GREATER;
+use words::kinds::L_PAREN;
+use words::kinds::LESS;
+use words::kinds::PIPE;
+use words::kinds::R_PAREN;
+
+// The refusal of the token t, at which the levels end.
+pub fn too_deep(t: Token) -> Parsed
+    ensures { λ r. ⌜ r ≡ refusedToken TooDeep t ⌝ }
+{
+    Parsed::Refused(tokens::refuse(TOO_DEEP, t.start, t.end))
+}
+
+// The kind of a reference.
+fn reference_kind(mutable: bool) -> usize
+    ensures { λ r. ⌜ r ≡ cond mutable RecRefMut RecRef ⌝ }
+{
+    if mutable {
+        return REC_REF_MUT;
+    }
+    REC_REF
+}
+
+// The kind of brackets by how many types stand in them: the unit, one type, or a tuple.
+fn brackets_kind(count: usize) -> usize
+    ensures { λ r. ⌜ r ≡ bracketsKind count ⌝ }
+{
+    if count == 0 {
+        return REC_UNIT;
+    }
+    if count == 1 {
+        return REC_BRACKETS;
+    }
+    REC_TUPLE
+}
+
+// Closes the arguments of a type, whose bytes end at b, and whose `<` belongs at s: where there are none,
+// nothing is written.
+fn close_angles(form: u8, none: bool, out: &mut [u8], s: Spot, b: Spot) -> Spot
+    ensures { λ r. ⌜ Angled form none (now (out .entry)) s b r (now (out .exit)) ⌝ }
+{
+    if none {
+        return forms::move_by(s, 0);
+    }
+    let r = forms::put_mark(form, b'>', out, b);
+    forms::put_angle(form, out, s);
+    r
+}
+
+// The type whose first token is a; the levels that are left count its own.
+pub fn parse_type(w: Way, text: &[u8], a: Token, out: &mut [u8], s: Spot) -> Parsed
+    ensures { λ r. ⌜ Reads (w .form) (now (text .entry)) (Fits (now (text .entry)) a) (readType (w .left) (held (now (text .entry)) a)) (a .end) s (now (out .entry)) r (now (out .exit)) ⌝ }
+{
+    if w.left == 0 {
+        return too_deep(a);
+    }
+    let deeper = Way {
+        form: w.form,
+        left: w.left - 1,
+    };
+    if a.kind == L_PAREN {
+        return brackets_at(deeper, text, a, out, s);
+    }
+    if a.kind == AMP {
+        return reference_at(deeper, false, text, a, out, s);
+    }
+    if a.kind == AMP_MUT {
+        return reference_at(deeper, true, text, a, out, s);
+    }
+    if a.kind == PIPE {
+        return function_at(deeper, text, a, out, s);
+    }
+    named_at(deeper, text, a, out, s)
+}
+
+// The brackets that a opens round none, one or more types.
+fn brackets_at(w: Way, text: &[u8], a: Token, out: &mut [u8], s: Spot) -> Parsed
+    ensures { λ r. ⌜ Reads (w .form) (now (text .entry)) (Fits (now (text .entry)) a) (brackets (readType (w .left)) (held (now (text .entry)) a)) (a .end) s (now (out .entry)) r (now (out .exit)) ⌝ }
+{
+    let i = forms::step_inside(w.form, s);
+    let p = forms::put_mark(w.form, b'(', out, i);
+    let l = type_list(w, R_PAREN, text, a, out, p);
+    match l {
+        Listed::Refused(r) => Parsed::Refused(r),
+        Listed::All(n) => {
+            let next = n.next;
+            let to = forms::put_mark(w.form, b')', out, n.to);
+            forms::seal(w.form, brackets_kind(n.count), a.start, n.end, s, to, out);
+            Parsed::Read(Part {
+                to: to,
+                end: n.end,
+                next: next,
+            })
+        }
+    }
+}
+
+// The reference that a begins.
+fn reference_at(w: Way, mutable: bool, text: &[u8], a: Token, out: &mut [u8], s: Spot) -> Parsed
+    ensures { λ r. ⌜ Reads (w .form) (now (text .entry)) (Fits (now (text .entry)) a) (reference (readType (w .left)) (cond mutable RecRefMut RecRef) (held (now (text .entry)) a)) (a .end) s (now (out .entry)) r (now (out .exit)) ⌝ }
+{
+    let l = tokens::next_token(text, a.end);
+    match l {
+        Lexed::Refused(r) => Parsed::Refused(r),
+        Lexed::Found(b) => {
+            let i = forms::step_inside(w.form, s);
+            let q = forms::put_reference(w.form, mutable, out, i);
+            let t = parse_type(w, text, b, out, q);
+            match t {
+                Parsed::Refused(r) => Parsed::Refused(r),
+                Parsed::Read(p) => {
+                    forms::seal(
+                        w.form,
+                        reference_kind(mutable),
+                        a.start,
+                        p.end,
+                        s,
+                        p.to,
+                        out,
+                    );
+                    Parsed::Read(p)
+                }
+            }
+        }
+    }
+}
+
+// The function type that the `|` a begins: its arguments, then its result.
+fn function_at(w: Way, text: &[u8], a: Token, out: &mut [u8], s: Spot) -> Parsed
+    ensures { λ r. ⌜ Reads (w .form) (now (text .entry)) (Fits (now (text .entry)) a) (function (readType (w .left)) (held (now (text .entry)) a)) (a .end) s (now (out .entry)) r (now (out .exit)) ⌝ }
+{
+    let i = forms::step_inside(w.form, s);
+    let q = forms::put_mark(w.form, b'|', out, i);
+    let l = type_list(w, PIPE, text, a, out, q);
+    match l {
+        Listed::Refused(r) => Parsed::Refused(r),
+        Listed::All(n) => {
+            let b = n.next;
+            let c = forms::close_bars(w.form, n.count == 0, out, n.to);
+            let d = forms::put_mark(w.form, b' ', out, c);
+            let t = parse_type(w, text, b, out, d);
+            match t {
+                Parsed::Refused(r) => Parsed::Refused(r),
+                Parsed::Read(p) => {
+                    forms::seal(w.form, REC_FUNCTION, a.start, p.end, s, p.to, out);
+                    Parsed::Read(p)
+                }
+            }
+        }
+    }
+}
+
+// The type that the name at a begins, with its arguments.
+fn named_at(w: Way, text: &[u8], a: Token, out: &mut [u8], s: Spot) -> Parsed
+    ensures { λ r. ⌜ Reads (w .form) (now (text .entry)) (Fits (now (text .entry)) a) (named (readType (w .left)) (held (now (text .entry)) a)) (a .end) s (now (out .entry)) r (now (out .exit)) ⌝ }
+{
+    let i = forms::step_inside(w.form, s);
+    let c = chains::parse_name_access_chain(w, text, a, out, i);
+    match c {
+        Parsed::Refused(r) => Parsed::Refused(r),
+        Parsed::Read(p) => {
+            if p.next.kind != LESS {
+                forms::seal(w.form, REC_TYPE, a.start, p.end, s, p.to, out);
+                return Parsed::Read(p);
+            }
+            let j = forms::step_angle(w.form, p.to);
+            let l = type_list(w, GREATER, text, p.next, out, j);
+            match l {
+                Listed::Refused(r) => Parsed::Refused(r),
+                Listed::All(n) => {
+                    let next = n.next;
+                    let to = close_angles(w.form, n.count == 0, out, p.to, n.to);
+                    forms::seal(w.form, REC_TYPE, a.start, n.end, s, to, out);
+                    Parsed::Read(Part {
+                        to: to,
+                        end: n.end,
+                        next: next,
+                    })
+                }
+            }
+        }
+    }
+}
+
+// The list of types that o opens and a token of the kind `close` ends, its items one behind the other
+// (parse_comma_list of the Rust).
+fn type_list(w: Way, close: u8, text: &[u8], o: Token, out: &mut [u8], s: Spot) -> Listed
+    ensures { λ r. ⌜ ReadsAll (w .form) (now (text .entry)) (Fits (now (text .entry)) o) (listBehind (readType (w .left)) close (held (now (text .entry)) o)) (o .end) s (now (out .entry)) r (now (out .exit)) ⌝ }
+{
+    let mut i = o.end;
+    let mut to = forms::move_by(s, 0);
+    let mut count = 0;
+    loop {
+        let b = lists::next_item(close, text, i);
+        match b {
+            Turn::Refused(r) => {
+                return Listed::Refused(r);
+            }
+            Turn::Closes(q) => {
+                return lists::close_list(text, q, count, to);
+            }
+            Turn::Item(a) => {
+                let p = forms::put_between(w.form, count == 0, out, to);
+                let t = parse_type(w, text, a, out, p);
+                let c = lists::after_item(close, o, t);
+                match c {
+                    Step::Refused(r) => {
+                        return Listed::Refused(r);
+                    }
+                    Step::Last(e, q) => {
+                        return lists::close_list(text, q, lists::count_more(count), e);
+                    }
+                    Step::Goes(e, q) => {
+                        to = e;
+                        count = lists::count_more(count);
+                        i = q;
+                    }
+                }
+            }
+        }
+    }
+}
+
+// The type arguments behind the `<` o, up to `>`, or to the first byte of `>>`: the items alone, without the
+// marks. The levels that are left count each argument's own.
+pub fn parse_type_args(w: Way, text: &[u8], o: Token, out: &mut [u8], s: Spot) -> Listed
+    ensures { λ r. ⌜ ReadsAll (w .form) (now (text .entry)) (Fits (now (text .entry)) o) (listBehind (readType (w .left)) Greater (held (now (text .entry)) o)) (o .end) s (now (out .entry)) r (now (out .exit)) ⌝ }
+{
+    type_list(w, GREATER, text, o, out, s)
+}

@@ -1,2 +1,0 @@
-pub mod Sure
-pub mod Returns
