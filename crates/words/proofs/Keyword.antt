@@ -1,7 +1,7 @@
 -- A name beside the keywords: a keyword is known by its first byte, the number of the others and its length.
 use mathlib.Core.Path.{_≡_, refl, ap, sym, _∙_}
 use mathlib.Core.Bool.{Bool, true, false, cond, not, _&&_}
-use mathlib.Core.List.{List, [], _∷_, _++_}
+use mathlib.Core.List.{List, [], _∷_}
 use Prim.Native.Nat.{ℕ, zero, suc, _+_, _-_, _*_, _<_, _≤_, min}
 use native.Mathlib.Omega.{arith}
 use borrow.Author.Tests.{eqb-false, eq-eqb, ne-eqb, not-true, leb-true, leb-false}
@@ -15,7 +15,7 @@ use Rattle.words.specs.code.Rows.{number, packedKind}
 use Rattle.classes.proofs.Bools.{and-left, and-right, false-true}
 use Rattle.words.proofs.Numbers.{Small, part-small, number-step}
 use Rattle.words.proofs.Rows.{three-off}
-use Rattle.words.proofs.Tests.{same-equal, all, all-head, all-tail, all-left, plain, plain-byte, plain-tail}
+use Rattle.words.proofs.Tests.{same-equal, all, all-head, all-tail, plain, plain-byte, plain-tail}
 
 -- bytes of one length that have one number are the same
 low : (a b m n : ℕ) → a < 256 → b < 256 → a + 256 * m ≡ b + 256 * n → (a ≡ b) × (m ≡ n)
@@ -75,31 +75,58 @@ module _ (e : Entry) (h : isKeyword e ≡ true) where
   own-kind : e .kind ≡ Identifier → ⊥
   own-kind = eqb-false _ _ (not-true _ (and-right (plain (e .word)) (not (eqb (e .kind) Identifier)) bytes-and-kind))
 
--- a table in two parts: the second decides where the first has no such keyword
+-- the entries from lo on: those from mid on decide where no entry before mid is the keyword
 else-step : (b : Bool) (k x y z : ℕ) → (k ≡ Identifier → ⊥) → y ≡ cond (eqb x Identifier) z x → cond b k y ≡ cond (eqb (cond b k x) Identifier) z (cond b k x)
 else-step true k x y z g r = rw (ne-eqb k Identifier g)
 else-step false k x y z g r = r
 
-in-parts : (t u : List Entry) (a v n : ℕ) → all isKeyword t ≡ true
-    → packedKind (t ++ u) a v n ≡ cond (eqb (packedKind t a v n) Identifier) (packedKind u a v n) (packedKind t a v n)
+in-parts : (lo mid : ℕ) (t : List Entry) (a v n : ℕ) → lo ≤ mid → all isKeyword t ≡ true
+    → packedKind (drop lo t) a v n
+    ≡ cond (eqb (packedKind (slice lo mid t) a v n) Identifier) (packedKind (drop mid t) a v n) (packedKind (slice lo mid t) a v n)
 unfolding packedKind
-in-parts [] u a v n h = refl
-in-parts (e ∷ es) u a v n h =
+in-parts zero zero t a v n l h = refl
+in-parts (suc lo) zero t a v n l h = absurd (omega arith)
+in-parts zero (suc mid) [] a v n l h = refl
+in-parts (suc lo) (suc mid) [] a v n l h = refl
+in-parts zero (suc mid) (e ∷ es) a v n l h =
     else-step (eqb (getD (e .word) 0 0) a && (eqb (number (drop 1 (e .word))) v && eqb (length (e .word)) n))
-    (e .kind) (packedKind es a v n) (packedKind (es ++ u) a v n) (packedKind u a v n) (own-kind e (all-head isKeyword e es h))
-    (in-parts es u a v n (all-tail isKeyword e es h))
+    (e .kind) (packedKind (take mid es) a v n) (packedKind es a v n) (packedKind (drop mid es) a v n)
+    (own-kind e (all-head isKeyword e es h)) (in-parts zero mid es a v n (omega arith) (all-tail isKeyword e es h))
+in-parts (suc lo) (suc mid) (e ∷ es) a v n l h = in-parts lo mid es a v n (omega arith) (all-tail isKeyword e es h)
 
-module _ (a v n : ℕ) (r : ℕ) (e : r ≡ packedKind (slice 0 13 keywords) a v n) where
-  halves : packedKind keywords a v n ≡ cond (eqb r Identifier) (packedKind (slice 13 26 keywords) a v n) r
-  unfolding keywords
-  halves =
-      rw e (in-parts (slice 0 13 keywords) (slice 13 26 keywords) a v n (all-left isKeyword (slice 0 13 keywords) (slice 13 26 keywords) all-keywords))
+-- r is what the search from lo up to mid answers
+module _ (lo mid a v n r : ℕ) (l : lo ≤ mid) (e : r ≡ packedKind (slice lo mid keywords) a v n) where
+  parts : packedKind (drop lo keywords) a v n ≡ cond (eqb r Identifier) (packedKind (drop mid keywords) a v n) r
+  parts = rw e (in-parts lo mid keywords a v n l all-keywords)
 
+  in-part : (r ≡ Identifier → ⊥) → r ≡ packedKind (drop lo keywords) a v n
+  in-part g = sym (parts ∙ rw (ne-eqb r Identifier g))
+
+  past-part : r ≡ Identifier → packedKind (drop mid keywords) a v n ≡ packedKind (drop lo keywords) a v n
+  past-part g = sym (parts ∙ rw (eq-eqb r Identifier g))
+
+-- the ways through the code: the four parts of the table, one after the other
+module _ (a v n r : ℕ) (e : r ≡ packedKind (slice 0 7 keywords) a v n) where
   pub in-first : (r ≡ Identifier → ⊥) → r ≡ packedKind keywords a v n
-  in-first g = sym (halves ∙ rw (ne-eqb r Identifier g))
+  in-first = in-part 0 7 a v n r (omega arith) e
 
-  pub in-last : r ≡ Identifier → packedKind (slice 13 26 keywords) a v n ≡ packedKind keywords a v n
-  in-last g = sym (halves ∙ rw (eq-eqb r Identifier g))
+  module _ (g : r ≡ Identifier) (r₂ : ℕ) (e₂ : r₂ ≡ packedKind (slice 7 14 keywords) a v n) where
+    past-first : packedKind (drop 7 keywords) a v n ≡ packedKind keywords a v n
+    past-first = past-part 0 7 a v n r (omega arith) e g
+
+    pub in-second : (r₂ ≡ Identifier → ⊥) → r₂ ≡ packedKind keywords a v n
+    in-second h = in-part 7 14 a v n r₂ (omega arith) e₂ h ∙ past-first
+
+    module _ (g₂ : r₂ ≡ Identifier) (r₃ : ℕ) (e₃ : r₃ ≡ packedKind (slice 14 20 keywords) a v n) where
+      past-second : packedKind (drop 14 keywords) a v n ≡ packedKind keywords a v n
+      past-second = past-part 7 14 a v n r₂ (omega arith) e₂ g₂ ∙ past-first
+
+      pub in-third : (r₃ ≡ Identifier → ⊥) → r₃ ≡ packedKind keywords a v n
+      in-third h = in-part 14 20 a v n r₃ (omega arith) e₃ h ∙ past-second
+
+      pub in-fourth : r₃ ≡ Identifier → (r₄ : ℕ) → r₄ ≡ packedKind (slice 20 26 keywords) a v n → r₄ ≡ packedKind keywords a v n
+      unfolding keywords
+      in-fourth g₃ r₄ e₄ = e₄ ∙ past-part 14 20 a v n r₃ (omega arith) e₃ g₃ ∙ past-second
 
 -- a name that no keyword can be
 no-keyword : (t : List Entry) (w : List ℕ) → all isKeyword t ≡ true → ((e : Entry) → isKeyword e ≡ true → w ≡ e .word → ⊥) → lookup t w ≡ Identifier

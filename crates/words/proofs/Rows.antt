@@ -2,29 +2,20 @@
 use mathlib.Core.Path.{_≡_, refl, ap, sym, _∙_}
 use mathlib.Core.Bool.{Bool, true, false, cond, _&&_}
 use mathlib.Core.List.{List, [], _∷_, _++_, map}
-use Prim.Native.Nat.{ℕ, _+_, _-_, _<_, _≤_}
+use Prim.Native.Nat.{ℕ, suc, _+_, _<_, _≤_}
 use native.Mathlib.Omega.{arith}
 use native.Mathlib.Numerals.{add-one}
 use borrow.Author.Tests.{eqb-true, eq-eqb, ne-eqb}
 use lib.Dec.{eqb, ltb}
-use lib.ListN.{length, getD, take, drop, drop-of-length-le, length-take, replicate}
-use lib.Seq.{slice, slice-cons}
+use lib.ListN.{length, getD, take, drop, drop-of-length-le, length-take}
+use lib.Seq.{drop-cons, slice, slice-cons}
 use Rattle.words.specs.Kinds.{Identifier}
 use Rattle.words.specs.Tables.{Entry, none, keywords, longMarks, doubleMarks, singleMarks, marks}
 use Rattle.words.specs.Search.{same}
-use Rattle.words.specs.code.Rows.{number, lenUpTo, rowLen, packedKind}
+use Rattle.words.specs.code.Rows.{number, rowLen, filled, keywordRows, keywordKinds, packedKind}
 use Rattle.words.proofs.Tests.{below, below-at, same-equal}
 
--- a row: the bytes, filled up with zeros to a width, and of a mark the length and the kind
-unfoldable pub filled : ℕ → List ℕ → List ℕ
-filled n w = w ++ replicate (n - length w) 0
-
-unfoldable pub keywordRows : List (List ℕ)
-keywordRows = map (λ (e : Entry). filled 9 (e .word)) keywords
-
-unfoldable pub keywordKinds : List ℕ
-keywordKinds = map (λ (e : Entry). e .kind) keywords
-
+-- a row of a mark: the bytes, filled up with zeros, the length and the kind
 unfoldable pub markRows : List (List ℕ)
 markRows = map (λ (e : Entry). filled 5 (e .word) ++ (length (e .word) ∷ e .kind ∷ [])) marks
 
@@ -42,16 +33,16 @@ keywordEntry : Entry → List ℕ
 keywordEntry e = getD (e .word) 0 0 ∷ number (drop 1 (e .word)) ∷ length (e .word) ∷ e .kind ∷ []
 
 keyword-cells : below (λ k. same (keywordCells k) (keywordEntry (getD keywords k none))) 26 ≡ true
-unfolding tables keywordCells keywordEntry same number rowLen lenUpTo
+unfolding tables keywordCells keywordEntry same number rowLen
 keyword-cells = refl
 
-pub record KeywordRow (k : ℕ) : Type 0 where
-  pub first : getD (getD keywordRows k []) 0 0 ≡ getD (getD keywords k none .word) 0 0
-  pub others : number (drop 1 (getD keywordRows k [])) ≡ number (drop 1 (getD keywords k none .word))
-  pub size : rowLen (getD keywordRows k []) ≡ length (getD keywords k none .word)
-  pub kind : getD keywordKinds k 0 ≡ getD keywords k none .kind
+record KeywordRow (rows : List (List ℕ)) (kinds : List ℕ) (k : ℕ) : Type 0 where
+  first : getD (getD rows k []) 0 0 ≡ getD (getD keywords k none .word) 0 0
+  others : number (drop 1 (getD rows k [])) ≡ number (drop 1 (getD keywords k none .word))
+  size : rowLen (getD rows k []) ≡ length (getD keywords k none .word)
+  kind : getD kinds k 0 ≡ getD keywords k none .kind
 
-pub keyword-row : (k : ℕ) → k < 26 → KeywordRow k
+keyword-row : (k : ℕ) → k < 26 → KeywordRow keywordRows keywordKinds k
 unfolding keywordCells keywordEntry
 keyword-row k h =
     let e : keywordCells k ≡ keywordEntry (getD keywords k none)
@@ -103,6 +94,21 @@ mark-row k h =
       bytes = ap (λ (l : List ℕ). drop 5 l) e;
     }
 
+-- the bytes of a row before its first zero, counted from the front: the byte n is zero, is not, or is behind the row
+module _ (row : List ℕ) (n : ℕ) where
+  pub len-end : length row ≤ n → rowLen (drop n row) ≡ 0
+  unfolding rowLen
+  len-end h = rw (drop-of-length-le row {i = n} h)
+
+  module _ (h : n < length row) where
+    pub len-zero : getD row n 0 ≡ 0 → rowLen (drop n row) ≡ 0
+    unfolding rowLen
+    len-zero z = rw (drop-cons row n 0 h, eq-eqb _ 0 z)
+
+    pub len-next : (getD row n 0 ≡ 0 → ⊥) → rowLen (drop n row) ≡ suc (rowLen (drop (n + 1) row))
+    unfolding rowLen
+    len-next g = rw (drop-cons row n 0 h, ne-eqb _ 0 g, add-one n)
+
 -- not all of the numbers compared are equal
 two-off : (x a y v : ℕ) → (x ≡ a → y ≡ v → ⊥) → eqb x a && eqb y v ≡ false
 two-off x a y v h = go (eqb x a) refl
@@ -119,26 +125,26 @@ three-off x a y v z n h = go (eqb x a) refl
     go false p = refl
 
 -- the search for a keyword by its first byte, the number of the others and its length, through the rows from k up to hi
-module _ (hi k : ℕ) (a v n : ℕ) where
+module _ (hi k a v n : ℕ) where
   pub packed-end : hi ≤ k → packedKind (slice k hi keywords) a v n ≡ Identifier
   unfolding packedKind
   packed-end h = rw (drop-of-length-le (take hi keywords) {i = k} (rw length-take (omega arith)))
 
-  module _ (m : hi ≤ 26) (h : k < hi) where
-    row : KeywordRow k
-    row = keyword-row k (omega arith)
+  module _ (rows : List (List ℕ)) (kinds : List ℕ) (x : rows ≡ keywordRows) (y : kinds ≡ keywordKinds) (m : hi ≤ 26) (h : k < hi) where
+    row : KeywordRow rows kinds k
+    row = rw (x, y) (keyword-row k (omega arith))
 
     here : slice k hi keywords ≡ getD keywords k none ∷ slice (k + 1) hi keywords
     unfolding keywords
     here = rw (add-one k) (slice-cons k hi keywords none h m)
 
-    pub packed-hit : getD (getD keywordRows k []) 0 0 ≡ a → number (drop 1 (getD keywordRows k [])) ≡ v → rowLen (getD keywordRows k []) ≡ n
-        → packedKind (slice k hi keywords) a v n ≡ getD keywordKinds k 0
+    pub packed-hit : getD (getD rows k []) 0 0 ≡ a → number (drop 1 (getD rows k [])) ≡ v → rowLen (getD rows k []) ≡ n
+        → packedKind (slice k hi keywords) a v n ≡ getD kinds k 0
     unfolding packedKind
     packed-hit p q l =
         rw (here, eq-eqb _ a (sym (row .first) ∙ p), eq-eqb _ v (sym (row .others) ∙ q), eq-eqb _ n (sym (row .size) ∙ l)) (sym (row .kind))
 
-    pub packed-off : (getD (getD keywordRows k []) 0 0 ≡ a → number (drop 1 (getD keywordRows k [])) ≡ v → rowLen (getD keywordRows k []) ≡ n → ⊥)
+    pub packed-off : (getD (getD rows k []) 0 0 ≡ a → number (drop 1 (getD rows k [])) ≡ v → rowLen (getD rows k []) ≡ n → ⊥)
         → packedKind (slice k hi keywords) a v n ≡ packedKind (slice (k + 1) hi keywords) a v n
     unfolding packedKind
     packed-off g =

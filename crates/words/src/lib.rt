@@ -8,7 +8,7 @@ ghost use lib.Seq.{slice};
 ghost use Rattle.classes.specs.Bytes.{begins};
 ghost use Rattle.words.specs.Tables.{keywords, longMarks, doubleMarks, singleMarks};
 ghost use Rattle.words.specs.Search.{kindOf, noFit, markOf, firstFit, suffixLen};
-ghost use Rattle.words.specs.code.Rows.{number, rowLen, packedKind, valueIf, rowFit};
+ghost use Rattle.words.specs.code.Rows.{number, rowLen, keywordRows, keywordKinds, packedKind, valueIf, rowFit};
 ghost use Rattle.words.specs.Quote.{endsLine, quoteFrom};
 use classes::byte_at;
 use kinds::ABORT;
@@ -190,8 +190,8 @@ const MARKS: [[u8; 7]; 37] = [
     [b'#', 0, 0, 0, 0, 1, NUM_SIGN],
     [b'@', 0, 0, 0, 0, 1, AT_SIGN],
 ];
-// Each search below copies its table first and has one loop of fixed bounds and a small body: the
-// compiler unrolls such a loop, and the table becomes constants in the code.
+// Each search below has one loop of fixed bounds and a small body over a copy of its table: the compiler
+// unrolls such a loop, and the table becomes constants in the code.
 
 // The byte j of the n bytes from `at`, and 0 behind them.
 fn byte_of(text: &[u8], at: usize, n: usize, j: usize) -> u8
@@ -225,48 +225,41 @@ fn packed_row(row: [u8; 9]) -> u64
     packed(&row, 0, 9)
 }
 
-// How many bytes of a row of keywords stand before the zeros that fill it up; no row has fewer than two.
-// Tests one after the other, since a loop here would keep the loops over the rows from being unrolled.
+// How many bytes of a row of keywords stand before its first zero.
 fn row_len(row: [u8; 9]) -> usize
     ensures { λ r. ⌜ r ≡ rowLen row ⌝ }
 {
-    if row[8] != 0 {
-        return 9;
+    let mut n: usize = 0;
+    while n < 9 {
+        if row[n] == 0 {
+            return n;
+        }
+        n += 1;
     }
-    if row[7] != 0 {
-        return 8;
-    }
-    if row[6] != 0 {
-        return 7;
-    }
-    if row[5] != 0 {
-        return 6;
-    }
-    if row[4] != 0 {
-        return 5;
-    }
-    if row[3] != 0 {
-        return 4;
-    }
-    if row[2] != 0 {
-        return 3;
-    }
-    2
+    n
 }
 
 // The kind of the keyword of n bytes whose first byte is a and whose others are v, or IDENTIFIER: each
-// of the first 13 rows is compared with them.
-fn keyword_of_first_rows(a: u8, v: u64, n: usize) -> u8
-    ensures { λ r. ⌜ r ≡ packedKind (slice 0 13 keywords) a v n ⌝ }
+// of the rows from lo up to hi is compared with them. With the bounds as parameters and the tables as
+// references, the compiler puts the search into its caller, where the bounds are numbers, and unrolls it.
+fn keyword_among(
+    rows: &[[u8; 9]; 26],
+    kinds: &[u8; 26],
+    lo: usize,
+    hi: usize,
+    a: u8,
+    v: u64,
+    n: usize,
+) -> u8
+    requires { ⌜ (now rows ≡ keywordRows) × (now kinds ≡ keywordKinds) × (hi ≤ 26) ⌝ }
+    ensures { λ r. ⌜ r ≡ packedKind (slice lo hi keywords) a v n ⌝ }
 {
-    let rows = KEYWORDS;
-    let row_kinds = KEYWORD_KINDS;
-    let mut k: usize = 0;
-    while k < 13 {
+    let mut k: usize = lo;
+    while k < hi {
         if rows[k][0] == a {
             if packed_row(rows[k]) == v {
                 if row_len(rows[k]) == n {
-                    return row_kinds[k];
+                    return kinds[k];
                 }
             }
         }
@@ -275,35 +268,25 @@ fn keyword_of_first_rows(a: u8, v: u64, n: usize) -> u8
     IDENTIFIER
 }
 
-// The same of the other 13 rows.
-fn keyword_of_last_rows(a: u8, v: u64, n: usize) -> u8
-    ensures { λ r. ⌜ r ≡ packedKind (slice 13 26 keywords) a v n ⌝ }
-{
-    let rows = KEYWORDS;
-    let row_kinds = KEYWORD_KINDS;
-    let mut j: usize = 13;
-    while j < 26 {
-        if rows[j][0] == a {
-            if packed_row(rows[j]) == v {
-                if row_len(rows[j]) == n {
-                    return row_kinds[j];
-                }
-            }
-        }
-        j += 1;
-    }
-    IDENTIFIER
-}
-
-// The same of all 26 rows. The search is cut in two, so that each loop is short enough to be unrolled.
+// The same of all 26 rows. The search is cut in four, so that each loop is short enough to be unrolled.
 fn keyword_kind(a: u8, v: u64, n: usize) -> u8
     ensures { λ r. ⌜ r ≡ packedKind keywords a v n ⌝ }
 {
-    let kind = keyword_of_first_rows(a, v, n);
-    if kind != IDENTIFIER {
-        return kind;
+    let rows = KEYWORDS;
+    let row_kinds = KEYWORD_KINDS;
+    let first = keyword_among(&rows, &row_kinds, 0, 7, a, v, n);
+    if first != IDENTIFIER {
+        return first;
     }
-    keyword_of_last_rows(a, v, n)
+    let second = keyword_among(&rows, &row_kinds, 7, 14, a, v, n);
+    if second != IDENTIFIER {
+        return second;
+    }
+    let third = keyword_among(&rows, &row_kinds, 14, 20, a, v, n);
+    if third != IDENTIFIER {
+        return third;
+    }
+    keyword_among(&rows, &row_kinds, 20, 26, a, v, n)
 }
 
 // How many of the n bytes from `at` the text has.

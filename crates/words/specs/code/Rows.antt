@@ -1,12 +1,12 @@
 -- What the searches of the code compare and answer.
-use Prim.Native.Nat.{ℕ, zero, suc, _+_, _*_, max}
+use Prim.Native.Nat.{ℕ, suc, _+_, _-_, _*_}
 use mathlib.Core.Bool.{cond, _&&_}
-use mathlib.Core.List.{List, [], _∷_}
+use mathlib.Core.List.{List, [], _∷_, _++_, map}
 use lib.Dec.{eqb}
-use lib.ListN.{length, getD, take, drop}
+use lib.ListN.{length, getD, take, drop, replicate}
 use Rattle.classes.specs.Bytes.{begins}
 use Rattle.words.specs.Kinds.{Identifier}
-use Rattle.words.specs.Tables.{Entry}
+use Rattle.words.specs.Tables.{Entry, keywords}
 use Rattle.words.specs.Search.{noFit}
 use Rattle.words.specs.declared.Fit.{Fit}
 
@@ -15,14 +15,21 @@ unfoldable pub number : List ℕ → ℕ
 number [] = 0
 number (b ∷ w) = b + 256 * number w
 
--- how many of the first n bytes stand before the zeros that they end in
-unfoldable pub lenUpTo : ℕ → List ℕ → ℕ
-lenUpTo zero row = 0
-lenUpTo (suc n) row = cond (eqb (getD row n 0) 0) (lenUpTo n row) (suc n)
-
--- how many bytes of a row of keywords stand before the zeros that fill it up; two at least
+-- how many bytes of a row stand before its first zero
 unfoldable pub rowLen : List ℕ → ℕ
-rowLen row = max 2 (lenUpTo 9 row)
+rowLen [] = 0
+rowLen (b ∷ row) = cond (eqb b 0) 0 (suc (rowLen row))
+
+-- a word, filled up with zeros to n bytes
+unfoldable pub filled : ℕ → List ℕ → List ℕ
+filled n w = w ++ replicate (n - length w) 0
+
+-- the rows of the code's table of keywords, and their kinds
+unfoldable pub keywordRows : List (List ℕ)
+keywordRows = map (λ (e : Entry). filled 9 (e .word)) keywords
+
+unfoldable pub keywordKinds : List ℕ
+keywordKinds = map (λ (e : Entry). e .kind) keywords
 
 -- the kind of the entry of n bytes whose first byte is a and whose others are the number v, or an identifier
 unfoldable pub packedKind : List Entry → ℕ → ℕ → ℕ → ℕ
