@@ -1,10 +1,10 @@
 -- Bindings and fields: one law for each way through the code.
 use mathlib.Core.Path.{_≡_, refl, ap, sym, _∙_, subst}
-use mathlib.Core.Bool.{Bool, true, false}
+use mathlib.Core.Bool.{Bool, true, false, cond}
 use mathlib.Core.List.{List, _++_, append-assoc}
 use Prim.Native.Nat.{ℕ, suc, _-_, _≤_}
 use native.Mathlib.Omega.{arith}
-use borrow.Author.Tests.{eq-eqb, ne-eqb}
+use borrow.Author.Tests.{eq-eqb, ne-eqb, eqb-true, eqb-false}
 use lib.Dec.{eqb}
 use lib.ListN.{length}
 use Rattle.classes.specs.Bytes.{bytes}
@@ -14,6 +14,7 @@ use Rattle.tokens.specs.Answers.{refusal}
 use Rattle.tokens.specs.Calls.{nextToken}
 use Rattle.tokens.specs.declared.Refusal.{Refusal}
 use Rattle.tokens.specs.declared.Token.{Token as Answer}
+use Rattle.tokens.specs.declared.Lexed.{Lexed}
 use Rattle.tokens.specs.declared.Lexed.the-variants.{Found, Refused as Bad}
 use Rattle.records.specs.Kinds.{RecName, RecVariable, RecField}
 use Rattle.records.specs.Tree.{Tree, node, none, more}
@@ -33,8 +34,53 @@ use Rattle.parts.proofs.Held.{held-end, held-leaf, next-found, look-found, look
 use Rattle.parts.proofs.Contracts.{reads-no, reads-read, reads-as}
 use Rattle.chains.specs.code.Parts.{leafAt}
 use Rattle.chains.proofs.Names.{leaf-laid, when-true, when-false, token-refused, read-to}
-use Rattle.bind_walk.specs.code.Pieces.{structKind, fieldAt, shortAt, fieldName, headedBy}
+use Rattle.bind_walk.specs.code.Pieces.{structKind, startBy, startOf, fieldAt, shortAt, fieldName, headedBy}
+use Rattle.bind_walk.specs.declared.Start.{Start}
+use Rattle.bind_walk.specs.declared.Start.the-variants.{Variable, Struct, Refused as Faulty}
 use Rattle.bind_walk.proofs.Parted.{goes-from, by-meets, front, closed-by}
+
+-- what a binding's start says of its tokens
+differ : (A : Type 0) → _≡_ {A = ℕ} 0 1 → A
+differ A h = absurd (omega (arith, h))
+
+start-refused : (k : ℕ) (y : Lexed) (r : Refusal) → startOf k y ≡ Faulty r → (k ≡ Identifier) × (y ≡ Bad r)
+unfolding startBy
+start-refused k y r = go (eqb k Identifier) refl y
+  where
+    by : (b : Bool) (n : Answer) → structKind (n .kind) ≡ b → cond b Struct (Variable n) ≡ Faulty r → Found n ≡ Bad r
+    by true n g e = differ _ cc
+    by false n g e = differ _ cc
+
+    go : (b : Bool) → eqb k Identifier ≡ b → (y : Lexed) → cond b (startBy y) Struct ≡ Faulty r → (k ≡ Identifier) × (y ≡ Bad r)
+    go true d (Found n) e = (eqb-true k Identifier d, by (structKind (n .kind)) n refl e)
+    go true d (Bad q) e = (eqb-true k Identifier d, cc)
+    go false d z e = differ _ cc
+
+start-variable : (k : ℕ) (y : Lexed) (v : Answer) → startOf k y ≡ Variable v → (k ≡ Identifier) × ((y ≡ Found v) × (structKind (v .kind) ≡ false))
+unfolding startBy
+start-variable k y v = go (eqb k Identifier) refl y
+  where
+    by : (b : Bool) (n : Answer) → structKind (n .kind) ≡ b → cond b Struct (Variable n) ≡ Variable v → (Found n ≡ Found v) × (structKind (v .kind) ≡ false)
+    by true n g e = differ _ cc
+    by false n g e = let w : n ≡ v = cc in (ap Found w, sym (ap (λ (x : Answer). structKind (x .kind)) w) ∙ g)
+
+    go : (b : Bool) → eqb k Identifier ≡ b → (y : Lexed) → cond b (startBy y) Struct ≡ Variable v → (k ≡ Identifier) × ((y ≡ Found v) × (structKind (v .kind) ≡ false))
+    go true d (Found n) e = let w = by (structKind (n .kind)) n refl e in (eqb-true k Identifier d, w)
+    go true d (Bad q) e = differ _ cc
+    go false d z e = differ _ cc
+
+start-struct : (A : Type 0) (k : ℕ) (y : Lexed) → startOf k y ≡ Struct → ((k ≡ Identifier → ⊥) → A) → (k ≡ Identifier → (n : Answer) → y ≡ Found n → structKind (n .kind) ≡ true → A) → A
+unfolding startBy
+start-struct A k y = go (eqb k Identifier) refl y
+  where
+    by : (b : Bool) (n : Answer) → structKind (n .kind) ≡ b → cond b Struct (Variable n) ≡ Struct → structKind (n .kind) ≡ true
+    by true n g e = g
+    by false n g e = differ _ cc
+
+    go : (b : Bool) → eqb k Identifier ≡ b → (y : Lexed) → cond b (startBy y) Struct ≡ Struct → ((k ≡ Identifier → ⊥) → A) → (k ≡ Identifier → (n : Answer) → y ≡ Found n → structKind (n .kind) ≡ true → A) → A
+    go true d (Found n) e f g = g (eqb-true k Identifier d) n refl (by (structKind (n .kind)) n refl e)
+    go true d (Bad q) e f g = differ _ cc
+    go false d z e f g = f (eqb-false k Identifier d)
 
 module _ (f : ℕ) (text : List ℕ) (s : Spot) (l m : List ℕ) (a : Answer) where
   -- the token itself is refused
@@ -90,6 +136,21 @@ module _ (f : ℕ) (text : List ℕ) (s : Spot) (l m : List ℕ) (a : Answer) wh
               (λ z. bind-level (held text a) ∙ when-true (eqb (a .kind) Identifier) _ _ (eq-eqb (a .kind) Identifier k) ∙ look-found text a z _ d e
               ∙ when-false (structKind (d .kind)) _ _ (sym g ∙ b) ∙ read-to text (leafOf RecVariable (held text a)) (leafAt RecVariable text a) a z (held-leaf text a z RecVariable)) e
               (placed-as l m (spelt f RecVariable (a .start) (a .end) (wordOf text a)) (laid f (leafAt RecVariable text a)) s to (sym (leaf-laid f text RecVariable a refl)) w)
+
+      -- by the binding's start
+      module _ (x : Start) (e : x ≡ startOf (a .kind) (nextToken text (a .end))) where
+        pub start-bad : (r : Refusal) → x ≡ Faulty r → Bind (Refused r)
+        start-bad r d = let w = start-refused (a .kind) (nextToken text (a .end)) r (sym e ∙ d) in bind-bad (w .0) r (w .1)
+
+        pub start-unpack : (r : Parsed) → x ≡ Struct → Unpack r → Bind r
+        start-unpack r d u =
+            start-struct (Bind r) (a .kind) (nextToken text (a .end)) (sym e ∙ d) (λ k. bind-other r k u) (λ k n g b. bind-struct k n g (structKind (n .kind)) refl r b u)
+
+        pub start-one : (n : Answer) (to : Spot) → x ≡ Variable n → Placed l s (spelt f RecVariable (a .start) (a .end) (wordOf text a)) to m
+            → Bind (Read (record { to = to; end = a .end; next = n }))
+        start-one n to d w =
+            let z = start-variable (a .kind) (nextToken text (a .end)) n (sym e ∙ d) in
+            bind-variable (z .0) n (z .1 .0) (structKind (n .kind)) refl to (z .1 .1) w
 
     -- fields
     abbrev field : Ans Tree

@@ -1,6 +1,7 @@
 // Bindings, their fields, and the two lists of bindings, laid down in the form that the caller asks for.
 ghost use mathlib.Core.Path.{_≡_};
 ghost use Rattle.words.specs.Kinds.{Greater, RBrace};
+ghost use Rattle.tokens.specs.Calls.{nextToken};
 ghost use Rattle.answers.specs.Reading.{listBehind};
 ghost use Rattle.grammar.specs.Types.{readType};
 ghost use Rattle.grammar.specs.Binds.{fields, unpacked, readBind, readBindList, readLambdaList};
@@ -8,7 +9,7 @@ ghost use Rattle.forms.specs.Forms.{laid};
 ghost use Rattle.forms.specs.code.Spots.{inside, Placed};
 ghost use Rattle.parts.specs.code.Meets.{Fits, held, Reads};
 ghost use Rattle.lists.specs.code.Lists.{ReadsAll};
-ghost use Rattle.bind_walk.specs.code.Pieces.{structKind, fieldAt, shortAt, fieldName, angled, braced, partOf, endedBy, markedBy, headedBy, ReadsBy};
+ghost use Rattle.bind_walk.specs.code.Pieces.{structKind, startOf, fieldAt, shortAt, fieldName, angled, braced, partOf, endedBy, markedBy, headedBy, ReadsBy};
 use forms::Spot;
 use lists::Listed;
 use lists::Step;
@@ -24,6 +25,7 @@ use records::kinds::REC_STRUCT;
 use records::kinds::REC_STRUCT_TYPED;
 use records::kinds::REC_VARIABLE;
 use tokens::Lexed;
+use tokens::Refusal;
 use tokens::Token;
 use words::kinds::COLON;
 use words::kinds::COLON_COLON;
@@ -34,6 +36,13 @@ use words::kinds::LESS;
 use words::kinds::PIPE;
 use words::kinds::R_BRACE;
 use words::kinds::R_PAREN;
+
+// What a binding is, by its first token and the one behind it.
+pub enum Start {
+    Variable(Token),
+    Struct,
+    Refused(Refusal),
+}
 
 // The most levels.
 const LEVELS: usize = 64;
@@ -49,6 +58,25 @@ fn is_struct(kind: u8) -> bool
         return true;
     }
     kind == COLON_COLON
+}
+
+// What the binding that a begins is: a variable, and the token behind it, or a struct.
+fn bind_start(text: &[u8], a: Token) -> Start
+    ensures { λ r. ⌜ r ≡ startOf (a .kind) (nextToken (now (text .entry)) (a .end)) ⌝ }
+{
+    if a.kind != IDENTIFIER {
+        return Start::Struct;
+    }
+    let l = tokens::next_token(text, a.end);
+    match l {
+        Lexed::Refused(r) => Start::Refused(r),
+        Lexed::Found(n) => {
+            if is_struct(n.kind) {
+                return Start::Struct;
+            }
+            Start::Variable(n)
+        }
+    }
 }
 
 // A list, as a part of a record.
@@ -142,16 +170,11 @@ fn parse_bind(w: Way, text: &[u8], a: Token, out: &mut [u8], s: Spot) -> Parsed
         form: w.form,
         left: w.left - 1,
     };
-    if a.kind != IDENTIFIER {
-        return unpack_at(deeper, text, a, out, s);
-    }
-    let l = tokens::next_token(text, a.end);
-    match l {
-        Lexed::Refused(r) => Parsed::Refused(r),
-        Lexed::Found(n) => {
-            if is_struct(n.kind) {
-                return unpack_at(deeper, text, a, out, s);
-            }
+    let b = bind_start(text, a);
+    match b {
+        Start::Refused(r) => Parsed::Refused(r),
+        Start::Struct => unpack_at(deeper, text, a, out, s),
+        Start::Variable(n) => {
             let to = forms::put_leaf(w.form, REC_VARIABLE, text, a, out, s);
             Parsed::Read(Part {
                 to: to,

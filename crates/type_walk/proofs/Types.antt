@@ -1,14 +1,15 @@
 -- Types: what is laid down, and one law for each way through the code, over the reader of a type one level deeper.
 use mathlib.Core.Path.{_≡_, refl, ap, sym, _∙_, subst}
-use mathlib.Core.Bool.{Bool, true, false, cond}
+use mathlib.Core.Bool.{Bool, true, false, cond, _||_}
 use mathlib.Core.List.{List, [], _++_, append-nil}
 use Prim.Native.Nat.{ℕ, suc, _-_, _<_, _≤_}
 use native.Mathlib.Omega.{arith}
-use borrow.Author.Tests.{eq-eqb, ne-eqb}
+use borrow.Author.Tests.{eq-eqb, ne-eqb, eqb-true, eqb-false}
 use lib.Dec.{eqb}
 use lib.ListN.{length}
 use lib.Seq.{sets}
 use Rattle.classes.specs.Bytes.{bytes}
+use Rattle.classes.proofs.Bools.{false-true}
 use Rattle.words.specs.Kinds.{Amp, AmpMut, LParen, RParen, Less, Greater, Pipe}
 use Rattle.tokens.specs.Refusals.{TooDeep}
 use Rattle.tokens.specs.Answers.{refusal}
@@ -300,6 +301,29 @@ module _ (f : ℕ) (text : List ℕ) (item : Reader) (a : Answer) (s : Spot) (l 
             })
             (omega (arith, on .0, after-name .from, after-name .fits .1, goes .0)) (goes .1)
 
+-- the kinds that begin a reference
+neither-left : (a b : Bool) → (a || b) ≡ false → a ≡ false
+neither-left true b h = false-true _ (sym h)
+neither-left false b h = refl
+
+neither-right : (a b : Bool) → (a || b) ≡ false → b ≡ false
+neither-right true b h = false-true _ (sym h)
+neither-right false b h = h
+
+module _ (k : ℕ) (x : Bool) (r : x ≡ (eqb k Amp || eqb k AmpMut)) where
+  pub begins-reference : x ≡ true → 0 < k
+  begins-reference e = go (eqb k Amp) refl
+    where
+      go : (b : Bool) → eqb k Amp ≡ b → 0 < k
+      go true d = omega (arith, eqb-true k Amp d)
+      go false d = omega (arith, eqb-true k AmpMut (sym (ap (λ (b : Bool). b || eqb k AmpMut) d) ∙ (sym r ∙ e)))
+
+  pub no-reference : x ≡ false → k ≡ Amp → ⊥
+  no-reference e = eqb-false k Amp (neither-left (eqb k Amp) (eqb k AmpMut) (sym r ∙ e))
+
+  pub no-reference-mut : x ≡ false → k ≡ AmpMut → ⊥
+  no-reference-mut e = eqb-false k AmpMut (neither-right (eqb k Amp) (eqb k AmpMut) (sym r ∙ e))
+
 -- a type by its first token
 module _ (item : Reader) (t : Token) where
   over-brackets : t .kind ≡ LParen → typeOver item t ≡ brackets item t
@@ -329,6 +353,17 @@ module _ (item : Reader) (t : Token) where
             when-false (eqb (t .kind) LParen) _ _ (ne-eqb _ _ d) ∙ when-false (eqb (t .kind) Amp) _ _ (ne-eqb _ _ g) ∙ when-false (eqb (t .kind) AmpMut) _ _ (ne-eqb _ _ h)
             ∙ when-false (eqb (t .kind) Pipe) _ _ (ne-eqb _ _ e)
 
+    over-reference : (eqb (t .kind) Amp || eqb (t .kind) AmpMut) ≡ true → typeOver item t ≡ reference item (cond (eqb (t .kind) AmpMut) RecRefMut RecRef) t
+    over-reference e = go (eqb (t .kind) Amp) refl
+      where
+        go : (b : Bool) → eqb (t .kind) Amp ≡ b → typeOver item t ≡ reference item (cond (eqb (t .kind) AmpMut) RecRefMut RecRef) t
+        go true h =
+            let q = eqb-true (t .kind) Amp h in
+            over-ref q ∙ ap (λ (b : Bool). reference item (cond b RecRefMut RecRef) t) (sym (ne-eqb (t .kind) AmpMut (λ w. absurd (omega (arith, q, w)))))
+        go false h =
+            let y = sym (ap (λ (b : Bool). b || eqb (t .kind) AmpMut) h) ∙ e in
+            over-ref-mut (eqb-false (t .kind) Amp h) (eqb-true (t .kind) AmpMut y) ∙ ap (λ (b : Bool). reference item (cond b RecRefMut RecRef) t) (sym y)
+
 module _ (f : ℕ) (text : List ℕ) (left : ℕ) (a : Answer) (s : Spot) (l m : List ℕ) (r : Parsed) where
   abbrev Whole : Ans Tree → Type 0
   Whole x = Reads f text (Fits text a) x (a .end) s l r m
@@ -351,13 +386,13 @@ module _ (f : ℕ) (text : List ℕ) (left : ℕ) (a : Answer) (s : Spot) (l m :
     type-brackets e d = whole-as (brackets (readType (left - 1)) (held text a)) (over-brackets (readType (left - 1)) (held text a) e) d
 
     module _ (k₁ : (a .kind ≡ LParen → ⊥)) where
-      pub type-ref : a .kind ≡ Amp → Whole (reference (readType (left - 1)) RecRef (held text a)) → Whole (readType left (held text a))
-      type-ref e d = whole-as (reference (readType (left - 1)) RecRef (held text a)) (over-ref (readType (left - 1)) (held text a) k₁ e) d
+      pub type-reference : (x : Bool) → x ≡ (eqb (a .kind) Amp || eqb (a .kind) AmpMut) → x ≡ true
+          → Whole (reference (readType (left - 1)) (cond (eqb (a .kind) AmpMut) RecRefMut RecRef) (held text a)) → Whole (readType left (held text a))
+      type-reference x r e d =
+          whole-as (reference (readType (left - 1)) (cond (eqb (a .kind) AmpMut) RecRefMut RecRef) (held text a))
+          (over-reference (readType (left - 1)) (held text a) k₁ (sym r ∙ e)) d
 
       module _ (k₂ : (a .kind ≡ Amp → ⊥)) where
-        pub type-ref-mut : a .kind ≡ AmpMut → Whole (reference (readType (left - 1)) RecRefMut (held text a)) → Whole (readType left (held text a))
-        type-ref-mut e d = whole-as (reference (readType (left - 1)) RecRefMut (held text a)) (over-ref-mut (readType (left - 1)) (held text a) k₁ k₂ e) d
-
         module _ (k₃ : (a .kind ≡ AmpMut → ⊥)) where
           pub type-function : a .kind ≡ Pipe → Whole (function (readType (left - 1)) (held text a)) → Whole (readType left (held text a))
           type-function e d = whole-as (function (readType (left - 1)) (held text a)) (over-function (readType (left - 1)) (held text a) k₁ k₂ k₃ e) d

@@ -1,7 +1,8 @@
 // Types and lists of types, laid down in the form that the caller asks for.
 ghost use mathlib.Core.Path.{_≡_};
-ghost use mathlib.Core.Bool.{cond};
-ghost use Rattle.words.specs.Kinds.{Greater};
+ghost use mathlib.Core.Bool.{cond, _||_};
+ghost use lib.Dec.{eqb};
+ghost use Rattle.words.specs.Kinds.{Amp, AmpMut, Greater};
 ghost use Rattle.tokens.specs.Refusals.{TooDeep};
 ghost use Rattle.records.specs.Kinds.{RecRef, RecRefMut};
 ghost use Rattle.answers.specs.Reading.{listBehind};
@@ -39,6 +40,16 @@ pub fn too_deep(t: Token) -> Parsed
     ensures { λ r. ⌜ r ≡ refusedToken TooDeep t ⌝ }
 {
     Parsed::Refused(tokens::refuse(TOO_DEEP, t.start, t.end))
+}
+
+// Whether a reference begins with a token of this kind.
+fn is_reference(kind: u8) -> bool
+    ensures { λ r. ⌜ r ≡ (eqb kind Amp || eqb kind AmpMut) ⌝ }
+{
+    if kind == AMP {
+        return true;
+    }
+    kind == AMP_MUT
 }
 
 // The kind of a reference.
@@ -91,11 +102,8 @@ pub fn parse_type(w: Way, text: &[u8], a: Token, out: &mut [u8], s: Spot) -> Par
     if a.kind == L_PAREN {
         return brackets_at(deeper, text, a, out, s);
     }
-    if a.kind == AMP {
-        return reference_at(deeper, false, text, a, out, s);
-    }
-    if a.kind == AMP_MUT {
-        return reference_at(deeper, true, text, a, out, s);
+    if is_reference(a.kind) {
+        return reference_at(deeper, a.kind == AMP_MUT, text, a, out, s);
     }
     if a.kind == PIPE {
         return function_at(deeper, text, a, out, s);

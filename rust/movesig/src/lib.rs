@@ -69,4 +69,4 @@ pub const LEVELS: usize = 64;
 
 /// Bytes of stack that are enough for any call: what was measured and at least a tenth more, as
 /// `MOVESIG_STACK` of `movesig.h`. It is measured, not proved.
-pub const STACK: usize = 106_496;
+pub const STACK: usize = 73_728;

@@ -38,10 +38,9 @@ pub +field-list+fields-at+parse-bind+parse-bind-field+unpack-at-spec : {M : Type
     (FieldsAt.unexpected-requires t) (FieldsAt.returns t) (FieldsAt.put-marks-requires t) (FieldsAt.field-list-requires t)
     (FieldsAt.part-of-requires t) (FieldsAt.end-part-requires t) (FieldsAt.same-length t) (FieldsAt.returns-2 t))
     (λ t. parse-bind-lts.spec (ParseBind.claims t) (parse-bind-at t) parse-bind.Post
-    (ParseBind.too-deep-requires t) (ParseBind.returns t) (ParseBind.sub-t12 t) (ParseBind.unpack-at-requires t) (ParseBind.same-length t)
-    (ParseBind.returns-2 t) (ParseBind.next-token-requires t) (ParseBind.enum-known-l t) (ParseBind.enum-known-l-2 t) (ParseBind.is-struct-requires t)
-    (ParseBind.unpack-at-requires-2 t) (ParseBind.same-length-2 t) (ParseBind.returns-3 t) (ParseBind.put-leaf-requires t) (ParseBind.returns-4 t)
-    (ParseBind.same-length-3 t) (ParseBind.returns-5 t))
+    (ParseBind.too-deep-requires t) (ParseBind.returns t) (ParseBind.sub-t12 t) (ParseBind.bind-start-requires t) (ParseBind.enum-known-b t)
+    (ParseBind.enum-told t) (ParseBind.unpack-at-requires t) (ParseBind.enum-known-b-2 t) (ParseBind.put-leaf-requires t) (ParseBind.returns-2 t)
+    (ParseBind.same-length t) (ParseBind.returns-3 t) (ParseBind.same-length-2 t) (ParseBind.returns-4 t))
     (λ t. parse-bind-field-lts.spec (ParseBindField.claims t) (parse-bind-field-at t) parse-bind-field.Post
     (ParseBindField.too-deep-requires t) (ParseBindField.returns t) (ParseBindField.unexpected-requires t) (ParseBindField.returns-2 t)
     (ParseBindField.next-token-requires t) (ParseBindField.enum-known-l t) (ParseBindField.enum-known-l-2 t) (ParseBindField.put-short-requires t)

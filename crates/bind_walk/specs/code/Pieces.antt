@@ -1,14 +1,16 @@
 -- Pieces of bindings as they are laid down, and what a function answers that reads a part of a binding.
 use Prim.Native.Nat.{ℕ}
 use mathlib.Core.Path.{_≡_}
-use mathlib.Core.Bool.{Bool, _||_}
+use mathlib.Core.Bool.{Bool, cond, _||_}
 use mathlib.Core.List.{List, [], _∷_, _++_}
 use lib.Dec.{eqb}
 use lib.ListN.{length}
 use lib.Seq.{sets}
 use Rattle.classes.specs.Bytes.{bytes}
-use Rattle.words.specs.Kinds.{ColonColon, Less, LBrace}
+use Rattle.words.specs.Kinds.{Identifier, ColonColon, Less, LBrace}
 use Rattle.tokens.specs.declared.Token.{Token}
+use Rattle.tokens.specs.declared.Lexed.{Lexed}
+use Rattle.tokens.specs.declared.Lexed.the-variants.{Found, Refused as Bad}
 use Rattle.records.specs.Kinds.{RecName, RecVariable, RecField}
 use Rattle.records.specs.Tree.{Tree, node, Trees, none, more}
 use Rattle.sources.specs.Source.{opened}
@@ -24,10 +26,20 @@ use Rattle.parts.specs.code.Meets.{Refuses, Follows}
 use Rattle.chains.specs.code.Parts.{leafAt}
 use Rattle.lists.specs.declared.Listed.{Listed}
 use Rattle.lists.specs.declared.Listed.the-variants.{All, Refused as Broken}
+use Rattle.bind_walk.specs.declared.Start.{Start}
+use Rattle.bind_walk.specs.declared.Start.the-variants.{Variable, Struct, Refused as Faulty}
 
 -- the kind of the token behind an identifier: the binding is no variable
 abbrev pub structKind : ℕ → Bool
 structKind k = eqb k LBrace || eqb k Less || eqb k ColonColon
+
+-- what a binding is, by the token behind an identifier, and by its first token's kind
+unfoldable pub startBy : Lexed → Start
+startBy (Found n) = cond (structKind (n .kind)) Struct (Variable n)
+startBy (Bad r) = Faulty r
+
+abbrev pub startOf : ℕ → Lexed → Start
+startOf k l = cond (eqb k Identifier) (startBy l) Struct
 
 -- the reader of a field where n levels are left
 abbrev pub fieldAt : ℕ → Reader
