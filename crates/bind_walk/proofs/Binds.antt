@@ -22,7 +22,7 @@ use Rattle.sources.specs.Source.{Token, after}
 use Rattle.answers.specs.Reading.{Ans, ok, no, then, leafOf, refusedAt}
 use Rattle.grammar.specs.Types.{spanned, readType}
 use Rattle.grammar.specs.Binds.{fields, unpacked, bindOver, fieldOver, readField, readBind}
-use Rattle.forms.specs.Forms.{mark, spelt, laid, headed}
+use Rattle.forms.specs.Forms.{markIn, spelt, laid, headed}
 use Rattle.forms.specs.code.Spots.{last, inside, Placed, wordOf}
 use Rattle.forms.specs.declared.Spot.{Spot}
 use Rattle.forms.proofs.Placing.{placed-as}
@@ -34,7 +34,7 @@ use Rattle.parts.proofs.Held.{held-end, held-leaf, next-found, look-found, look
 use Rattle.parts.proofs.Contracts.{reads-no, reads-read, reads-as}
 use Rattle.chains.specs.code.Parts.{leafAt}
 use Rattle.chains.proofs.Names.{leaf-laid, when-true, when-false, token-refused, read-to}
-use Rattle.bind_walk.specs.code.Pieces.{structKind, startBy, startOf, fieldAt, shortAt, fieldName, headedBy}
+use Rattle.bind_walk.specs.code.Pieces.{structKind, startBy, openingOf, fieldAt, shortAt, fieldName, headedBy}
 use Rattle.bind_walk.specs.declared.Start.{Start}
 use Rattle.bind_walk.specs.declared.Start.the-variants.{Variable, Struct, Refused as Faulty}
 use Rattle.bind_walk.proofs.Parted.{goes-from, by-meets, front, closed-by}
@@ -43,7 +43,7 @@ use Rattle.bind_walk.proofs.Parted.{goes-from, by-meets, front, closed-
 differ : (A : Type 0) → _≡_ {A = ℕ} 0 1 → A
 differ A h = absurd (omega (arith, h))
 
-start-refused : (k : ℕ) (y : Lexed) (r : Refusal) → startOf k y ≡ Faulty r → (k ≡ Identifier) × (y ≡ Bad r)
+start-refused : (k : ℕ) (y : Lexed) (r : Refusal) → openingOf k y ≡ Faulty r → (k ≡ Identifier) × (y ≡ Bad r)
 unfolding startBy
 start-refused k y r = go (eqb k Identifier) refl y
   where
@@ -56,7 +56,7 @@ start-refused k y r = go (eqb k Identifier) refl y
     go true d (Bad q) e = (eqb-true k Identifier d, cc)
     go false d z e = differ _ cc
 
-start-variable : (k : ℕ) (y : Lexed) (v : Answer) → startOf k y ≡ Variable v → (k ≡ Identifier) × ((y ≡ Found v) × (structKind (v .kind) ≡ false))
+start-variable : (k : ℕ) (y : Lexed) (v : Answer) → openingOf k y ≡ Variable v → (k ≡ Identifier) × ((y ≡ Found v) × (structKind (v .kind) ≡ false))
 unfolding startBy
 start-variable k y v = go (eqb k Identifier) refl y
   where
@@ -69,7 +69,7 @@ start-variable k y v = go (eqb k Identifier) refl y
     go true d (Bad q) e = differ _ cc
     go false d z e = differ _ cc
 
-start-struct : (A : Type 0) (k : ℕ) (y : Lexed) → startOf k y ≡ Struct → ((k ≡ Identifier → ⊥) → A) → (k ≡ Identifier → (n : Answer) → y ≡ Found n → structKind (n .kind) ≡ true → A) → A
+start-struct : (A : Type 0) (k : ℕ) (y : Lexed) → openingOf k y ≡ Struct → ((k ≡ Identifier → ⊥) → A) → (k ≡ Identifier → (n : Answer) → y ≡ Found n → structKind (n .kind) ≡ true → A) → A
 unfolding startBy
 start-struct A k y = go (eqb k Identifier) refl y
   where
@@ -138,7 +138,7 @@ module _ (f : ℕ) (text : List ℕ) (s : Spot) (l m : List ℕ) (a : Answer) wh
               (placed-as l m (spelt f RecVariable (a .start) (a .end) (wordOf text a)) (laid f (leafAt RecVariable text a)) s to (sym (leaf-laid f text RecVariable a refl)) w)
 
       -- by the binding's start
-      module _ (x : Start) (e : x ≡ startOf (a .kind) (nextToken text (a .end))) where
+      module _ (x : Start) (e : x ≡ openingOf (a .kind) (nextToken text (a .end))) where
         pub start-bad : (r : Refusal) → x ≡ Faulty r → Bind (Refused r)
         start-bad r d = let w = start-refused (a .kind) (nextToken text (a .end)) r (sym e ∙ d) in bind-bad (w .0) r (w .1)
 
@@ -220,7 +220,7 @@ module _ (f : ℕ) (text : List ℕ) (s : Spot) (l m : List ℕ) (a : Answer) wh
                   subst (λ (r : Parsed). Field r) (sym (v .0))
                   (record {
                     meets = λ z. closed-by (λ t. fieldName f text a ++ laid f t) f text field (readBind n (held text b)) fieldOf RecField (a .start) s l m₂ m p i (bound z)
-                        (λ t u q _. laid-field f (a .start) q name t ∙ ap (headed f RecField (a .start) q) (sym (append-assoc (laid f name) (mark f (bytes ": ")) (laid f t))))
+                        (λ t u q _. laid-field f (a .start) q name t ∙ ap (headed f RecField (a .start) q) (sym (append-assoc (laid f name) (markIn f (bytes ": ")) (laid f t))))
                         (front (laid f) text (readBind n (held text b)) (fieldName f text a) (inside f s) q l l₂ m₂ p i w (by-meets f text (readBind n (held text b)) q l₂ m₂ p (j .meets (y .fits)))) (v .1);
                     goes = goes-from text (b .end) p (j .goes) (a .end) (omega (arith, x .from, x .fits .1, y .from, y .fits .1));
                   })

@@ -17,7 +17,7 @@ use Rattle.sources.specs.Source.{opened}
 use Rattle.answers.specs.Reading.{Ans, ok, then, listBehind}
 use Rattle.grammar.specs.Types.{levels}
 use Rattle.grammar.specs.Binds.{readBind, readBindList, readLambdaList}
-use Rattle.forms.specs.Forms.{mark, laid, headed, listedRest, listed, inBars}
+use Rattle.forms.specs.Forms.{markIn, laid, headed, listedRest, laidItems, inBars}
 use Rattle.forms.specs.code.Spots.{last, inside, sealed, Placed}
 use Rattle.forms.specs.declared.Spot.{Spot}
 use Rattle.forms.proofs.Placing.{placed-as}
@@ -38,8 +38,8 @@ use Rattle.bind_walk.proofs.Parted.{then-ok, by-meets, list-part, marke
 use Rattle.bind_walk.proofs.Binds.{itself}
 
 -- a list of one item
-listed-one : (f : ℕ) (t : Tree) → listed f (more t none) ≡ laid f t
-unfolding listed listedRest
+listed-one : (f : ℕ) (t : Tree) → laidItems f (more t none) ≡ laid f t
+unfolding laidItems listedRest
 listed-one f t = append-nil (laid f t)
 
 module _ (f : ℕ) (text : List ℕ) (a : Answer) (s i : Spot) (l m : List ℕ) (h : length l ≤ last) (j : i ≡ inside f s) where
@@ -47,7 +47,7 @@ module _ (f : ℕ) (text : List ℕ) (a : Answer) (s i : Spot) (l m : List ℕ) 
   Binds r = Reads f text (Fits text a) (readBindList (held text a)) (a .end) s l r m
 
   -- one binding alone
-  pub binds-one : (a .kind ≡ LParen → ⊥) → (q : Spot) (l₁ l₂ l₃ : List ℕ) (b c r : Parsed) → Placed l i (mark f (bytes "(")) q l₁ → Reads f text (Fits text a) (readBind levels (held text a)) (a .end) q l₁ b l₂
+  pub binds-one : (a .kind ≡ LParen → ⊥) → (q : Spot) (l₁ l₂ l₃ : List ℕ) (b c r : Parsed) → Placed l i (markIn f (bytes "(")) q l₁ → Reads f text (Fits text a) (readBind levels (held text a)) (a .end) q l₁ b l₂
       → (c ≡ endedBy f 41 b) × (l₃ ≡ markedBy f 41 b l₂) → (r ≡ c) × (m ≡ headedBy f RecBindList (a .start) s c l₃) → Binds r
   unfolding readBindList
   binds-one k q l₁ l₂ l₃ b c r g d e w =
@@ -58,16 +58,16 @@ module _ (f : ℕ) (text : List ℕ) (a : Answer) (s i : Spot) (l m : List ℕ) 
       (marked (laid f) text y f 41 (bytes "(") (Fits text a) (a .end) i q l l₁ l₂ l₃ b c h g (record { meets = λ z. by-meets f text y q l₁ l₂ b (d .meets z); goes = d .goes }) (e .0) (e .1)) (w .0) (w .1)
 
   -- bindings in brackets
-  pub binds-many : a .kind ≡ LParen → (q : Spot) (l₁ l₂ l₃ : List ℕ) (t : Listed) (p c r : Parsed) → Placed l i (mark f (bytes "(")) q l₁
+  pub binds-many : a .kind ≡ LParen → (q : Spot) (l₁ l₂ l₃ : List ℕ) (t : Listed) (p c r : Parsed) → Placed l i (markIn f (bytes "(")) q l₁
       → ReadsAll f text (Fits text a) (listBehind (readBind levels) RParen (held text a)) (a .end) q l₁ t l₂ → p ≡ partOf t
       → (c ≡ endedBy f 41 p) × (l₃ ≡ markedBy f 41 p l₂) → (r ≡ c) × (m ≡ headedBy f RecBindList (a .start) s c l₃) → Binds r
   unfolding readBindList
   binds-many k q l₁ l₂ l₃ t p c r g d e v w =
       let y = listBehind (readBind levels) RParen (held text a) in
-      reads-closed (λ xs. enclosed f (bytes "(") 41 (listed f xs)) f text (Fits text a) (readBindList (held text a)) y (λ xs x. node RecBindList (a .start) x xs) RecBindList (a .start) (a .end) s i l l₃ m c r h j
+      reads-closed (λ xs. enclosed f (bytes "(") 41 (laidItems f xs)) f text (Fits text a) (readBindList (held text a)) y (λ xs x. node RecBindList (a .start) x xs) RecBindList (a .start) (a .end) s i l l₃ m c r h j
       (λ _. when-true (eqb (a .kind) LParen) _ _ (eq-eqb (a .kind) LParen k))
       (λ xs u x _. laid-bind-list f (a .start) x xs)
-      (marked (listed f) text y f 41 (bytes "(") (Fits text a) (a .end) i q l l₁ l₂ l₃ p c h g (list-part f text (Fits text a) y (a .end) q l₁ l₂ t d p e) (v .0) (v .1)) (w .0) (w .1)
+      (marked (laidItems f) text y f 41 (bytes "(") (Fits text a) (a .end) i q l l₁ l₂ l₃ p c h g (list-part f text (Fits text a) y (a .end) q l₁ l₂ t d p e) (v .0) (v .1)) (w .0) (w .1)
 
 module _ (f : ℕ) (text : List ℕ) (a : Answer) (s : Spot) (l : List ℕ) where
   abbrev lambda : Ans Tree
@@ -94,21 +94,21 @@ module _ (f : ℕ) (text : List ℕ) (a : Answer) (s : Spot) (l : List ℕ) wher
         (λ z. subst (λ (y : Ans Tree). Refuses y r) (sym in-bars) (refuses-ok binds r (λ xs u. node RecLambdaBindList (a .start) (u .at) xs) (all-not f text (Fits text a) binds (a .end) q l₁ l₂ t d r e z)))
 
     -- the bar behind the items is told by how many there are
-    pub lambda-read : (i : Spot) → length l ≤ last → i ≡ inside f s → Placed l i (mark f (bytes "|")) q l₁ → (n : Items) → t ≡ All n → (to : Spot) (l₃ m : List ℕ)
-        → Placed l₂ (n .to) (mark f (cond (eqb (n .count) 0) (bytes " |") (bytes "|"))) to l₃ → m ≡ sealed f RecLambdaBindList (a .start) (n .end) s to l₃ → Lambda (Read (record { to = to; end = n .end; next = n .next })) m
+    pub lambda-read : (i : Spot) → length l ≤ last → i ≡ inside f s → Placed l i (markIn f (bytes "|")) q l₁ → (n : Items) → t ≡ All n → (to : Spot) (l₃ m : List ℕ)
+        → Placed l₂ (n .to) (markIn f (cond (eqb (n .count) 0) (bytes " |") (bytes "|"))) to l₃ → m ≡ sealed f RecLambdaBindList (a .start) (n .end) s to l₃ → Lambda (Read (record { to = to; end = n .end; next = n .next })) m
     unfolding Meets Follows
     lambda-read i h j g n e to l₃ m b w =
         record {
           meets = λ z.
               (let x = all-had f text (Fits text a) binds (a .end) q l₁ l₂ t d n e z in
-              let bar = mark f (cond (eqb (n .count) 0) (bytes " |") (bytes "|")) in
-              let named : mark f (bytes "|") ++ (listed f (x .what) ++ bar) ≡ inBars f (x .what) = ap (λ (v : ℕ). mark f (bytes "|") ++ (listed f (x .what) ++ mark f (cond (eqb v 0) (bytes " |") (bytes "|")))) (x .counts) ∙ sym (bars-laid f (x .what)) in
+              let bar = markIn f (cond (eqb (n .count) 0) (bytes " |") (bytes "|")) in
+              let named : markIn f (bytes "|") ++ (laidItems f (x .what) ++ bar) ≡ inBars f (x .what) = ap (λ (v : ℕ). markIn f (bytes "|") ++ (laidItems f (x .what) ++ markIn f (cond (eqb v 0) (bytes " |") (bytes "|")))) (x .counts) ∙ sym (bars-laid f (x .what)) in
               record {
                 what = node RecLambdaBindList (a .start) (n .end) (x .what);
                 is = in-bars ∙ then-ok binds _ (x .what) (opened text (n .end)) (x .is);
                 bytes =
                     placed-as l m _ (laid f (node RecLambdaBindList (a .start) (n .end) (x .what))) s to (ap (headed f RecLambdaBindList (a .start) (n .end)) named ∙ sym (laid-lambda-list f (a .start) (n .end) (x .what)))
-                    (placed-parted f RecLambdaBindList (a .start) (n .end) l l₁ l₂ l₃ m (mark f (bytes "|")) (listed f (x .what)) bar s i q (n .to) to h j g (x .bytes) b w);
+                    (placed-parted f RecLambdaBindList (a .start) (n .end) l l₁ l₂ l₃ m (markIn f (bytes "|")) (laidItems f (x .what)) bar s i q (n .to) to h j g (x .bytes) b w);
               });
           goes = all-goes f text (Fits text a) binds (a .end) q l₁ l₂ t d n e;
         }

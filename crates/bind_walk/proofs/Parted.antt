@@ -10,7 +10,7 @@ use Rattle.tokens.specs.declared.Lexed.the-variants.{Found}
 use Rattle.records.specs.Tree.{Tree, Trees}
 use Rattle.sources.specs.Source.{Source, opened}
 use Rattle.answers.specs.Reading.{Ans, ok, no, then}
-use Rattle.forms.specs.Forms.{mark, laid, headed, listed}
+use Rattle.forms.specs.Forms.{markIn, laid, headed, laidItems}
 use Rattle.forms.specs.code.Spots.{last, inside, sealed, Placed}
 use Rattle.forms.specs.declared.Spot.{Spot}
 use Rattle.forms.proofs.Placing.{placed-long, placed-as, placed-both, placed-headed}
@@ -62,11 +62,11 @@ module _ (f : ℕ) (text : List ℕ) (x : Ans Tree) (s : Spot) (l m : List ℕ) 
 
 -- a list as a part
 module _ (f : ℕ) (text : List ℕ) (fits : Type 0) (x : Ans Trees) (from : ℕ) (s : Spot) (l m : List ℕ) where
-  pub list-part : (r : Listed) → ReadsAll f text fits x from s l r m → (p : Parsed) → p ≡ partOf r → ReadsBy (listed f) text fits x from s l p m
+  pub list-part : (r : Listed) → ReadsAll f text fits x from s l r m → (p : Parsed) → p ≡ partOf r → ReadsBy (laidItems f) text fits x from s l p m
   unfolding MeetsAll MeetsBy FollowsAll Follows partOf
-  list-part r d p e = subst (λ (y : Parsed). ReadsBy (listed f) text fits x from s l y m) (sym e) (go r d)
+  list-part r d p e = subst (λ (y : Parsed). ReadsBy (laidItems f) text fits x from s l y m) (sym e) (go r d)
     where
-      go : (r : Listed) → ReadsAll f text fits x from s l r m → ReadsBy (listed f) text fits x from s l (partOf r) m
+      go : (r : Listed) → ReadsAll f text fits x from s l r m → ReadsBy (laidItems f) text fits x from s l (partOf r) m
       go (All n) d = record { meets = λ z. (let h = d .meets z in record { what = h .what; is = h .is; bytes = h .bytes }); goes = d .goes }
       go (Broken q) d = record { meets = d .meets; goes = tt }
 
@@ -78,9 +78,9 @@ module _ {A : Type 0} (lay : A → List ℕ) (text : List ℕ) (y : Ans A) where
   front pre i q l l₂ m (Refused r) h g d = d
 
   -- a mark stands behind it
-  pub ended : (f b : ℕ) (s : Spot) (l m₂ m : List ℕ) (p : Parsed) → length l ≤ last → MeetsBy lay text y s l p m₂ → m ≡ markedBy f b p m₂ → MeetsBy (λ t. lay t ++ mark f (b ∷ [])) text y s l (endedBy f b p) m
+  pub ended : (f b : ℕ) (s : Spot) (l m₂ m : List ℕ) (p : Parsed) → length l ≤ last → MeetsBy lay text y s l p m₂ → m ≡ markedBy f b p m₂ → MeetsBy (λ t. lay t ++ markIn f (b ∷ [])) text y s l (endedBy f b p) m
   unfolding MeetsBy markedBy endedBy
-  ended f b s l m₂ m (Read p) h d e = record { what = d .what; is = d .is; bytes = placed-both l m₂ m (lay (d .what)) (mark f (b ∷ [])) s (p .to) _ h (d .bytes) (record { ends = refl; holds = e }) }
+  ended f b s l m₂ m (Read p) h d e = record { what = d .what; is = d .is; bytes = placed-both l m₂ m (lay (d .what)) (markIn f (b ∷ [])) s (p .to) _ h (d .bytes) (record { ends = refl; holds = e }) }
   ended f b s l m₂ m (Refused r) h d e = d
 
   goes-ended : (f b from : ℕ) (p : Parsed) → Follows text from p → Follows text from (endedBy f b p)
@@ -89,13 +89,13 @@ module _ {A : Type 0} (lay : A → List ℕ) (text : List ℕ) (y : Ans A) where
   goes-ended f b from (Refused r) h = h
 
 -- marks on both sides
-pub marked : {A : Type 0} (lay : A → List ℕ) (text : List ℕ) (y : Ans A) (f b : ℕ) (xs : List ℕ) (fits : Type 0) (from : ℕ) (s q : Spot) (l l₂ m₂ m : List ℕ) (p r : Parsed) → length l ≤ last → Placed l s (mark f xs) q l₂ → ReadsBy lay text fits y from q l₂ p m₂
+pub marked : {A : Type 0} (lay : A → List ℕ) (text : List ℕ) (y : Ans A) (f b : ℕ) (xs : List ℕ) (fits : Type 0) (from : ℕ) (s q : Spot) (l l₂ m₂ m : List ℕ) (p r : Parsed) → length l ≤ last → Placed l s (markIn f xs) q l₂ → ReadsBy lay text fits y from q l₂ p m₂
     → r ≡ endedBy f b p → m ≡ markedBy f b p m₂ → ReadsBy (λ t. enclosed f xs b (lay t)) text fits y from s l r m
 marked lay text y f b xs fits from s q l l₂ m₂ m p r h g d e i =
-    let n = placed-long l l₂ (mark f xs) s q g in
+    let n = placed-long l l₂ (markIn f xs) s q g in
     subst (λ (z : Parsed). ReadsBy (λ t. enclosed f xs b (lay t)) text fits y from s l z m) (sym e)
     (record {
-      meets = λ z. front (λ t. lay t ++ mark f (b ∷ [])) text y (mark f xs) s q l l₂ m (endedBy f b p) h g (ended lay text y f b q l₂ m₂ m p (omega (arith, n, h)) (d .meets z) i);
+      meets = λ z. front (λ t. lay t ++ markIn f (b ∷ [])) text y (markIn f xs) s q l l₂ m (endedBy f b p) h g (ended lay text y f b q l₂ m₂ m p (omega (arith, n, h)) (d .meets z) i);
       goes = goes-ended lay text y f b from p (d .goes);
     })
 
@@ -148,7 +148,7 @@ module _ (f b : ℕ) (l : List ℕ) (p : Parsed) where
   unfolding endedBy markedBy
   ending-refused r e = (rw e, rw e)
 
-  pub ending-read : (q : Part) (to : Spot) (m : List ℕ) → p ≡ Read q → Placed l (q .to) (mark f (b ∷ [])) to m → (Read (record { to = to; end = q .end; next = q .next }) ≡ endedBy f b p) × (m ≡ markedBy f b p l)
+  pub ending-read : (q : Part) (to : Spot) (m : List ℕ) → p ≡ Read q → Placed l (q .to) (markIn f (b ∷ [])) to m → (Read (record { to = to; end = q .end; next = q .next }) ≡ endedBy f b p) × (m ≡ markedBy f b p l)
   unfolding endedBy markedBy
   ending-read q to m e w = (rw (e, w .ends), rw e (w .holds))
 

@@ -21,7 +21,7 @@ use Rattle.answers.specs.Reading.{Ans, ok, no, then, look, when, listBehind}
 use Rattle.grammar.specs.Names.{chain}
 use Rattle.grammar.specs.Types.{readType}
 use Rattle.grammar.specs.Binds.{fields, structOver, unpacked}
-use Rattle.forms.specs.Forms.{mark, laid, headed, listed}
+use Rattle.forms.specs.Forms.{markIn, laid, headed, laidItems}
 use Rattle.forms.specs.code.Spots.{last, inside, Placed}
 use Rattle.forms.specs.declared.Spot.{Spot}
 use Rattle.forms.proofs.Placing.{placed-both}
@@ -49,12 +49,12 @@ joins : (a b c d e : List ℕ) → a ++ (b ++ (c ++ (d ++ e))) ≡ (a ++ (b ++ (
 joins a b c d e = simp append-assoc
 
 -- the types behind the `<` o
-pub types-enclosed : (f : ℕ) (text : List ℕ) (n : ℕ) (o : Answer) (s q : Spot) (l l₂ m₂ m : List ℕ) (t : Listed) (p r : Parsed) → length l ≤ last → Placed l s (mark f (bytes "<")) q l₂
+pub types-enclosed : (f : ℕ) (text : List ℕ) (n : ℕ) (o : Answer) (s q : Spot) (l l₂ m₂ m : List ℕ) (t : Listed) (p r : Parsed) → length l ≤ last → Placed l s (markIn f (bytes "<")) q l₂
     → ReadsAll f text (Fits text o) (listBehind (readType n) Greater (held text o)) (o .end) q l₂ t m₂ → p ≡ partOf t → (r ≡ endedBy f 62 p) × (m ≡ markedBy f 62 p m₂)
     → ReadsBy (angled f) text (Fits text o) (listBehind (readType n) Greater (held text o)) (o .end) s l r m
 types-enclosed f text n o s q l l₂ m₂ m t p r h g d e w =
     let x = listBehind (readType n) Greater (held text o) in
-    marked (listed f) text x f 62 (bytes "<") (Fits text o) (o .end) s q l l₂ m₂ m p r h g (list-part f text (Fits text o) x (o .end) q l₂ m₂ t d p e) (w .0) (w .1)
+    marked (laidItems f) text x f 62 (bytes "<") (Fits text o) (o .end) s q l l₂ m₂ m p r h g (list-part f text (Fits text o) x (o .end) q l₂ m₂ t d p e) (w .0) (w .1)
 
 module _ (f : ℕ) (text : List ℕ) (n : ℕ) where
   -- fields
@@ -72,13 +72,13 @@ module _ (f : ℕ) (text : List ℕ) (n : ℕ) where
         (by-refused (braced f) text (Fits text b) braces (b .end) s l m (refusal UnexpectedToken (b .start) (b .end))
         (λ z. when-false (eqb (b .kind) LBrace) _ _ (ne-eqb (b .kind) LBrace k) ∙ ap no (token-refused text UnexpectedToken b z)))
 
-    pub fields-enclosed : (q : Spot) (l₂ m₂ : List ℕ) (t : Listed) (p r : Parsed) → length l ≤ last → b .kind ≡ LBrace → Placed l s (mark f (bytes " {")) q l₂
+    pub fields-enclosed : (q : Spot) (l₂ m₂ : List ℕ) (t : Listed) (p r : Parsed) → length l ≤ last → b .kind ≡ LBrace → Placed l s (markIn f (bytes " {")) q l₂
         → ReadsAll f text (Fits text b) (listBehind (fieldAt n) RBrace (held text b)) (b .end) q l₂ t m₂ → p ≡ partOf t → (r ≡ endedBy f 125 p) × (m ≡ markedBy f 125 p m₂) → Fields r
     unfolding fields
     fields-enclosed q l₂ m₂ t p r h k g d e w =
         let x = listBehind (fieldAt n) RBrace (held text b) in
         by-as (braced f) text (Fits text b) braces x (b .end) s l m r (λ _. when-true (eqb (b .kind) LBrace) _ _ (eq-eqb (b .kind) LBrace k))
-        (marked (listed f) text x f 125 (bytes " {") (Fits text b) (b .end) s q l l₂ m₂ m p r h g (list-part f text (Fits text b) x (b .end) q l₂ m₂ t d p e) (w .0) (w .1))
+        (marked (laidItems f) text x f 125 (bytes " {") (Fits text b) (b .end) s q l l₂ m₂ m p r h g (list-part f text (Fits text b) x (b .end) q l₂ m₂ t d p e) (w .0) (w .1))
 
   -- structs
   module _ (a : Answer) (s i : Spot) (l l₁ : List ℕ) (c : Parsed) (d : Reads f text (Fits text a) (chain (held text a)) (a .end) i l c l₁) where
@@ -171,7 +171,7 @@ module _ (f : ℕ) (text : List ℕ) (n : ℕ) where
               → laid f (node RecStructTyped (a .start) e (more y (joined (types-had .what) fs))) ≡ headed f RecStructTyped (a .start) e ((laid f y ++ angled f (types-had .what)) ++ braced f fs)
           struct-laid y fs u e o =
               laid-struct-typed f (a .start) e y (types-had .what) fs (types-behind n Greater (held text (p .next)) (types-had .what) (opened text (q .end)) (types-had .is)) (fields-every (readType n) n _ (held text (q .next)) fs u o)
-              ∙ ap (headed f RecStructTyped (a .start) e) (joins (laid f y) (mark f (bytes "<")) (listed f (types-had .what)) (mark f (bytes ">")) (braced f fs))
+              ∙ ap (headed f RecStructTyped (a .start) e) (joins (laid f y) (markIn f (bytes "<")) (laidItems f (types-had .what)) (markIn f (bytes ">")) (braced f fs))
 
           pub unpack-typed : length l ≤ last → i ≡ inside f s → (v r : Parsed) (m₂ m : List ℕ) → ReadsBy (braced f) text (Fits text (q .next)) rest (q .next .end) (q .to) l₂ v m₂
               → (r ≡ v) × (m ≡ headedBy f RecStructTyped (a .start) s v m₂) → Unpack r m

@@ -9,7 +9,7 @@ ghost use Rattle.forms.specs.Forms.{laid};
 ghost use Rattle.forms.specs.code.Spots.{inside, Placed};
 ghost use Rattle.parts.specs.code.Meets.{Fits, held, Reads};
 ghost use Rattle.lists.specs.code.Lists.{ReadsAll};
-ghost use Rattle.bind_walk.specs.code.Pieces.{structKind, startOf, fieldAt, shortAt, fieldName, angled, braced, partOf, endedBy, markedBy, headedBy, ReadsBy};
+ghost use Rattle.bind_walk.specs.code.Pieces.{structKind, openingOf, fieldAt, shortAt, fieldName, angled, braced, partOf, endedBy, markedBy, headedBy, ReadsBy};
 use forms::Spot;
 use lists::Listed;
 use lists::Step;
@@ -62,7 +62,7 @@ fn is_struct(kind: u8) -> bool
 
 // What the binding that a begins is: a variable, and the token behind it, or a struct.
 fn bind_start(text: &[u8], a: Token) -> Start
-    ensures { λ r. ⌜ r ≡ startOf (a .kind) (nextToken (now (text .entry)) (a .end)) ⌝ }
+    ensures { λ r. ⌜ r ≡ openingOf (a .kind) (nextToken (now (text .entry)) (a .end)) ⌝ }
 {
     if a.kind != IDENTIFIER {
         return Start::Struct;

@@ -26,7 +26,7 @@ use Rattle.grammar.specs.Types.{levels, readType}
 use Rattle.grammar.specs.Binds.{readBindList, readLambdaList}
 use Rattle.grammar.specs.Items.{Item, item, refused, readKind, followed, finished, readItem}
 use Rattle.forms.specs.Forms.{FormStored, FormLine, isLine, laid}
-use Rattle.forms.specs.code.Spots.{last, cap, moved, Placed}
+use Rattle.forms.specs.code.Spots.{last, cap, movedBy, Placed}
 use Rattle.forms.specs.declared.Spot.{Spot}
 use Rattle.parts.specs.declared.Part.{Part}
 use Rattle.parts.specs.declared.Parsed.{Parsed}
@@ -196,7 +196,7 @@ module _ (form kind : ℕ) (text : List ℕ) (a : First) (s : Spot) (o : s ≡ a
     view f = item-laid form text (Fits text a) (readKind kind (held text a)) (a .end) s z made p f (subst Made e w)
 
     ends : (f : Fits text a) → p .to .pos ≡ cap (length (laid form (view f .what)))
-    ends f = let e = ap (λ (k : Spot). k .pos) (view f .bytes .ends ∙ ap (λ (k : Spot). moved k (length (laid form (view f .what)))) o) in omega (arith, e)
+    ends f = let e = ap (λ (k : Spot). k .pos) (view f .bytes .ends ∙ ap (λ (k : Spot). movedBy k (length (laid form (view f .what)))) o) in omega (arith, e)
 
     tested : (f : Fits text a) → b ≡ tooLong form (length l) (length (laid form (view f .what)))
     tested f = y ∙ long-capped form (length l) (p .to .pos) (length (laid form (view f .what))) (ends f)

@@ -20,7 +20,7 @@ use Rattle.records.specs.Tree.{Tree}
 use Rattle.sources.specs.Source.{Source, opened, after}
 use Rattle.answers.specs.Reading.{Ans, ok, no, when, refusedAt}
 use Rattle.grammar.specs.Names.{pairOf, threeOf, lastPart, thirdPart, secondPart, chain}
-use Rattle.forms.specs.Forms.{mark, spelt, laid, headed}
+use Rattle.forms.specs.Forms.{markIn, spelt, laid, headed}
 use Rattle.forms.specs.code.Spots.{last, inside, sealed, Placed, wordOf}
 use Rattle.forms.specs.declared.Spot.{Spot}
 use Rattle.forms.proofs.Placing.{placed-long, placed-as, placed-both, placed-headed}
@@ -50,22 +50,22 @@ module _ (f : ℕ) (text : List ℕ) where
   leaf-laid c a h = laid-leaf f c (a .start) (a .end) (wordOf text a) h
 
   pub pair-placed : (k c : ℕ) (a b : Answer) (l m₁ m₂ m₃ m : List ℕ) (s i p q r : Spot) → length l ≤ last → i ≡ inside f s → c ≡ cond (eqb (a .kind) Identifier) RecName RecAddress
-      → Placed l i (spelt f c (a .start) (a .end) (wordOf text a)) p m₁ → Placed m₁ p (mark f (bytes "::")) q m₂ → Placed m₂ q (spelt f RecName (b .start) (b .end) (wordOf text b)) r m₃
+      → Placed l i (spelt f c (a .start) (a .end) (wordOf text a)) p m₁ → Placed m₁ p (markIn f (bytes "::")) q m₂ → Placed m₂ q (spelt f RecName (b .start) (b .end) (wordOf text b)) r m₃
       → m ≡ sealed f k (a .start) (b .end) s r m₃ → Placed l s (pairBytes f k text a b) r m
   pair-placed k c a b l m₁ m₂ m₃ m s i p q r h g z x y v d =
-      placed-parted f k (a .start) (b .end) l m₁ m₂ m₃ m (laid f (firstAt text a)) (mark f (bytes "::")) (laid f (leafAt RecName text b)) s i p q r h g
+      placed-parted f k (a .start) (b .end) l m₁ m₂ m₃ m (laid f (firstAt text a)) (markIn f (bytes "::")) (laid f (leafAt RecName text b)) s i p q r h g
       (placed-as l m₁ (spelt f c (a .start) (a .end) (wordOf text a)) (laid f (firstAt text a)) i p
       (ap (λ (n : ℕ). spelt f n (a .start) (a .end) (wordOf text a)) z ∙ sym (leaf-laid (cond (eqb (a .kind) Identifier) RecName RecAddress) a (first-other (eqb (a .kind) Identifier)))) x)
       y (placed-as m₂ m₃ (spelt f RecName (b .start) (b .end) (wordOf text b)) (laid f (leafAt RecName text b)) q r (sym (leaf-laid RecName b refl)) v) d
 
   pub three-placed : (a b c : Answer) (l m₁ m₂ m₃ m : List ℕ) (s i p q r : Spot) → length l ≤ last → i ≡ inside f s
-      → Placed l i (pairBytes f RecPair text a b) p m₁ → Placed m₁ p (mark f (bytes "::")) q m₂ → Placed m₂ q (spelt f RecName (c .start) (c .end) (wordOf text c)) r m₃
+      → Placed l i (pairBytes f RecPair text a b) p m₁ → Placed m₁ p (markIn f (bytes "::")) q m₂ → Placed m₂ q (spelt f RecName (c .start) (c .end) (wordOf text c)) r m₃
       → m ≡ sealed f RecThreePart (a .start) (c .end) s r m₃ → Placed l s (laid f (threeAt text a b c)) r m
   three-placed a b c l m₁ m₂ m₃ m s i p q r h g x y v d =
       let pair = laid-pair f (a .start) (b .end) (firstAt text a) (leafAt RecName text b) in
-      placed-as l m (headed f RecThreePart (a .start) (c .end) (laid f (pairAt RecPair text a b) ++ (mark f (bytes "::") ++ laid f (leafAt RecName text c)))) (laid f (threeAt text a b c)) s r
+      placed-as l m (headed f RecThreePart (a .start) (c .end) (laid f (pairAt RecPair text a b) ++ (markIn f (bytes "::") ++ laid f (leafAt RecName text c)))) (laid f (threeAt text a b c)) s r
       (sym (laid-three f (a .start) (c .end) (pairAt RecPair text a b) (leafAt RecName text c)))
-      (placed-parted f RecThreePart (a .start) (c .end) l m₁ m₂ m₃ m (laid f (pairAt RecPair text a b)) (mark f (bytes "::")) (laid f (leafAt RecName text c)) s i p q r h g
+      (placed-parted f RecThreePart (a .start) (c .end) l m₁ m₂ m₃ m (laid f (pairAt RecPair text a b)) (markIn f (bytes "::")) (laid f (leafAt RecName text c)) s i p q r h g
       (placed-as l m₁ (pairBytes f RecPair text a b) (laid f (pairAt RecPair text a b)) i p (sym pair) x)
       y (placed-as m₂ m₃ (spelt f RecName (c .start) (c .end) (wordOf text c)) (laid f (leafAt RecName text c)) q r (sym (leaf-laid RecName c refl)) v) d)
 

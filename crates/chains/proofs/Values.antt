@@ -23,7 +23,7 @@ use Rattle.sources.specs.Source.{start, end}
 use Rattle.answers.specs.Reading.{no, leafOf}
 use Rattle.grammar.specs.Names.{firstPart}
 use Rattle.grammar.specs.Values.{leafKind, valueKind, leafValue, addressValue, value}
-use Rattle.forms.specs.Forms.{mark, spelt, laid, headed}
+use Rattle.forms.specs.Forms.{markIn, spelt, laid, headed}
 use Rattle.forms.specs.code.Spots.{last, inside, sealed, Placed, wordOf}
 use Rattle.forms.specs.declared.Spot.{Spot}
 use Rattle.forms.proofs.Placing.{placed-as, placed-both, placed-headed}
@@ -87,13 +87,13 @@ module _ (k b : ℕ) where
       leaf-none h s = rw (ne-eqb k 55 t, ne-eqb k 43 f, ← e, h, ne-eqb k 3 s)
 
 -- an address, laid down
-pub address-placed : (f : ℕ) (text : List ℕ) (c : ℕ) (a b : Token) (l m₁ m₂ m : List ℕ) (s i p r : Spot) → length l ≤ last → i ≡ inside f s → Placed l i (mark f (bytes "@")) p m₁ → c ≡ cond (eqb (b .kind) Identifier) RecName RecAddress
+pub address-placed : (f : ℕ) (text : List ℕ) (c : ℕ) (a b : Token) (l m₁ m₂ m : List ℕ) (s i p r : Spot) → length l ≤ last → i ≡ inside f s → Placed l i (markIn f (bytes "@")) p m₁ → c ≡ cond (eqb (b .kind) Identifier) RecName RecAddress
     → Placed m₁ p (spelt f c (b .start) (b .end) (wordOf text b)) r m₂ → m ≡ sealed f RecAddressValue (a .start) (b .end) s r m₂ → Placed l s (laid f (addressAt text a b)) r m
 address-placed f text c a b l m₁ m₂ m s i p r h g x z y d =
     let w : Placed m₁ p (laid f (firstAt text b)) r m₂ = placed-as m₁ m₂ (spelt f c (b .start) (b .end) (wordOf text b)) (laid f (firstAt text b)) p r (ap (λ (n : ℕ). spelt f n (b .start) (b .end) (wordOf text b)) z ∙ sym (leaf-laid f text (cond (eqb (b .kind) Identifier) RecName RecAddress) b (first-other (eqb (b .kind) Identifier)))) y in
-    let body : Placed l i (mark f (bytes "@") ++ laid f (firstAt text b)) r m₂ = placed-both l m₁ m₂ (mark f (bytes "@")) (laid f (firstAt text b)) i p r h x w in
-    placed-as l m (headed f RecAddressValue (a .start) (b .end) (mark f (bytes "@") ++ laid f (firstAt text b))) (laid f (addressAt text a b)) s r (sym (laid-address f (a .start) (b .end) (firstAt text b)))
-    (placed-headed f RecAddressValue (a .start) (b .end) l m₂ m (mark f (bytes "@") ++ laid f (firstAt text b)) s r h (subst (λ (y : Spot). Placed l y (mark f (bytes "@") ++ laid f (firstAt text b)) r m₂) g body) d)
+    let body : Placed l i (markIn f (bytes "@") ++ laid f (firstAt text b)) r m₂ = placed-both l m₁ m₂ (markIn f (bytes "@")) (laid f (firstAt text b)) i p r h x w in
+    placed-as l m (headed f RecAddressValue (a .start) (b .end) (markIn f (bytes "@") ++ laid f (firstAt text b))) (laid f (addressAt text a b)) s r (sym (laid-address f (a .start) (b .end) (firstAt text b)))
+    (placed-headed f RecAddressValue (a .start) (b .end) l m₂ m (markIn f (bytes "@") ++ laid f (firstAt text b)) s r h (subst (λ (y : Spot). Placed l y (markIn f (bytes "@") ++ laid f (firstAt text b)) r m₂) g body) d)
 
 module _ (f : ℕ) (text : List ℕ) (s : Spot) (l m : List ℕ) (a : Token) where
   -- behind `@`

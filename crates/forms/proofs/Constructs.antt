@@ -10,8 +10,8 @@ use Rattle.classes.specs.Bytes.{bytes}
 use Rattle.records.specs.Kinds.{RecTwoPart, RecThreePart, RecPair, RecType, RecRef, RecRefMut, RecFunction, RecUnit, RecTuple, RecBrackets, RecStruct, RecStructTyped, RecField, RecBindList, RecLambdaBindList, RecAddressValue}
 use Rattle.records.specs.Tree.{Tree, leaf, node, Trees, none, more, build, builds, behind, joined}
 use Rattle.records.specs.Stored.{header, stored, storedAll}
-use Rattle.forms.specs.Line.{Piece, plain, others, commas, bars, angles, brackets, braces, first, later, initial, final, select, isField, isType, shape, kindOf, line, pieces, shown}
-use Rattle.forms.specs.Forms.{FormStored, FormLine, isLine, head, mark, spelt, recorded, recordedAll, laid, headed, listedRest, listed, inBars, inAngles}
+use Rattle.forms.specs.Line.{Piece, plain, others, commas, bars, angles, inBrackets, braces, first, later, initial, final, select, isField, isType, shape, kindOfBuild, line, pieces, shown}
+use Rattle.forms.specs.Forms.{FormStored, FormLine, isLine, head, markIn, spelt, recorded, recordedAll, laid, headed, listedRest, laidItems, inBars, inAngles}
 
 -- the two forms
 mutual
@@ -47,8 +47,8 @@ module _ (f : ℕ) (h : isLine f ≡ true) where
   unfolding head
   head-shown n k s e = rw h
 
-  mark-shown : (m : List ℕ) → mark f m ≡ m
-  unfolding mark
+  mark-shown : (m : List ℕ) → markIn f m ≡ m
+  unfolding markIn
   mark-shown m = rw h
 
   rest-shown : (ts : Trees) → listedRest f ts ≡ others (texts ts)
@@ -56,8 +56,8 @@ module _ (f : ℕ) (h : isLine f ≡ true) where
   rest-shown none = refl
   rest-shown (more t ts) = rw (mark-shown (bytes ", "), is-shown t, rest-shown ts)
 
-  listed-shown : (ts : Trees) → listed f ts ≡ commas (texts ts)
-  unfolding listed commas plain pieces builds shown
+  listed-shown : (ts : Trees) → laidItems f ts ≡ commas (texts ts)
+  unfolding laidItems commas plain pieces builds shown
   listed-shown none = refl
   listed-shown (more t ts) = rw (is-shown t, rest-shown ts)
 
@@ -76,8 +76,8 @@ module _ (f : ℕ) (h : isLine f ≡ false) where
   unfolding laid
   is-recorded t = rw h
 
-  mark-none : (m : List ℕ) → mark f m ≡ []
-  unfolding mark
+  mark-none : (m : List ℕ) → markIn f m ≡ []
+  unfolding markIn
   mark-none m = rw h
 
   rest-recorded : (ts : Trees) → listedRest f ts ≡ recordedAll f ts
@@ -85,20 +85,20 @@ module _ (f : ℕ) (h : isLine f ≡ false) where
   rest-recorded none = refl
   rest-recorded (more t ts) = rw (mark-none (bytes ", "), is-recorded t, rest-recorded ts)
 
-  listed-recorded : (ts : Trees) → listed f ts ≡ recordedAll f ts
-  unfolding listed recordedAll
+  listed-recorded : (ts : Trees) → laidItems f ts ≡ recordedAll f ts
+  unfolding laidItems recordedAll
   listed-recorded none = refl
   listed-recorded (more t ts) = rw (is-recorded t, rest-recorded ts)
 
   bars-recorded : (ts : Trees) → inBars f ts ≡ recordedAll f ts
-  unfolding inBars listed
+  unfolding inBars laidItems
   bars-recorded none = rw (mark-none (bytes "|"), mark-none (bytes " |")) (listed-recorded none)
-  bars-recorded (more t ts) = rw (mark-none (bytes "|"), append-nil (listed f (more t ts))) (listed-recorded (more t ts))
+  bars-recorded (more t ts) = rw (mark-none (bytes "|"), append-nil (laidItems f (more t ts))) (listed-recorded (more t ts))
 
   angles-recorded : (ts : Trees) → inAngles f ts ≡ recordedAll f ts
-  unfolding inAngles listed
+  unfolding inAngles laidItems
   angles-recorded none = listed-recorded none
-  angles-recorded (more t ts) = rw (mark-none (bytes "<"), mark-none (bytes ">"), append-nil (listed f (more t ts))) (listed-recorded (more t ts))
+  angles-recorded (more t ts) = rw (mark-none (bytes "<"), mark-none (bytes ">"), append-nil (laidItems f (more t ts))) (listed-recorded (more t ts))
 
 -- a record over what its children make
 made : (f k s e : ℕ) (ts : Trees) (body : List ℕ) → (isLine f ≡ true → shape k (pieces (builds ts)) ≡ body) → (isLine f ≡ false → recordedAll f ts ≡ body) → laid f (node k s e ts) ≡ headed f k s e body
@@ -116,24 +116,24 @@ laid-leaf f k s e w h = rw h
 
 module _ (f k s e : ℕ) (m : List ℕ) where
   -- two parts with a mark between them
-  parted : (a b : Tree) → ((p q : Piece) → shape k (p ∷ q ∷ []) ≡ p .text ++ (m ++ q .text)) → laid f (node k s e (more a (more b none))) ≡ headed f k s e (laid f a ++ (mark f m ++ laid f b))
+  parted : (a b : Tree) → ((p q : Piece) → shape k (p ∷ q ∷ []) ≡ p .text ++ (m ++ q .text)) → laid f (node k s e (more a (more b none))) ≡ headed f k s e (laid f a ++ (markIn f m ++ laid f b))
   unfolding pieces builds shown recordedAll
   parted a b d =
-      made f k s e (more a (more b none)) (laid f a ++ (mark f m ++ laid f b)) (λ h. rw (is-shown f h a, is-shown f h b, mark-shown f h m) (d _ _))
+      made f k s e (more a (more b none)) (laid f a ++ (markIn f m ++ laid f b)) (λ h. rw (is-shown f h a, is-shown f h b, mark-shown f h m) (d _ _))
       (λ h. rw (is-recorded f h a, is-recorded f h b, mark-none f h m, append-nil (recorded f b)))
 
   -- one part behind a mark
-  marked : (a : Tree) → ((p : Piece) → shape k (p ∷ []) ≡ m ++ p .text) → laid f (node k s e (more a none)) ≡ headed f k s e (mark f m ++ laid f a)
+  marked : (a : Tree) → ((p : Piece) → shape k (p ∷ []) ≡ m ++ p .text) → laid f (node k s e (more a none)) ≡ headed f k s e (markIn f m ++ laid f a)
   unfolding pieces builds shown recordedAll
-  marked a d = made f k s e (more a none) (mark f m ++ laid f a) (λ h. rw (is-shown f h a, mark-shown f h m) (d _)) (λ h. rw (is-recorded f h a, mark-none f h m, append-nil (recorded f a)))
+  marked a d = made f k s e (more a none) (markIn f m ++ laid f a) (λ h. rw (is-shown f h a, mark-shown f h m) (d _)) (λ h. rw (is-recorded f h a, mark-none f h m, append-nil (recorded f a)))
 
 -- items in brackets
 module _ (f k s e : ℕ) where
-  in-brackets : (ts : Trees) → ((ps : List Piece) → shape k ps ≡ brackets (plain ps)) → laid f (node k s e ts) ≡ headed f k s e (mark f (bytes "(") ++ (listed f ts ++ mark f (bytes ")")))
-  unfolding brackets
+  in-brackets : (ts : Trees) → ((ps : List Piece) → shape k ps ≡ inBrackets (plain ps)) → laid f (node k s e ts) ≡ headed f k s e (markIn f (bytes "(") ++ (laidItems f ts ++ markIn f (bytes ")")))
+  unfolding inBrackets
   in-brackets ts d =
-      made f k s e ts (mark f (bytes "(") ++ (listed f ts ++ mark f (bytes ")"))) (λ h. rw (mark-shown f h (bytes "("), mark-shown f h (bytes ")"), listed-shown f h ts) (d (pieces (builds ts))))
-      (λ h. rw (mark-none f h (bytes "("), mark-none f h (bytes ")"), append-nil (listed f ts)) (sym (listed-recorded f h ts)))
+      made f k s e ts (markIn f (bytes "(") ++ (laidItems f ts ++ markIn f (bytes ")"))) (λ h. rw (mark-shown f h (bytes "("), mark-shown f h (bytes ")"), listed-shown f h ts) (d (pieces (builds ts))))
+      (λ h. rw (mark-none f h (bytes "("), mark-none f h (bytes ")"), append-nil (laidItems f ts)) (sym (listed-recorded f h ts)))
 
 -- the children before the last, and the last
 behind-plain : (ts : Trees) (t : Tree) → plain (initial (pieces (builds (behind ts t)))) ≡ texts ts
@@ -156,11 +156,11 @@ behind-recorded f (more u ts) t = rw (behind-recorded f ts t) (sym (append-assoc
 -- each tree of a list has a kind that the test names
 abbrev pub Every : (ℕ → Bool) → Trees → Type 0
 Every p none = Unit {0}
-Every p (more t ts) = (p (kindOf (build t)) ≡ true) × Every p ts
+Every p (more t ts) = (p (kindOfBuild (build t)) ≡ true) × Every p ts
 
 -- types and fields, one list behind the other, and each told by its kind
 abbrev piece : Tree → Piece
-piece t = record { kind = kindOf (build t); text = line (build t) }
+piece t = record { kind = kindOfBuild (build t); text = line (build t) }
 
 no-types : (fs : Trees) → Every isField fs → select isType (pieces (builds fs)) ≡ []
 unfolding select pieces builds isType
@@ -180,7 +180,7 @@ types-of (more t ts) fs d g = rw (d .0) (ap (_∷_ (piece t)) (types-of ts fs (d
 fields-of : (ts fs : Trees) → Every isType ts → Every isField fs → select isField (pieces (builds (joined ts fs))) ≡ pieces (builds fs)
 unfolding joined select pieces builds isType
 fields-of none fs d g = all-fields fs g
-fields-of (more t ts) fs d g = rw (not-true (isField (kindOf (build t))) (d .0)) (fields-of ts fs (d .1) g)
+fields-of (more t ts) fs d g = rw (not-true (isField (kindOfBuild (build t))) (d .0)) (fields-of ts fs (d .1) g)
 
 joined-recorded : (f : ℕ) (ts us : Trees) → recordedAll f (joined ts us) ≡ recordedAll f ts ++ recordedAll f us
 unfolding joined recordedAll
@@ -189,51 +189,51 @@ joined-recorded f (more t ts) us = rw (joined-recorded f ts us) (sym (append-ass
 
 -- one law for each construct
 module _ (f s e : ℕ) where
-  pub laid-two : (a b : Tree) → laid f (node RecTwoPart s e (more a (more b none))) ≡ headed f RecTwoPart s e (laid f a ++ (mark f (bytes "::") ++ laid f b))
+  pub laid-two : (a b : Tree) → laid f (node RecTwoPart s e (more a (more b none))) ≡ headed f RecTwoPart s e (laid f a ++ (markIn f (bytes "::") ++ laid f b))
   unfolding shape first later
   laid-two a b = parted f RecTwoPart s e (bytes "::") a b (λ p q. refl)
 
-  pub laid-three : (a b : Tree) → laid f (node RecThreePart s e (more a (more b none))) ≡ headed f RecThreePart s e (laid f a ++ (mark f (bytes "::") ++ laid f b))
+  pub laid-three : (a b : Tree) → laid f (node RecThreePart s e (more a (more b none))) ≡ headed f RecThreePart s e (laid f a ++ (markIn f (bytes "::") ++ laid f b))
   unfolding shape first later
   laid-three a b = parted f RecThreePart s e (bytes "::") a b (λ p q. refl)
 
-  pub laid-pair : (a b : Tree) → laid f (node RecPair s e (more a (more b none))) ≡ headed f RecPair s e (laid f a ++ (mark f (bytes "::") ++ laid f b))
+  pub laid-pair : (a b : Tree) → laid f (node RecPair s e (more a (more b none))) ≡ headed f RecPair s e (laid f a ++ (markIn f (bytes "::") ++ laid f b))
   unfolding shape first later
   laid-pair a b = parted f RecPair s e (bytes "::") a b (λ p q. refl)
 
-  pub laid-field : (a b : Tree) → laid f (node RecField s e (more a (more b none))) ≡ headed f RecField s e (laid f a ++ (mark f (bytes ": ") ++ laid f b))
+  pub laid-field : (a b : Tree) → laid f (node RecField s e (more a (more b none))) ≡ headed f RecField s e (laid f a ++ (markIn f (bytes ": ") ++ laid f b))
   unfolding shape first later
   laid-field a b = parted f RecField s e (bytes ": ") a b (λ p q. refl)
 
-  pub laid-ref : (a : Tree) → laid f (node RecRef s e (more a none)) ≡ headed f RecRef s e (mark f (bytes "& ") ++ laid f a)
+  pub laid-ref : (a : Tree) → laid f (node RecRef s e (more a none)) ≡ headed f RecRef s e (markIn f (bytes "& ") ++ laid f a)
   unfolding shape first
   laid-ref a = marked f RecRef s e (bytes "& ") a (λ p. refl)
 
-  pub laid-ref-mut : (a : Tree) → laid f (node RecRefMut s e (more a none)) ≡ headed f RecRefMut s e (mark f (bytes "&mut ") ++ laid f a)
+  pub laid-ref-mut : (a : Tree) → laid f (node RecRefMut s e (more a none)) ≡ headed f RecRefMut s e (markIn f (bytes "&mut ") ++ laid f a)
   unfolding shape first
   laid-ref-mut a = marked f RecRefMut s e (bytes "&mut ") a (λ p. refl)
 
-  pub laid-address : (a : Tree) → laid f (node RecAddressValue s e (more a none)) ≡ headed f RecAddressValue s e (mark f (bytes "@") ++ laid f a)
+  pub laid-address : (a : Tree) → laid f (node RecAddressValue s e (more a none)) ≡ headed f RecAddressValue s e (markIn f (bytes "@") ++ laid f a)
   unfolding shape first
   laid-address a = marked f RecAddressValue s e (bytes "@") a (λ p. refl)
 
-  pub laid-unit : laid f (leaf RecUnit s e []) ≡ headed f RecUnit s e (mark f (bytes "(") ++ (listed f none ++ mark f (bytes ")")))
-  unfolding shown build line recorded headed listed
+  pub laid-unit : laid f (leaf RecUnit s e []) ≡ headed f RecUnit s e (markIn f (bytes "(") ++ (laidItems f none ++ markIn f (bytes ")")))
+  unfolding shown build line recorded headed laidItems
   laid-unit = go (isLine f) refl
     where
-      go : (b : Bool) → isLine f ≡ b → laid f (leaf RecUnit s e []) ≡ headed f RecUnit s e (mark f (bytes "(") ++ (listed f none ++ mark f (bytes ")")))
+      go : (b : Bool) → isLine f ≡ b → laid f (leaf RecUnit s e []) ≡ headed f RecUnit s e (markIn f (bytes "(") ++ (laidItems f none ++ markIn f (bytes ")")))
       go true x = rw (is-shown f x (leaf RecUnit s e []), mark-shown f x (bytes "("), mark-shown f x (bytes ")"), head-shown f x)
       go false x = rw (is-recorded f x (leaf RecUnit s e []), mark-none f x (bytes "("), mark-none f x (bytes ")"), append-nil (head f 0 RecUnit s e))
 
-  pub laid-brackets : (ts : Trees) → laid f (node RecBrackets s e ts) ≡ headed f RecBrackets s e (mark f (bytes "(") ++ (listed f ts ++ mark f (bytes ")")))
+  pub laid-brackets : (ts : Trees) → laid f (node RecBrackets s e ts) ≡ headed f RecBrackets s e (markIn f (bytes "(") ++ (laidItems f ts ++ markIn f (bytes ")")))
   unfolding shape
   laid-brackets ts = in-brackets f RecBrackets s e ts (λ ps. refl)
 
-  pub laid-tuple : (ts : Trees) → laid f (node RecTuple s e ts) ≡ headed f RecTuple s e (mark f (bytes "(") ++ (listed f ts ++ mark f (bytes ")")))
+  pub laid-tuple : (ts : Trees) → laid f (node RecTuple s e ts) ≡ headed f RecTuple s e (markIn f (bytes "(") ++ (laidItems f ts ++ markIn f (bytes ")")))
   unfolding shape
   laid-tuple ts = in-brackets f RecTuple s e ts (λ ps. refl)
 
-  pub laid-bind-list : (ts : Trees) → laid f (node RecBindList s e ts) ≡ headed f RecBindList s e (mark f (bytes "(") ++ (listed f ts ++ mark f (bytes ")")))
+  pub laid-bind-list : (ts : Trees) → laid f (node RecBindList s e ts) ≡ headed f RecBindList s e (markIn f (bytes "(") ++ (laidItems f ts ++ markIn f (bytes ")")))
   unfolding shape
   laid-bind-list ts = in-brackets f RecBindList s e ts (λ ps. refl)
 
@@ -245,24 +245,24 @@ module _ (f s e : ℕ) where
   unfolding shape first later pieces builds shown recordedAll
   laid-type c ts = made f RecType s e (more c ts) (laid f c ++ inAngles f ts) (λ h. rw (is-shown f h c, angles-shown f h ts)) (λ h. rw (is-recorded f h c, angles-recorded f h ts))
 
-  pub laid-function : (ts : Trees) (t : Tree) → laid f (node RecFunction s e (behind ts t)) ≡ headed f RecFunction s e (inBars f ts ++ (mark f (bytes " ") ++ laid f t))
+  pub laid-function : (ts : Trees) (t : Tree) → laid f (node RecFunction s e (behind ts t)) ≡ headed f RecFunction s e (inBars f ts ++ (markIn f (bytes " ") ++ laid f t))
   unfolding shape
   laid-function ts t =
-      made f RecFunction s e (behind ts t) (inBars f ts ++ (mark f (bytes " ") ++ laid f t))
+      made f RecFunction s e (behind ts t) (inBars f ts ++ (markIn f (bytes " ") ++ laid f t))
       (λ h. rw (is-shown f h t, mark-shown f h (bytes " "), bars-shown f h ts, behind-plain ts t, behind-final ts t))
       (λ h. rw (is-recorded f h t, mark-none f h (bytes " "), bars-recorded f h ts) (behind-recorded f ts t))
 
-  pub laid-struct : (c : Tree) (fs : Trees) → laid f (node RecStruct s e (more c fs)) ≡ headed f RecStruct s e (laid f c ++ (mark f (bytes " {") ++ (listed f fs ++ mark f (bytes "}"))))
+  pub laid-struct : (c : Tree) (fs : Trees) → laid f (node RecStruct s e (more c fs)) ≡ headed f RecStruct s e (laid f c ++ (markIn f (bytes " {") ++ (laidItems f fs ++ markIn f (bytes "}"))))
   unfolding shape first later pieces builds shown recordedAll braces
   laid-struct c fs =
-      made f RecStruct s e (more c fs) (laid f c ++ (mark f (bytes " {") ++ (listed f fs ++ mark f (bytes "}"))))
+      made f RecStruct s e (more c fs) (laid f c ++ (markIn f (bytes " {") ++ (laidItems f fs ++ markIn f (bytes "}"))))
       (λ h. rw (is-shown f h c, mark-shown f h (bytes " {"), mark-shown f h (bytes "}"), listed-shown f h fs))
-      (λ h. rw (is-recorded f h c, mark-none f h (bytes " {"), mark-none f h (bytes "}"), append-nil (listed f fs), listed-recorded f h fs))
+      (λ h. rw (is-recorded f h c, mark-none f h (bytes " {"), mark-none f h (bytes "}"), append-nil (laidItems f fs), listed-recorded f h fs))
 
   pub laid-struct-typed : (c : Tree) (ts fs : Trees) → Every isType ts → Every isField fs
-      → laid f (node RecStructTyped s e (more c (joined ts fs))) ≡ headed f RecStructTyped s e (laid f c ++ (mark f (bytes "<") ++ (listed f ts ++ (mark f (bytes ">") ++ (mark f (bytes " {") ++ (listed f fs ++ mark f (bytes "}")))))))
+      → laid f (node RecStructTyped s e (more c (joined ts fs))) ≡ headed f RecStructTyped s e (laid f c ++ (markIn f (bytes "<") ++ (laidItems f ts ++ (markIn f (bytes ">") ++ (markIn f (bytes " {") ++ (laidItems f fs ++ markIn f (bytes "}")))))))
   unfolding shape first later pieces builds shown recordedAll braces
   laid-struct-typed c ts fs d g =
-      made f RecStructTyped s e (more c (joined ts fs)) (laid f c ++ (mark f (bytes "<") ++ (listed f ts ++ (mark f (bytes ">") ++ (mark f (bytes " {") ++ (listed f fs ++ mark f (bytes "}")))))))
+      made f RecStructTyped s e (more c (joined ts fs)) (laid f c ++ (markIn f (bytes "<") ++ (laidItems f ts ++ (markIn f (bytes ">") ++ (markIn f (bytes " {") ++ (laidItems f fs ++ markIn f (bytes "}")))))))
       (λ h. rw (is-shown f h c, mark-shown f h (bytes "<"), mark-shown f h (bytes ">"), mark-shown f h (bytes " {"), mark-shown f h (bytes "}"), listed-shown f h ts, listed-shown f h fs, types-of ts fs d g, fields-of ts fs d g))
-      (λ h. rw (is-recorded f h c, mark-none f h (bytes "<"), mark-none f h (bytes ">"), mark-none f h (bytes " {"), mark-none f h (bytes "}"), append-nil (listed f fs), listed-recorded f h ts, listed-recorded f h fs, joined-recorded f ts fs))
+      (λ h. rw (is-recorded f h c, mark-none f h (bytes "<"), mark-none f h (bytes ">"), mark-none f h (bytes " {"), mark-none f h (bytes "}"), append-nil (laidItems f fs), listed-recorded f h ts, listed-recorded f h fs, joined-recorded f ts fs))

@@ -11,7 +11,7 @@ use lib.ListN.{length, take, drop, length-drop, drop-of-length-le}
 use lib.Seq.{sets, take-all, length-take-le}
 use Rattle.buffer.proofs.Sets.{sets-out}
 use Rattle.records.proofs.Runs.{sets-front}
-use Rattle.forms.specs.code.Spots.{moved, Placed}
+use Rattle.forms.specs.code.Spots.{movedBy, Placed}
 use Rattle.forms.specs.declared.Spot.{Spot}
 use Rattle.forms.proofs.Placing.{placed-as}
 
@@ -48,10 +48,10 @@ module _ (text : List ℕ) (s e q : ℕ) (c : q ≡ cond (ltb e (length text)) e
       go false f = let z : q ≡ length text = c ∙ rw f in omega arith
 
   module _ (l m : List ℕ) (i j : Spot) where
-    pub word-none : q ≤ s → j ≡ moved i 0 → Placed l i (take (e - s) (drop s text)) j l
+    pub word-none : q ≤ s → j ≡ movedBy i 0 → Placed l i (take (e - s) (drop s text)) j l
     word-none g f = let z : q - s ≡ 0 = omega arith in placed-as l l [] (take (e - s) (drop s text)) i j (sym (ap (λ (n : ℕ). take n (drop s text)) z) ∙ clipped-word) (record { ends = f; holds = refl })
 
-    pub word-some : s < q → j ≡ moved i (q - s) → m ≡ sets l (i .pos) (take (q - s) (drop s text)) → Placed l i (take (e - s) (drop s text)) j m
+    pub word-some : s < q → j ≡ movedBy i (q - s) → m ≡ sets l (i .pos) (take (q - s) (drop s text)) → Placed l i (take (e - s) (drop s text)) j m
     word-some g f w =
         placed-as l m (take (q - s) (drop s text)) (take (e - s) (drop s text)) i j clipped-word
-        (record { ends = f ∙ ap (moved i) (sym (length-take-le (q - s) (drop s text) (omega (arith, length-drop s text, clipped-inside)))); holds = w })
+        (record { ends = f ∙ ap (movedBy i) (sym (length-take-le (q - s) (drop s text) (omega (arith, length-drop s text, clipped-inside)))); holds = w })

@@ -13,8 +13,8 @@ use Rattle.buffer.proofs.Sets.{sets-append, sets-out}
 use Rattle.records.specs.Stored.{two, header}
 use Rattle.records.proofs.Pieces.{header-long}
 use Rattle.records.proofs.Runs.{sets-below}
-use Rattle.forms.specs.Forms.{isLine, head, headSize, mark, headed}
-use Rattle.forms.specs.code.Spots.{last, cap, wide, moved, sizeBetween, Placed, inside, sealed}
+use Rattle.forms.specs.Forms.{isLine, head, headSize, markIn, headed}
+use Rattle.forms.specs.code.Spots.{last, cap, wide, movedBy, sizeBetween, Placed, inside, sealed}
 use Rattle.forms.specs.declared.Spot.{Spot}
 
 -- a write at the largest position or behind it is a write nowhere
@@ -29,18 +29,18 @@ abbrev spot : ℕ → ℕ → Spot
 spot p q = record { pos = p; low = q }
 
 -- as the code counts it
-pub moved-by : (s : Spot) (n p : ℕ) → p ≡ cap (s .pos + n) → spot p ((s .low % wide + n % wide) % wide) ≡ moved s n
+pub moved-by : (s : Spot) (n p : ℕ) → p ≡ cap (s .pos + n) → spot p ((s .low % wide + n % wide) % wide) ≡ movedBy s n
 moved-by s n p e = rw (e, ← add-mod (s .low) n wide)
 
 -- one way behind another
-pub moved-twice : (s : Spot) (a b : ℕ) → moved (moved s a) b ≡ moved s (a + b)
+pub moved-twice : (s : Spot) (a b : ℕ) → movedBy (movedBy s a) b ≡ movedBy s (a + b)
 moved-twice s a b =
     let p : cap (cap (s .pos + a) + b) ≡ cap (s .pos + (a + b)) = omega arith in
     let q : s .low + a + b ≡ s .low + (a + b) = omega arith in
     rw (p, mod-add-mod (s .low + a) wide b, q)
 
 -- the size of what lies between two places, in four bytes
-size-moved : (s : Spot) (n : ℕ) → sizeBetween s (moved s n) ≡ n % wide
+size-moved : (s : Spot) (n : ℕ) → sizeBetween s (movedBy s n) ≡ n % wide
 size-moved s n = omega arith
 
 add-turns : (y q : ℕ) → (y + 256 * q) % 256 ≡ y % 256
@@ -79,17 +79,17 @@ pub placed-both : (l m n xs ys : List ℕ) (s r q : Spot) → length l ≤ last 
 placed-both l m n xs ys s r q h f g =
     let a = placed-long l m xs s r f in
     record {
-      ends = g .ends ∙ ap (λ (x : Spot). moved x (length ys)) (f .ends) ∙ moved-twice s (length xs) (length ys) ∙ ap (moved s) (sym (length-append xs ys));
+      ends = g .ends ∙ ap (λ (x : Spot). movedBy x (length ys)) (f .ends) ∙ moved-twice s (length xs) (length ys) ∙ ap (movedBy s) (sym (length-append xs ys));
       holds =
           g .holds ∙ ap (λ (x : Spot). sets m (x .pos) ys) (f .ends) ∙ capped m ys (s .pos + length xs) (omega (arith, a, h))
           ∙ ap (λ (x : List ℕ). sets x (s .pos + length xs) ys) (f .holds) ∙ sym (sets-append xs ys l (s .pos));
     }
 
 -- what stands in front is written last, where room was left for it
-pub placed-front : (l m n xs ys : List ℕ) (s r : Spot) → length l ≤ last → Placed l (moved s (length xs)) ys r m → n ≡ sets m (s .pos) xs → Placed l s (xs ++ ys) r n
+pub placed-front : (l m n xs ys : List ℕ) (s r : Spot) → length l ≤ last → Placed l (movedBy s (length xs)) ys r m → n ≡ sets m (s .pos) xs → Placed l s (xs ++ ys) r n
 placed-front l m n xs ys s r h f w =
     record {
-      ends = f .ends ∙ moved-twice s (length xs) (length ys) ∙ ap (moved s) (sym (length-append xs ys));
+      ends = f .ends ∙ moved-twice s (length xs) (length ys) ∙ ap (movedBy s) (sym (length-append xs ys));
       holds =
           w ∙ ap (λ (x : List ℕ). sets x (s .pos) xs) (f .holds ∙ capped l ys (s .pos + length xs) h)
           ∙ sets-below xs ys l (s .pos) (s .pos + length xs) (omega arith) ∙ sym (sets-append xs ys l (s .pos));
@@ -105,16 +105,16 @@ placed-headed f k st e l m n body s b h g w =
     (w ∙ ap (sets m (s .pos)) z)
 
 -- two marks are one mark of both
-pub mark-both : (f : ℕ) (xs ys : List ℕ) → mark f xs ++ mark f ys ≡ mark f (xs ++ ys)
-unfolding mark
+pub mark-both : (f : ℕ) (xs ys : List ℕ) → markIn f xs ++ markIn f ys ≡ markIn f (xs ++ ys)
+unfolding markIn
 mark-both f xs ys = go (isLine f)
   where
     go : (b : Bool) → cond b xs [] ++ cond b ys [] ≡ cond b (xs ++ ys) []
     go true = refl
     go false = refl
 
-pub marks-both : (f : ℕ) (l m n xs ys : List ℕ) (s r q : Spot) → length l ≤ last → Placed l s (mark f xs) r m → Placed m r (mark f ys) q n → Placed l s (mark f (xs ++ ys)) q n
-marks-both f l m n xs ys s r q h d e = placed-as l n (mark f xs ++ mark f ys) (mark f (xs ++ ys)) s q (mark-both f xs ys) (placed-both l m n (mark f xs) (mark f ys) s r q h d e)
+pub marks-both : (f : ℕ) (l m n xs ys : List ℕ) (s r q : Spot) → length l ≤ last → Placed l s (markIn f xs) r m → Placed m r (markIn f ys) q n → Placed l s (markIn f (xs ++ ys)) q n
+marks-both f l m n xs ys s r q h d e = placed-as l n (markIn f xs ++ markIn f ys) (markIn f (xs ++ ys)) s q (mark-both f xs ys) (placed-both l m n (markIn f xs) (markIn f ys) s r q h d e)
 
 -- the head, as the code makes it
 pub sealed-by : (f k st e : ℕ) (s b i : Spot) (z : ℕ) (l m : List ℕ) → i ≡ inside f s → z ≡ sizeBetween i b → m ≡ sets l (s .pos) (head f z k st e) → m ≡ sealed f k st e s b l

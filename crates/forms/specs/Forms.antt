@@ -28,8 +28,8 @@ unfoldable pub headSize : ℕ → ℕ
 headSize f = cond (isLine f) 0 8
 
 -- marks, and a leaf that is spelled w
-unfoldable pub mark : ℕ → List ℕ → List ℕ
-mark f m = cond (isLine f) m []
+unfoldable pub markIn : ℕ → List ℕ → List ℕ
+markIn f m = cond (isLine f) m []
 
 unfoldable pub spelt : ℕ → ℕ → ℕ → ℕ → List ℕ → List ℕ
 spelt f k s e w = cond (isLine f) w (head f 0 k s e)
@@ -54,16 +54,16 @@ headed f k s e body = head f (length body) k s e ++ body
 
 unfoldable pub listedRest : ℕ → Trees → List ℕ
 listedRest f none = []
-listedRest f (more t ts) = mark f (bytes ", ") ++ (laid f t ++ listedRest f ts)
+listedRest f (more t ts) = markIn f (bytes ", ") ++ (laid f t ++ listedRest f ts)
 
-unfoldable pub listed : ℕ → Trees → List ℕ
-listed f none = []
-listed f (more t ts) = laid f t ++ listedRest f ts
+unfoldable pub laidItems : ℕ → Trees → List ℕ
+laidItems f none = []
+laidItems f (more t ts) = laid f t ++ listedRest f ts
 
 unfoldable pub inBars : ℕ → Trees → List ℕ
-inBars f none = mark f (bytes "|") ++ mark f (bytes " |")
-inBars f (more t ts) = mark f (bytes "|") ++ (listed f (more t ts) ++ mark f (bytes "|"))
+inBars f none = markIn f (bytes "|") ++ markIn f (bytes " |")
+inBars f (more t ts) = markIn f (bytes "|") ++ (laidItems f (more t ts) ++ markIn f (bytes "|"))
 
 unfoldable pub inAngles : ℕ → Trees → List ℕ
 inAngles f none = []
-inAngles f (more t ts) = mark f (bytes "<") ++ (listed f (more t ts) ++ mark f (bytes ">"))
+inAngles f (more t ts) = markIn f (bytes "<") ++ (laidItems f (more t ts) ++ markIn f (bytes ">"))

@@ -37,8 +37,8 @@ angles [] = []
 angles (a ∷ xs) = bytes "<" ++ (commas (a ∷ xs) ++ bytes ">")
 
 -- `(a, b)`, and ` {a, b}` behind a name
-unfoldable pub brackets : List (List ℕ) → List ℕ
-brackets xs = bytes "(" ++ (commas xs ++ bytes ")")
+unfoldable pub inBrackets : List (List ℕ) → List ℕ
+inBrackets xs = bytes "(" ++ (commas xs ++ bytes ")")
 
 unfoldable pub braces : List (List ℕ) → List ℕ
 braces xs = bytes " {" ++ (commas xs ++ bytes "}")
@@ -82,7 +82,7 @@ shape k ps =
     (cond (eqb k RecRef) (bytes "& " ++ first ps)
     (cond (eqb k RecRefMut) (bytes "&mut " ++ first ps)
     (cond (eqb k RecFunction) (bars (plain (initial ps)) ++ (bytes " " ++ final ps))
-    (cond (eqb k RecTuple || (eqb k RecBrackets || eqb k RecBindList)) (brackets (plain ps))
+    (cond (eqb k RecTuple || (eqb k RecBrackets || eqb k RecBindList)) (inBrackets (plain ps))
     (cond (eqb k RecStruct) (first ps ++ braces (plain (later ps)))
     (cond (eqb k RecStructTyped)
     (first ps ++ (bytes "<" ++ (commas (plain (select isType (later ps))) ++ (bytes ">" ++ braces (plain (select isField (later ps)))))))
@@ -90,9 +90,9 @@ shape k ps =
     (cond (eqb k RecLambdaBindList) (bars (plain ps))
     (cond (eqb k RecAddressValue) (bytes "@" ++ first ps) []))))))))))
 
-unfoldable pub kindOf : Build → ℕ
-kindOf (spelled k w) = k
-kindOf (made k bs) = k
+unfoldable pub kindOfBuild : Build → ℕ
+kindOfBuild (spelled k w) = k
+kindOfBuild (made k bs) = k
 
 -- a leaf is shown as it is spelled; the unit, which has no spelling, as `()`
 unfoldable mutual
@@ -102,7 +102,7 @@ unfoldable mutual
 
   pub pieces : Builds → List Piece
   pieces bnone = []
-  pieces (bmore b bs) = record { kind = kindOf b; text = line b } ∷ pieces bs
+  pieces (bmore b bs) = record { kind = kindOfBuild b; text = line b } ∷ pieces bs
 
 -- the line of a tree
 unfoldable pub shown : Tree → List ℕ

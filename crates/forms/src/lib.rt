@@ -9,8 +9,8 @@ ghost use lib.Dec.{ltb};
 ghost use lib.ListN.{length};
 ghost use lib.Seq.{sets};
 ghost use Rattle.classes.specs.Bytes.{bytes};
-ghost use Rattle.forms.specs.Forms.{isLine, head, headSize, mark, spelt};
-ghost use Rattle.forms.specs.code.Spots.{cap, moved, sizeBetween, Placed, inside, sealed, wordOf};
+ghost use Rattle.forms.specs.Forms.{isLine, head, headSize, markIn, spelt};
+ghost use Rattle.forms.specs.code.Spots.{cap, movedBy, sizeBetween, Placed, inside, sealed, wordOf};
 use tokens::Token;
 
 pub const FORM_STORED: u8 = 0;
@@ -40,7 +40,7 @@ fn behind(pos: usize, n: usize) -> usize
 
 // The place n bytes behind s.
 pub fn move_by(s: Spot, n: usize) -> Spot
-    ensures { λ r. ⌜ r ≡ moved s n ⌝ }
+    ensures { λ r. ⌜ r ≡ movedBy s n ⌝ }
 {
     let p = behind(s.pos, n);
     Spot {
@@ -93,7 +93,7 @@ pub fn seal(form: u8, kind: usize, start: usize, end: usize, s: Spot, b: Spot, o
 
 // Writes a mark of one byte.
 pub fn put_mark(form: u8, b: u8, out: &mut [u8], s: Spot) -> Spot
-    ensures { λ r. ⌜ Placed (now (out .entry)) s (mark form (b ∷ [])) r (now (out .exit)) ⌝ }
+    ensures { λ r. ⌜ Placed (now (out .entry)) s (markIn form (b ∷ [])) r (now (out .exit)) ⌝ }
 {
     if form == FORM_LINE {
         buffer::put(out, s.pos, b);
@@ -104,7 +104,7 @@ pub fn put_mark(form: u8, b: u8, out: &mut [u8], s: Spot) -> Spot
 
 // Writes a mark of two bytes.
 pub fn put_marks(form: u8, a: u8, b: u8, out: &mut [u8], s: Spot) -> Spot
-    ensures { λ r. ⌜ Placed (now (out .entry)) s (mark form (a ∷ b ∷ [])) r (now (out .exit)) ⌝ }
+    ensures { λ r. ⌜ Placed (now (out .entry)) s (markIn form (a ∷ b ∷ [])) r (now (out .exit)) ⌝ }
 {
     let p = put_mark(form, a, out, s);
     put_mark(form, b, out, p)
@@ -112,7 +112,7 @@ pub fn put_marks(form: u8, a: u8, b: u8, out: &mut [u8], s: Spot) -> Spot
 
 // The place behind a `<`: the list is written first, since one without items has no `<`.
 pub fn step_angle(form: u8, s: Spot) -> Spot
-    ensures { λ r. ⌜ r ≡ moved s (length (mark form (bytes "<"))) ⌝ }
+    ensures { λ r. ⌜ r ≡ movedBy s (length (markIn form (bytes "<"))) ⌝ }
 {
     if form == FORM_LINE {
         return move_by(s, 1);
@@ -122,7 +122,7 @@ pub fn step_angle(form: u8, s: Spot) -> Spot
 
 // Writes that `<`.
 pub fn put_angle(form: u8, out: &mut [u8], s: Spot)
-    ensures { λ _. ⌜ now (out .exit) ≡ sets (now (out .entry)) (s .pos) (mark form (bytes "<")) ⌝ }
+    ensures { λ _. ⌜ now (out .exit) ≡ sets (now (out .entry)) (s .pos) (markIn form (bytes "<")) ⌝ }
 {
     if form == FORM_LINE {
         buffer::put(out, s.pos, b'<');
@@ -131,7 +131,7 @@ pub fn put_angle(form: u8, out: &mut [u8], s: Spot)
 
 // Writes what stands between two items of a list, before an item that is not the first.
 pub fn put_between(form: u8, first: bool, out: &mut [u8], s: Spot) -> Spot
-    ensures { λ r. ⌜ Placed (now (out .entry)) s (cond first [] (mark form (bytes ", "))) r (now (out .exit)) ⌝ }
+    ensures { λ r. ⌜ Placed (now (out .entry)) s (cond first [] (markIn form (bytes ", "))) r (now (out .exit)) ⌝ }
 {
     if first {
         return move_by(s, 0);
@@ -141,7 +141,7 @@ pub fn put_between(form: u8, first: bool, out: &mut [u8], s: Spot) -> Spot
 
 // Writes the bar behind the items of a list: where it has none, a blank keeps the two bars apart.
 pub fn close_bars(form: u8, none: bool, out: &mut [u8], s: Spot) -> Spot
-    ensures { λ r. ⌜ Placed (now (out .entry)) s (mark form (cond none (bytes " |") (bytes "|"))) r (now (out .exit)) ⌝ }
+    ensures { λ r. ⌜ Placed (now (out .entry)) s (markIn form (cond none (bytes " |") (bytes "|"))) r (now (out .exit)) ⌝ }
 {
     if none {
         return put_marks(form, b' ', b'|', out, s);
@@ -151,7 +151,7 @@ pub fn close_bars(form: u8, none: bool, out: &mut [u8], s: Spot) -> Spot
 
 // Writes `& ` or `&mut `.
 pub fn put_reference(form: u8, mutable: bool, out: &mut [u8], s: Spot) -> Spot
-    ensures { λ r. ⌜ Placed (now (out .entry)) s (mark form (cond mutable (bytes "&mut ") (bytes "& "))) r (now (out .exit)) ⌝ }
+    ensures { λ r. ⌜ Placed (now (out .entry)) s (markIn form (cond mutable (bytes "&mut ") (bytes "& "))) r (now (out .exit)) ⌝ }
 {
     if mutable {
         let p = put_marks(form, b'&', b'm', out, s);

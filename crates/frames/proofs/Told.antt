@@ -14,12 +14,12 @@ use Rattle.answers.proofs.Sure.{when-sure, then-sure}
 use Rattle.grammar.specs.Names.{chain}
 use Rattle.grammar.specs.Types.{bracketed, brackets, reference, function, withArguments, named, typeOver, readType}
 use Rattle.grammar.specs.Binds.{fields, fieldOver, readField}
-use Rattle.forms.specs.Line.{isField, isType, kindOf}
+use Rattle.forms.specs.Line.{isField, isType, kindOfBuild}
 use Rattle.forms.proofs.Constructs.{Every}
 
 -- what was read, if anything, has a kind that the test names
 abbrev pub Told : (ℕ → Bool) → Ans Tree → Type 0
-Told p (ok x u) = p (kindOf (build x)) ≡ true
+Told p (ok x u) = p (kindOfBuild (build x)) ≡ true
 Told p (no r) = Unit {0}
 
 abbrev pub AllTold : (ℕ → Bool) → Ans Trees → Type 0
@@ -46,7 +46,7 @@ module _ (p : ℕ → Bool) (item : Reader) (told : (t : Token) → Told p (item
       (when-sure (AllTold p) (eqb (t .kind) Comma) _ _ (λ _. tt)
       (λ _. then-sure (AllTold p) (item t) _
       (λ x u a.
-      let d : p (kindOf (build x)) ≡ true = subst (Told p) a (told t) in
+      let d : p (kindOfBuild (build x)) ≡ true = subst (Told p) a (told t) in
       look-told (AllTold p) (lex u) _ (λ r. tt) λ s.
       closed-told (AllTold p) close s _ _ (λ v. (d, tt))
       (when-sure (AllTold p) (eqb (s .kind) Comma) _ _
@@ -66,7 +66,7 @@ module _ (p : ℕ → Bool) (item : Reader) (told : (t : Token) → Told p (item
 
 -- types
 bracketed-told : (a : Token) (u : Source) (ts : Trees) → Told isType (ok (bracketed a u ts) u)
-unfolding bracketed build kindOf isType isField
+unfolding bracketed build kindOfBuild isType isField
 bracketed-told a u none = refl
 bracketed-told a u (more x none) = refl
 bracketed-told a u (more x (more y ts)) = refl
@@ -76,18 +76,18 @@ module _ (item : Reader) (a : Token) where
   Typed = Told isType
 
   reference-told : Typed (reference item RecRef a) × Typed (reference item RecRefMut a)
-  unfolding reference build kindOf isType isField
+  unfolding reference build kindOfBuild isType isField
   reference-told = (
     look-told Typed (lex (after a)) _ (λ r. tt) λ b. then-sure Typed (item b) _ (λ x u z. refl) (λ r z. tt),
     look-told Typed (lex (after a)) _ (λ r. tt) λ b. then-sure Typed (item b) _ (λ x u z. refl) (λ r z. tt),
   )
 
   function-told : Typed (function item a)
-  unfolding function build kindOf isType isField
+  unfolding function build kindOfBuild isType isField
   function-told = then-sure Typed (listBehind item Pipe a) _ (λ ts u z. look-told Typed (lex u) _ (λ r. tt) λ b. then-sure Typed (item b) _ (λ x v y. refl) (λ r y. tt)) (λ r z. tt)
 
   named-told : Typed (named item a)
-  unfolding named withArguments build kindOf isType isField
+  unfolding named withArguments build kindOfBuild isType isField
   named-told =
       then-sure Typed (chain a) _
       (λ c u z. look-told Typed (lex u) _ (λ r. tt) λ o. when-sure Typed (eqb (o .kind) Less) _ _ (λ _. then-sure Typed _ _ (λ ts v y. refl) (λ r y. tt)) (λ _. refl))
@@ -108,7 +108,7 @@ type-told (suc n) a = type-over-told (readType n) a
 
 -- fields
 field-told : (n : ℕ) (bind : Reader) (a : Token) → Told isField (readField n bind a)
-unfolding readField fieldOver build kindOf isField
+unfolding readField fieldOver build kindOfBuild isField
 field-told zero bind a = tt
 field-told (suc n) bind a =
     when-sure (Told isField) (eqb (a .kind) Identifier) _ _
@@ -118,10 +118,10 @@ field-told (suc n) bind a =
     (λ _. tt)
 
 -- as the law of the record of kind 22 takes them
-pub type-is-type : (n : ℕ) (a : Token) (x : Tree) (u : Source) → readType n a ≡ ok x u → isType (kindOf (build x)) ≡ true
+pub type-is-type : (n : ℕ) (a : Token) (x : Tree) (u : Source) → readType n a ≡ ok x u → isType (kindOfBuild (build x)) ≡ true
 type-is-type n a x u h = subst (Told isType) h (type-told n a)
 
-pub field-is-field : (n : ℕ) (bind : Reader) (a : Token) (x : Tree) (u : Source) → readField n bind a ≡ ok x u → isField (kindOf (build x)) ≡ true
+pub field-is-field : (n : ℕ) (bind : Reader) (a : Token) (x : Tree) (u : Source) → readField n bind a ≡ ok x u → isField (kindOfBuild (build x)) ≡ true
 field-is-field n bind a x u h = subst (Told isField) h (field-told n bind a)
 
 pub types-are-types : (n close : ℕ) (o : Token) (f : ℕ) (l : Scanned) (ts : Trees) (u : Source) → list (readType n) close o f l ≡ ok ts u → Every isType ts

@@ -19,7 +19,7 @@ use Rattle.grammar.proofs.Sure.{kind-sure}
 module _ (text : List ℕ) where
   -- an accepted item: its tree lies in the text from `at` on, its spans are nested, the token that follows stands behind it, and its
   -- stored form is no longer than 24 bytes a byte that was read; a refusal's places are in the text
-  pub record Accepted (at : ℕ) (x : Tree) (n : Token) : Type 0 where
+  pub record HeldItem (at : ℕ) (x : Tree) (n : Token) : Type 0 where
     pub from : at ≤ startOf x
     pub some : startOf x < endOf x
     pub follows : endOf x ≤ start n
@@ -28,7 +28,7 @@ module _ (text : List ℕ) where
     pub small : length (stored x) + 24 * startOf x ≤ 24 * endOf x
 
   abbrev pub Held : ℕ → Item → Type 0
-  Held at (item x n) = Accepted at x n
+  Held at (item x n) = HeldItem at x n
   Held at (refused r) = Blamed (length text) r
 
   module _ (at : ℕ) where

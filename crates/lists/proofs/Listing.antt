@@ -21,8 +21,8 @@ use Rattle.tokens.specs.declared.Lexed.the-variants.{Found, Refused as Bad}
 use Rattle.records.specs.Tree.{Tree, Trees, none, more, joined, behind}
 use Rattle.sources.specs.Source.{Source, opened, split, after, lex}
 use Rattle.answers.specs.Reading.{Ans, ok, no, then, look, when, closed, refusedBefore, unexpected, Reader, list, listBehind}
-use Rattle.forms.specs.Forms.{mark, laid, listed}
-use Rattle.forms.specs.code.Spots.{last, moved, Placed}
+use Rattle.forms.specs.Forms.{markIn, laid, laidItems}
+use Rattle.forms.specs.code.Spots.{last, movedBy, Placed}
 use Rattle.forms.specs.declared.Spot.{Spot}
 use Rattle.forms.proofs.Placing.{capped, moved-twice, placed-long, placed-as, placed-both}
 use Rattle.parts.specs.code.Meets.{Fits, held, Refuses, Reads}
@@ -204,13 +204,13 @@ then-behind us t (ok ts u) = ap (λ (x : Trees). ok x u) (sym (joined-behind us 
 then-behind us t (no r) = refl
 
 -- the place before which nothing was written
-start-none : (l : List ℕ) (s s₀ : Spot) → s₀ ≡ moved s 0 → Placed l s₀ [] s₀ l
-start-none l s s₀ e = record { ends = e ∙ sym (moved-twice s 0 0) ∙ ap (λ (x : Spot). moved x 0) (sym e); holds = refl }
+start-none : (l : List ℕ) (s s₀ : Spot) → s₀ ≡ movedBy s 0 → Placed l s₀ [] s₀ l
+start-none l s s₀ e = record { ends = e ∙ sym (moved-twice s 0 0) ∙ ap (λ (x : Spot). movedBy x 0) (sym e); holds = refl }
 
-start-placed : (l m xs : List ℕ) (s s₀ r : Spot) → length l ≤ last → s₀ ≡ moved s 0 → Placed l s₀ xs r m → Placed l s xs r m
+start-placed : (l m xs : List ℕ) (s s₀ r : Spot) → length l ≤ last → s₀ ≡ movedBy s 0 → Placed l s₀ xs r m → Placed l s xs r m
 start-placed l m xs s s₀ r h e w =
     record {
-      ends = w .ends ∙ ap (λ (x : Spot). moved x (length xs)) e ∙ moved-twice s 0 (length xs) ∙ ap (moved s) (omega arith);
+      ends = w .ends ∙ ap (λ (x : Spot). movedBy x (length xs)) e ∙ moved-twice s 0 (length xs) ∙ ap (movedBy s) (omega arith);
       holds = w .holds ∙ ap (λ (x : Spot). sets l (x .pos) xs) e ∙ capped l xs (s .pos + 0) h ∙ ap (λ (x : ℕ). sets l x xs) (add-zero (s .pos));
     }
 
@@ -225,13 +225,13 @@ module _ (form : ℕ) (text : List ℕ) (item : Reader) (close : ℕ) (o : Answe
     pub enough : length text ≤ fuel + i
     pub is : (Fits text o → whole ≡ then (onward text item close o fuel i) (λ ts u. ok (joined seen ts) u))
     pub counts : count ≡ countOf seen
-    pub bytes : Placed l₀ s₀ (listed form seen) s l
+    pub bytes : Placed l₀ s₀ (laidItems form seen) s l
     pub after : o .end ≤ i
     pub within : (Fits text o → i ≤ length text)
 
-  module _ (s s₀ : Spot) (z : s₀ ≡ moved s 0) (l₀ : List ℕ) (h : length l₀ ≤ last) where
+  module _ (s s₀ : Spot) (z : s₀ ≡ movedBy s 0) (l₀ : List ℕ) (h : length l₀ ≤ last) where
     pub going-first : Going s₀ l₀ (o .end) s₀ 0 l₀
-    unfolding listBehind countOf listed
+    unfolding listBehind countOf laidItems
     going-first =
         record {
           seen = none;
@@ -248,7 +248,7 @@ module _ (form : ℕ) (text : List ℕ) (item : Reader) (close : ℕ) (o : Answe
         }
 
     -- the list closes before q
-    closes-by : (ts : Trees) (q n : ℕ) (w : Spot) (m : List ℕ) (r : Listed) → (Fits text o → whole ≡ ok ts (opened text q)) → n ≡ countOf ts → Placed l₀ s₀ (listed form ts) w m → o .end ≤ q → q ≤ length text
+    closes-by : (ts : Trees) (q n : ℕ) (w : Spot) (m : List ℕ) (r : Listed) → (Fits text o → whole ≡ ok ts (opened text q)) → n ≡ countOf ts → Placed l₀ s₀ (laidItems form ts) w m → o .end ≤ q → q ≤ length text
         → r ≡ closedAt q n w (nextToken text q) → ReadsAll form text (Fits text o) whole (o .end) s l₀ r m
     unfolding closedAt MeetsAll FollowsAll Refuses
     closes-by ts q n w m r e c b g i x = subst (λ (y : Listed). ReadsAll form text (Fits text o) whole (o .end) s l₀ y m) (sym x) (go (nextToken text q) refl)
@@ -256,7 +256,7 @@ module _ (form : ℕ) (text : List ℕ) (item : Reader) (close : ℕ) (o : Answe
         go : (y : Lexed) → nextToken text q ≡ y → ReadsAll form text (Fits text o) whole (o .end) s l₀ (closedAt q n w y) m
         go (Found t) v =
             record {
-              meets = λ fit. record { what = ts; is = e fit; counts = c; bytes = start-placed l₀ m (listed form ts) s s₀ w h z b };
+              meets = λ fit. record { what = ts; is = e fit; counts = c; bytes = start-placed l₀ m (laidItems form ts) s s₀ w h z b };
               goes = (g, v);
             }
         go (Bad u) v = record { meets = λ fit. subst (λ (y : Ans Trees). Refuses y u) (sym (e fit)) (next-refused text q (fit .0) i u v); goes = tt }
@@ -285,7 +285,7 @@ module _ (form : ℕ) (text : List ℕ) (item : Reader) (close : ℕ) (o : Answe
           (g .counts) (g .bytes) (omega (arith, g .after, d .0)) (d .1) x
 
       -- an item, which was laid down behind what parts it from the one before it
-      module _ (a : Answer) (e : turn ≡ Item a) (p : Spot) (k : List ℕ) (y : Placed l to (cond (eqb n 0) [] (mark form (bytes ", "))) p k) (t : Parsed) (m : List ℕ)
+      module _ (a : Answer) (e : turn ≡ Item a) (p : Spot) (k : List ℕ) (y : Placed l to (cond (eqb n 0) [] (markIn form (bytes ", "))) p k) (t : Parsed) (m : List ℕ)
           (w : Reads form text (Fits text a) (item (held text a)) (a .end) p k t m) where
         abbrev item-here : Next text i a
         item-here = item-there text close i a e
@@ -301,14 +301,14 @@ module _ (form : ℕ) (text : List ℕ) (item : Reader) (close : ℕ) (o : Answe
         done = stepped text item close o form (item (held text a)) (a .end) p k m (Fits text a) (item-here .fits) t w
 
         -- the items with one more
-        one-more : (x : Tree) (v : Spot) → Placed k p (laid form x) v m → Placed l₀ s₀ (listed form (behind (g .seen) x)) v m
+        one-more : (x : Tree) (v : Spot) → Placed k p (laid form x) v m → Placed l₀ s₀ (laidItems form (behind (g .seen) x)) v m
         one-more x v b =
-            let parting = cond (eqb n 0) [] (mark form (bytes ", ")) in
-            let j = placed-long l₀ l (listed form (g .seen)) s₀ to (g .bytes) in
+            let parting = cond (eqb n 0) [] (markIn form (bytes ", ")) in
+            let j = placed-long l₀ l (laidItems form (g .seen)) s₀ to (g .bytes) in
             let both = placed-both l k m parting (laid form x) to p v (omega (arith, h, j)) y b in
-            placed-as l₀ m (listed form (g .seen) ++ (parting ++ laid form x)) (listed form (behind (g .seen) x)) s₀ v
-            (ap (λ (c : ℕ). listed form (g .seen) ++ (cond (eqb c 0) [] (mark form (bytes ", ")) ++ laid form x)) (g .counts) ∙ sym (listed-behind form (g .seen) x))
-            (placed-both l₀ l m (listed form (g .seen)) (parting ++ laid form x) s₀ to v h (g .bytes) both)
+            placed-as l₀ m (laidItems form (g .seen) ++ (parting ++ laid form x)) (laidItems form (behind (g .seen) x)) s₀ v
+            (ap (λ (c : ℕ). laidItems form (g .seen) ++ (cond (eqb c 0) [] (markIn form (bytes ", ")) ++ laid form x)) (g .counts) ∙ sym (listed-behind form (g .seen) x))
+            (placed-both l₀ l m (laidItems form (g .seen)) (parting ++ laid form x) s₀ to v h (g .bytes) both)
 
         one-count : (x : Tree) (j : ℕ) → j ≡ oneMore n → j ≡ countOf (behind (g .seen) x)
         one-count x j c = c ∙ ap oneMore (g .counts) ∙ sym (count-behind (g .seen) x)

@@ -13,8 +13,8 @@ use Rattle.sources.specs.Source.{Source, Token, word, after, lex}
 use Rattle.answers.specs.Reading.{leafOf, listBehind}
 use Rattle.grammar.specs.Types.{levels, readType}
 use Rattle.grammar.specs.Binds.{fields, structOver, unpacked, bindOver, fieldOver, readField, readBind, readBindList, readLambdaList}
-use Rattle.forms.specs.Line.{isField, isType, kindOf, shown}
-use Rattle.forms.specs.Forms.{FormLine, head, mark, laid, headed, listed}
+use Rattle.forms.specs.Line.{isField, isType, kindOfBuild, shown}
+use Rattle.forms.specs.Forms.{FormLine, head, markIn, laid, headed, laidItems}
 use Rattle.forms.proofs.Constructs.{Every as EachKind, laid-field, laid-struct, laid-struct-typed, laid-bind-list, laid-lambda-list}
 use Rattle.roundtrip.proofs.Words.{Stops, extends}
 use Rattle.roundtrip.proofs.Tokens.{Met, met-map, Near, at-once, blank, Word, Spelled, Good}
@@ -37,7 +37,7 @@ builds-joined (more t ts) us = ap (bmore (build t)) (builds-joined ts us)
 joined-same : (xs ys ts us : Trees) → SameAll ts xs → SameAll us ys → builds (joined xs ys) ≡ builds (joined ts us)
 joined-same xs ys ts us e g = builds-joined xs ys ∙ ap₂ bjoined e g ∙ sym (builds-joined ts us)
 
-kinds-of : (p : ℕ → Bool) (ts : Trees) → All (λ (t : Tree). p (kindOf (build t)) ≡ true) ts → EachKind p ts
+kinds-of : (p : ℕ → Bool) (ts : Trees) → All (λ (t : Tree). p (kindOfBuild (build t)) ≡ true) ts → EachKind p ts
 kinds-of p none a = tt
 kinds-of p (more t ts) a = (a .0, kinds-of p ts (a .1))
 
@@ -48,28 +48,28 @@ braced fs z = 123 ∷ join fs (125 ∷ z)
 abbrev withTypes : Trees → Trees → List ℕ → List ℕ
 withTypes ts fs z = 60 ∷ join ts (62 ∷ 32 ∷ braced fs z)
 
-braces-line : (fs : Trees) (z : List ℕ) → (bytes " {" ++ (listed FormLine fs ++ bytes "}")) ++ z ≡ 32 ∷ braced fs z
+braces-line : (fs : Trees) (z : List ℕ) → (bytes " {" ++ (laidItems FormLine fs ++ bytes "}")) ++ z ≡ 32 ∷ braced fs z
 braces-line fs z = ap (λ (x : List ℕ). 32 ∷ 123 ∷ x) (round fs 125 z)
 
 module _ (s e : ℕ) where
   field-line : (a : Token) (x : Tree) (z : List ℕ) → shown (node RecField s e (more (leafOf RecName a) (more x none))) ++ z ≡ word a ++ (58 ∷ 32 ∷ (shown x ++ z))
-  unfolding laid headed head mark
+  unfolding laid headed head markIn
   field-line a x z =
       ap (λ (y : List ℕ). y ++ z) (laid-field FormLine s e (leafOf RecName a) x ∙ ap (λ (y : List ℕ). y ++ (58 ∷ 32 ∷ shown x)) (leaf-shown RecName a refl)) ∙ append-assoc (word a) (58 ∷ 32 ∷ shown x) z
 
   struct-line : (c : Tree) (fs : Trees) (z : List ℕ) → shown (node RecStruct s e (more c fs)) ++ z ≡ shown c ++ (32 ∷ braced fs z)
-  unfolding laid headed head mark
-  struct-line c fs z = ap (λ (y : List ℕ). y ++ z) (laid-struct FormLine s e c fs) ∙ append-assoc (shown c) (bytes " {" ++ (listed FormLine fs ++ bytes "}")) z ∙ ap (_++_ (shown c)) (braces-line fs z)
+  unfolding laid headed head markIn
+  struct-line c fs z = ap (λ (y : List ℕ). y ++ z) (laid-struct FormLine s e c fs) ∙ append-assoc (shown c) (bytes " {" ++ (laidItems FormLine fs ++ bytes "}")) z ∙ ap (_++_ (shown c)) (braces-line fs z)
 
   typed-line : (c : Tree) (ts fs : Trees) → EachKind isType ts → EachKind isField fs → (z : List ℕ) → shown (node RecStructTyped s e (more c (joined ts fs))) ++ z ≡ shown c ++ withTypes ts fs z
-  unfolding laid headed head mark
+  unfolding laid headed head markIn
   typed-line c ts fs d g z =
-      let b : List ℕ = bytes " {" ++ (listed FormLine fs ++ bytes "}") in
-      ap (λ (y : List ℕ). y ++ z) (laid-struct-typed FormLine s e c ts fs d g) ∙ append-assoc (shown c) (60 ∷ (listed FormLine ts ++ (62 ∷ b))) z
-      ∙ ap (λ (y : List ℕ). shown c ++ (60 ∷ y)) (append-assoc (listed FormLine ts) (62 ∷ b) z ∙ ap (λ (y : List ℕ). listed FormLine ts ++ (62 ∷ y)) (braces-line fs z) ∙ join-listed ts (62 ∷ 32 ∷ braced fs z))
+      let b : List ℕ = bytes " {" ++ (laidItems FormLine fs ++ bytes "}") in
+      ap (λ (y : List ℕ). y ++ z) (laid-struct-typed FormLine s e c ts fs d g) ∙ append-assoc (shown c) (60 ∷ (laidItems FormLine ts ++ (62 ∷ b))) z
+      ∙ ap (λ (y : List ℕ). shown c ++ (60 ∷ y)) (append-assoc (laidItems FormLine ts) (62 ∷ b) z ∙ ap (λ (y : List ℕ). laidItems FormLine ts ++ (62 ∷ y)) (braces-line fs z) ∙ join-listed ts (62 ∷ 32 ∷ braced fs z))
 
   list-line : (xs : Trees) (z : List ℕ) → shown (node RecBindList s e xs) ++ z ≡ 40 ∷ join xs (41 ∷ z)
-  unfolding laid headed head mark
+  unfolding laid headed head markIn
   list-line xs z = ap (λ (y : List ℕ). y ++ z) (laid-bind-list FormLine s e xs) ∙ ap (_∷_ 40) (round xs 41 z)
 
   lambda-line : (xs : Trees) (z : List ℕ) → shown (node RecLambdaBindList s e xs) ++ z ≡ 124 ∷ inner xs (124 ∷ z)
@@ -83,7 +83,7 @@ record Bound (n : ℕ) (x : Tree) : Type 0 where
 
 record Fielded (n : ℕ) (x : Tree) : Type 0 where
   reads : Reads (readField n (readBind n)) (Begins λ k. eqb k Identifier) x
-  marked : isField (kindOf (build x)) ≡ true
+  marked : isField (kindOfBuild (build x)) ≡ true
 
 -- the items of a list of bindings, and of fields
 binds-open : (n close : ℕ) → firsts close ≡ false → (xs : Trees) → All (Bound n) xs → All (Reads (readBind n) (Opens close)) xs
@@ -109,7 +109,7 @@ variable-back n a m = record {
 }
 
 field-back : (n s e : ℕ) (a : Token) (x : Tree) → Spelled Identifier (word a) → Bound (suc n) x → Fielded (suc n) (node RecField s e (more (leafOf RecName a) (more x none)))
-unfolding readField fieldOver build builds isField kindOf
+unfolding readField fieldOver build builds isField kindOfBuild
 field-back n s e a x m h = record {
   marked = refl;
   reads = λ u z d g. met-map (λ b i. (

@@ -22,7 +22,7 @@ use Rattle.grammar.specs.Values.{leafKind, leafValue, addressValue, value}
 use Rattle.grammar.specs.Types.{bracketed, brackets, reference, function, withArguments, named, typeOver, readType}
 use Rattle.grammar.specs.Binds.{fields, structOver, unpacked, bindOver, fieldOver, readField, readBind, readBindList, readLambdaList}
 use Rattle.grammar.specs.Items.{readKind, followed, finished, readItem}
-use Rattle.forms.specs.Line.{plain, others, commas, bars, angles, brackets as inBrackets, braces, first, later, initial, final, select, isField, isType, shape, kindOf as kindOfBuild, line as lineOf, pieces, shown}
+use Rattle.forms.specs.Line.{plain, others, commas, bars, angles, inBrackets, braces, first, later, initial, final, select, isField, isType, shape, kindOfBuild, line as lineOf, pieces, shown}
 use Rattle.forms.specs.Forms.{head, recorded, recordedAll, laid}
 use Rattle.calls.specs.Calls.{limitOf, roomed, written, called, calledBuffer, answeredIn, read as readCall, readBuffer, answered, readNumber, readValues, display as displayCall, displayBuffer, displayed, displayNumber, displayValues}
 use Rattle.roundtrip.specs.Examples.{expected, given, examples}

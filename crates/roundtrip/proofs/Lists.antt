@@ -14,7 +14,7 @@ use Rattle.records.specs.Tree.{Tree, Trees, none, more, bmore, build, builds}
 use Rattle.sources.specs.Source.{Source, Token, after, split, lex}
 use Rattle.answers.specs.Reading.{ok, no, then, look, when, closed, refusedBefore, Reader, list, listBehind}
 use Rattle.forms.specs.Line.{shown}
-use Rattle.forms.specs.Forms.{FormLine, mark, laid, listedRest, listed}
+use Rattle.forms.specs.Forms.{FormLine, markIn, laid, listedRest, laidItems}
 use Rattle.roundtrip.proofs.Words.{Stops, extends, differs}
 use Rattle.roundtrip.proofs.Tokens.{Met, met-map, Near, at-once, blank, near-long, Stands, Good}
 use Rattle.roundtrip.proofs.Answers.{Gives, gives, Shuts, Stays, gives-then, gives-look, gives-true, gives-false, gives-stays, gives-shuts, Every, then-every, look-every, when-every, closed-every}
@@ -38,12 +38,12 @@ join none y = y
 join (more t ts) y = shown t ++ rest ts y
 
 rest-listed : (ts : Trees) (y : List ℕ) → listedRest FormLine ts ++ y ≡ rest ts y
-unfolding listedRest mark laid
+unfolding listedRest markIn laid
 rest-listed none y = refl
 rest-listed (more t ts) y = ap (λ (x : List ℕ). 44 ∷ 32 ∷ x) (append-assoc (shown t) (listedRest FormLine ts) y ∙ ap (_++_ (shown t)) (rest-listed ts y))
 
-pub join-listed : (ts : Trees) (y : List ℕ) → listed FormLine ts ++ y ≡ join ts y
-unfolding listed laid
+pub join-listed : (ts : Trees) (y : List ℕ) → laidItems FormLine ts ++ y ≡ join ts y
+unfolding laidItems laid
 join-listed none y = refl
 join-listed (more t ts) y = append-assoc (shown t) (listedRest FormLine ts) y ∙ ap (_++_ (shown t)) (rest-listed ts y)
 

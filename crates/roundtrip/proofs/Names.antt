@@ -17,7 +17,7 @@ use Rattle.grammar.specs.Names.{isFirst, firstPart, pairOf, threeOf, lastPart, 
 use Rattle.grammar.specs.Values.{leafKind, valueKind, leafValue, addressValue, value}
 use Rattle.grammar.specs.Binds.{isStruct}
 use Rattle.forms.specs.Line.{line, shown}
-use Rattle.forms.specs.Forms.{FormLine, head, mark, spelt, laid, headed}
+use Rattle.forms.specs.Forms.{FormLine, head, markIn, spelt, laid, headed}
 use Rattle.forms.proofs.Constructs.{laid-leaf, laid-two, laid-three, laid-pair, laid-address}
 use Rattle.roundtrip.specs.Arguments.{Bracketed, BracketedAll}
 use Rattle.roundtrip.proofs.Words.{Stops, extends, differs, Headed, wordy}
@@ -107,13 +107,13 @@ module _ (a b : Token) (f : isFirst a ≡ true) (n : Spelled (a .kind) (word a))
   two-line k s e h z = rw (h (firstPart a) (leafOf RecName b), part-shown a, leaf-shown RecName b refl) (append-assoc (word a) (58 ∷ 58 ∷ word b) z)
 
   chain-two : Chain (pairOf RecTwoPart a b)
-  unfolding thirdPart build builds Bracketed BracketedAll laid headed head mark
+  unfolding thirdPart build builds Bracketed BracketedAll laid headed head markIn
   chain-two =
       chain-from (pairOf RecTwoPart a b) (λ z. z) (λ x. false-true _ x, (tt, (tt, tt))) (two-line RecTwoPart _ _ (laid-two FormLine _ _)) (λ z e. e .stops) λ z e a₂ b₂ g h i.
       gives-look _ (e .after (after b₂) i) λ t x. gives-false _ _ _ x (gives _ _ (ap₂ (λ (v : Build) (w : List ℕ). made RecTwoPart (bmore v (bmore (spelled RecName w) bnone))) g h) i)
 
   three-line : (c : Token) (z : List ℕ) → shown (threeOf a b c) ++ z ≡ word a ++ (58 ∷ 58 ∷ (word b ++ (58 ∷ 58 ∷ (word c ++ z))))
-  unfolding laid headed head mark
+  unfolding laid headed head markIn
   three-line c z =
       ap (λ (x : List ℕ). x ++ z) (laid-three FormLine _ _ (pairOf RecPair a b) (leafOf RecName c))
       ∙ append-assoc (shown (pairOf RecPair a b)) (58 ∷ 58 ∷ shown (leafOf RecName c)) z
@@ -154,7 +154,7 @@ abbrev pub ValueBack : Tree → Type 0
 ValueBack x = (u : Source) (z : List ℕ) → Near u (shown x ++ z) → Ends isColons z → Met (λ (a : Token). Gives (Same x) z (value a)) (lex u)
 
 at-line : (s e : ℕ) (a : Token) → shown (node RecAddressValue s e (more (firstPart a) none)) ≡ 64 ∷ word a
-unfolding laid headed head mark
+unfolding laid headed head markIn
 at-line s e a = laid-address FormLine s e (firstPart a) ∙ ap (_∷_ 64) (part-shown a)
 
 at-back : (s e : ℕ) (a : Token) → isFirst a ≡ true → Spelled (a .kind) (word a) → ValueBack (node RecAddressValue s e (more (firstPart a) none))

@@ -14,8 +14,8 @@ use Rattle.sources.specs.Source.{Source, Token, after, lex}
 use Rattle.answers.specs.Reading.{when, listBehind}
 use Rattle.grammar.specs.Names.{isFirst}
 use Rattle.grammar.specs.Types.{bracketed, brackets, reference, function, withArguments, named, typeOver, readType}
-use Rattle.forms.specs.Line.{isField, isType, kindOf, shown, line}
-use Rattle.forms.specs.Forms.{FormLine, head, mark, laid, headed, listed, inBars, inAngles}
+use Rattle.forms.specs.Line.{isField, isType, kindOfBuild, shown, line}
+use Rattle.forms.specs.Forms.{FormLine, head, markIn, laid, headed, laidItems, inBars, inAngles}
 use Rattle.forms.proofs.Constructs.{laid-ref, laid-ref-mut, laid-unit, laid-brackets, laid-tuple, laid-type, laid-function}
 use Rattle.roundtrip.specs.Arguments.{isFunction, NoneBare, Bracketed, BracketedAll}
 use Rattle.roundtrip.proofs.Words.{Stops, stops-less, differs}
@@ -50,8 +50,8 @@ bracketed-build a u (more t none) = refl
 bracketed-build a u (more t (more v ts)) = refl
 
 -- marks round a list, in front of what follows
-pub round : (ts : Trees) (a : ℕ) (z : List ℕ) → (listed FormLine ts ++ (a ∷ [])) ++ z ≡ join ts (a ∷ z)
-round ts a z = append-assoc (listed FormLine ts) (a ∷ []) z ∙ join-listed ts (a ∷ z)
+pub round : (ts : Trees) (a : ℕ) (z : List ℕ) → (laidItems FormLine ts ++ (a ∷ [])) ++ z ≡ join ts (a ∷ z)
+round ts a z = append-assoc (laidItems FormLine ts) (a ∷ []) z ∙ join-listed ts (a ∷ z)
 
 abbrev angled : Trees → List ℕ → List ℕ
 angled none z = z
@@ -67,24 +67,24 @@ inner-near u none y e = blank e
 inner-near u (more t ts) y e = at-once e
 
 pub bars-line : (ts : Trees) (y : List ℕ) → inBars FormLine ts ++ y ≡ 124 ∷ inner ts (124 ∷ y)
-unfolding inBars mark
+unfolding inBars markIn
 bars-line none y = refl
 bars-line (more t ts) y = ap (_∷_ 124) (round (more t ts) 124 y)
 
 module _ (s e : ℕ) where
   type-line : (c : Tree) (ts : Trees) (z : List ℕ) → shown (node RecType s e (more c ts)) ++ z ≡ shown c ++ angled ts z
-  unfolding laid headed head mark inAngles
+  unfolding laid headed head markIn inAngles
   type-line c none z = ap (λ (x : List ℕ). x ++ z) (laid-type FormLine s e c none) ∙ append-assoc (shown c) [] z
   type-line c (more t ts) z =
-      ap (λ (x : List ℕ). x ++ z) (laid-type FormLine s e c (more t ts)) ∙ append-assoc (shown c) (60 ∷ (listed FormLine (more t ts) ++ (62 ∷ []))) z
+      ap (λ (x : List ℕ). x ++ z) (laid-type FormLine s e c (more t ts)) ∙ append-assoc (shown c) (60 ∷ (laidItems FormLine (more t ts) ++ (62 ∷ []))) z
       ∙ ap (λ (x : List ℕ). shown c ++ (60 ∷ x)) (round (more t ts) 62 z)
 
   function-line : (ts : Trees) (t : Tree) (z : List ℕ) → shown (node RecFunction s e (behind ts t)) ++ z ≡ 124 ∷ inner ts (124 ∷ 32 ∷ (shown t ++ z))
-  unfolding laid headed head mark
+  unfolding laid headed head markIn
   function-line ts t z = ap (λ (x : List ℕ). x ++ z) (laid-function FormLine s e ts t) ∙ append-assoc (inBars FormLine ts) (32 ∷ shown t) z ∙ bars-line ts (32 ∷ (shown t ++ z))
 
 group-line : (a : Token) (u : Source) (ts : Trees) (z : List ℕ) → shown (bracketed a u ts) ++ z ≡ 40 ∷ join ts (41 ∷ z)
-unfolding laid headed head mark bracketed listed
+unfolding laid headed head markIn bracketed laidItems
 group-line a u none z = ap (λ (x : List ℕ). x ++ z) (laid-unit FormLine _ _)
 group-line a u (more t none) z = ap (λ (x : List ℕ). x ++ z) (laid-brackets FormLine _ _ (more t none)) ∙ ap (_∷_ 40) (round (more t none) 41 z)
 group-line a u (more t (more v ts)) z = ap (λ (x : List ℕ). x ++ z) (laid-tuple FormLine _ _ (more t (more v ts))) ∙ ap (_∷_ 40) (round (more t (more v ts)) 41 z)
@@ -104,7 +104,7 @@ typeClashes v b = widens b || (not v && isBar b)
 pub record Typed (n : ℕ) (t : Tree) : Type 0 where
   pub starts : (z : List ℕ) → Stops (typeClashes (isFunction (build t))) (shown t ++ z)
   pub reads : Reads (readType n) (Begins (beginsType (isFunction (build t)))) t
-  pub noField : isType (kindOf (build t)) ≡ true
+  pub noField : isType (kindOfBuild (build t)) ≡ true
   pub bracketed : Bracketed (build t)
 
 -- an argument of a function type is none itself, as it stands
@@ -168,8 +168,8 @@ grouped-bracketed bnone a = tt
 grouped-bracketed (bmore b bnone) a = no-function RecBrackets _ refl a
 grouped-bracketed (bmore b (bmore c bs)) a = no-function RecTuple _ refl a
 
-grouped-kind : (bs : Builds) → (isFunction (grouped bs) ≡ false) × (isType (kindOf (grouped bs)) ≡ true)
-unfolding grouped isType isField kindOf
+grouped-kind : (bs : Builds) → (isFunction (grouped bs) ≡ false) × (isType (kindOfBuild (grouped bs)) ≡ true)
+unfolding grouped isType isField kindOfBuild
 grouped-kind bnone = (refl, refl)
 grouped-kind (bmore b bnone) = (refl, refl)
 grouped-kind (bmore b (bmore c bs)) = (refl, refl)
@@ -200,7 +200,7 @@ module _ (n : ℕ) where
       gives-false _ _ _ (no LParen refl) (gives-false _ _ _ (no Amp refl) (gives-false _ _ _ (no AmpMut refl) (gives-false _ _ _ (no Pipe refl) h)))
 
   type-back : (s e : ℕ) (c : Tree) (ts : Trees) → Chain c → All (Typed n) ts → Typed (suc n) (node RecType s e (more c ts))
-  unfolding readType named build builds isType isField kindOf BracketedAll
+  unfolding readType named build builds isType isField kindOfBuild BracketedAll
   type-back s e c ts h a = record {
     starts = λ z. rw (type-line s e c ts z) (h .starts (angled ts z));
     noField = refl;
@@ -228,7 +228,7 @@ module _ (n : ℕ) where
   reference-back : (c k s e : ℕ) (t : Tree) → Typed n t → (m : List ℕ) → ((z : List ℕ) → shown (node c s e (more t none)) ++ z ≡ m ++ (shown t ++ z)) → ((z : List ℕ) → Stops clashes (m ++ z))
       → eqb c RecFunction ≡ false → isType c ≡ true → beginsType false k ≡ true → ((a : Token) → a .kind ≡ k → typeOver (readType n) a ≡ reference (readType n) c a)
       → ((u : Source) (z : List ℕ) → Near u (m ++ z) → Met (λ (a : Token). (a .kind ≡ k) × Near (after a) z) (lex u)) → Typed (suc n) (node c s e (more t none))
-  unfolding readType reference build builds kindOf BracketedAll
+  unfolding readType reference build builds kindOfBuild BracketedAll
   reference-back c k s e t h m l y p q f r w = record {
     starts = λ z. rw (p, l z) (y (shown t ++ z));
     noField = q;
@@ -241,19 +241,19 @@ module _ (n : ℕ) where
   }
 
   ref-back : (s e : ℕ) (t : Tree) → Typed n t → Typed (suc n) (node RecRef s e (more t none))
-  unfolding typeOver when laid headed head mark isType isField
+  unfolding typeOver when laid headed head markIn isType isField
   ref-back s e t h =
       reference-back RecRef Amp s e t h (bytes "& ") (λ z. ap (λ (x : List ℕ). x ++ z) (laid-ref FormLine s e t)) (λ z. refl) refl refl refl (λ a i. rw i) λ u z d.
       met-map (λ a i. (i .kind, blank (i .goes))) (amp u (32 ∷ z) d (z, refl))
 
   mut-back : (s e : ℕ) (t : Tree) → Typed n t → Typed (suc n) (node RecRefMut s e (more t none))
-  unfolding typeOver when laid headed head mark isType isField
+  unfolding typeOver when laid headed head markIn isType isField
   mut-back s e t h =
       reference-back RecRefMut AmpMut s e t h (bytes "&mut ") (λ z. ap (λ (x : List ℕ). x ++ z) (laid-ref-mut FormLine s e t)) (λ z. refl) refl refl refl (λ a i. rw i) λ u z d.
       met-map (λ a i. (i .kind, at-once (i .goes))) (amp-mut u z d tt)
 
   function-back : (s e : ℕ) (ts : Trees) (t : Tree) → All (Argument n) ts → Typed n t → Typed (suc n) (node RecFunction s e (behind ts t))
-  unfolding readType typeOver function build isType isField kindOf Bracketed
+  unfolding readType typeOver function build isType isField kindOfBuild Bracketed
   function-back s e ts t a h = record {
     starts = λ z. rw (function-line s e ts t z) refl;
     noField = refl;
@@ -282,7 +282,7 @@ module _ (n : ℕ) (ih : (a : Token) → Good a → Every (Sure n a) (readType n
   arguments-sure o = behind-sure (readType n) Pipe o (Argument n) λ a g x. map-every (Sure n a) (Argument n) (readType n a) (λ t h. (h .0, h .1 x)) (ih a g)
 
   over-sure : (a : Token) → Good a → Every (Sure (suc n) a) (typeOver (readType n) a)
-  unfolding typeOver brackets reference function named withArguments build kindOf
+  unfolding typeOver brackets reference function named withArguments build kindOfBuild
   over-sure a g =
       when-every _ _ _ _ (λ _. then-every (All (Typed n)) _ _ _ (types-sure RParen a) λ ts u h. (group-back n a u ts h, λ _. rw (bracketed-build a u ts) (grouped-kind (builds ts) .0))) λ _.
       when-every _ _ _ _ (λ _. look-every _ (after a) _ λ b i. then-every (Typed n) _ _ _ (typed-sure b i) λ t u h. (ref-back n _ _ t h, λ _. refl)) λ _.

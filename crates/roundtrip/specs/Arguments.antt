@@ -4,10 +4,10 @@ use mathlib.Core.Bool.{Bool, true, false}
 use lib.Dec.{eqb}
 use Rattle.records.specs.Kinds.{RecFunction}
 use Rattle.records.specs.Tree.{Build, spelled, made, Builds, bnone, bmore}
-use Rattle.forms.specs.Line.{kindOf}
+use Rattle.forms.specs.Line.{kindOfBuild}
 
 abbrev pub isFunction : Build → Bool
-isFunction b = eqb (kindOf b) RecFunction
+isFunction b = eqb (kindOfBuild b) RecFunction
 
 -- the children of a function type, its result last: the arguments before it are no function types
 unfoldable pub NoneBare : Builds → Type 0

@@ -23,8 +23,8 @@ use Rattle.sources.specs.Source.{Source, opened, Token, start, tok, lex}
 use Rattle.answers.specs.Reading.{Ans, ok, no, then, look, when, Reader, listBehind}
 use Rattle.grammar.specs.Names.{chain}
 use Rattle.grammar.specs.Types.{spanned, bracketed, brackets, reference, function, withArguments, named, typeOver, readType}
-use Rattle.forms.specs.Forms.{mark, laid, headed, listed, inBars, inAngles}
-use Rattle.forms.specs.code.Spots.{last, moved, inside, sealed, Placed}
+use Rattle.forms.specs.Forms.{markIn, laid, headed, laidItems, inBars, inAngles}
+use Rattle.forms.specs.code.Spots.{last, movedBy, inside, sealed, Placed}
 use Rattle.forms.specs.declared.Spot.{Spot}
 use Rattle.forms.proofs.Placing.{placed-long, placed-as, placed-both, placed-front, placed-headed}
 use Rattle.forms.proofs.Constructs.{laid-ref, laid-ref-mut, laid-unit, laid-brackets, laid-tuple, laid-function, laid-type}
@@ -56,41 +56,41 @@ module _ (item : Reader) (a : Token) where
 
 -- what is laid down
 module _ (f : ℕ) where
-  bracketed-laid : (a : Token) (u : Source) (ts : Trees) → laid f (bracketed a u ts) ≡ headed f (bracketsKind (countOf ts)) (start a) (u .at) (mark f (bytes "(") ++ (listed f ts ++ mark f (bytes ")")))
+  bracketed-laid : (a : Token) (u : Source) (ts : Trees) → laid f (bracketed a u ts) ≡ headed f (bracketsKind (countOf ts)) (start a) (u .at) (markIn f (bytes "(") ++ (laidItems f ts ++ markIn f (bytes ")")))
   unfolding bracketed countOf
   bracketed-laid a u none = laid-unit f (start a) (u .at)
   bracketed-laid a u (more x none) = laid-brackets f (start a) (u .at) (more x none)
   bracketed-laid a u (more x (more y xs)) = laid-tuple f (start a) (u .at) (more x (more y xs))
 
-  reference-laid : (b : Bool) (st e : ℕ) (x : Tree) → laid f (node (cond b RecRefMut RecRef) st e (more x none)) ≡ headed f (cond b RecRefMut RecRef) st e (mark f (cond b (bytes "&mut ") (bytes "& ")) ++ laid f x)
+  reference-laid : (b : Bool) (st e : ℕ) (x : Tree) → laid f (node (cond b RecRefMut RecRef) st e (more x none)) ≡ headed f (cond b RecRefMut RecRef) st e (markIn f (cond b (bytes "&mut ") (bytes "& ")) ++ laid f x)
   reference-laid true st e x = laid-ref-mut f st e x
   reference-laid false st e x = laid-ref f st e x
 
   -- arguments, by whether there are any
-  module _ (l k m : List ℕ) (s j b r : Spot) (h : length l ≤ last) (g : j ≡ moved s (length (mark f (bytes "<")))) where
+  module _ (l k m : List ℕ) (s j b r : Spot) (h : length l ≤ last) (g : j ≡ movedBy s (length (markIn f (bytes "<")))) where
     angled-none : Placed l j [] b k → Angled f true k s b r m → Placed l s [] r m
     angled-none y d = record { ends = d .ends; holds = d .holds ∙ y .holds }
 
-    angled-some : (xs : List ℕ) → Placed l j xs b k → Angled f false k s b r m → Placed l s (mark f (bytes "<") ++ (xs ++ mark f (bytes ">"))) r m
+    angled-some : (xs : List ℕ) → Placed l j xs b k → Angled f false k s b r m → Placed l s (markIn f (bytes "<") ++ (xs ++ markIn f (bytes ">"))) r m
     angled-some xs y d =
-        let k₂ = sets k (b .pos) (mark f (bytes ">")) in
-        let z : Placed k b (mark f (bytes ">")) r k₂ = record { ends = d .ends; holds = refl } in
-        placed-front l k₂ m (mark f (bytes "<")) (xs ++ mark f (bytes ">")) s r h
-        (subst (λ (q : Spot). Placed l q (xs ++ mark f (bytes ">")) r k₂) g (placed-both l k k₂ xs (mark f (bytes ">")) j b r h y z)) (d .holds)
+        let k₂ = sets k (b .pos) (markIn f (bytes ">")) in
+        let z : Placed k b (markIn f (bytes ">")) r k₂ = record { ends = d .ends; holds = refl } in
+        placed-front l k₂ m (markIn f (bytes "<")) (xs ++ markIn f (bytes ">")) s r h
+        (subst (λ (q : Spot). Placed l q (xs ++ markIn f (bytes ">")) r k₂) g (placed-both l k k₂ xs (markIn f (bytes ">")) j b r h y z)) (d .holds)
 
-    angled-placed : (ts : Trees) → Placed l j (listed f ts) b k → Angled f (eqb (countOf ts) 0) k s b r m → Placed l s (inAngles f ts) r m
-    unfolding inAngles listed countOf
+    angled-placed : (ts : Trees) → Placed l j (laidItems f ts) b k → Angled f (eqb (countOf ts) 0) k s b r m → Placed l s (inAngles f ts) r m
+    unfolding inAngles laidItems countOf
     angled-placed none y d = angled-none y d
-    angled-placed (more x none) y d = angled-some (listed f (more x none)) y d
-    angled-placed (more x (more z ts)) y d = angled-some (listed f (more x (more z ts))) y d
+    angled-placed (more x none) y d = angled-some (laidItems f (more x none)) y d
+    angled-placed (more x (more z ts)) y d = angled-some (laidItems f (more x (more z ts))) y d
 
 -- the marks, as the code writes them
 module _ (f : ℕ) (empty : Bool) (l : List ℕ) (s b r : Spot) where
-  pub angled-not : empty ≡ true → r ≡ moved s 0 → Angled f empty l s b r l
+  pub angled-not : empty ≡ true → r ≡ movedBy s 0 → Angled f empty l s b r l
   angled-not h e = rw h (record { ends = e; holds = refl })
 
-  pub angled-both : (k m : List ℕ) → empty ≡ false → Placed l b (mark f (bytes ">")) r k → m ≡ sets k (s .pos) (mark f (bytes "<")) → Angled f empty l s b r m
-  angled-both k m h y e = rw h (record { ends = y .ends; holds = e ∙ ap (λ (x : List ℕ). sets x (s .pos) (mark f (bytes "<"))) (y .holds) })
+  pub angled-both : (k m : List ℕ) → empty ≡ false → Placed l b (markIn f (bytes ">")) r k → m ≡ sets k (s .pos) (markIn f (bytes "<")) → Angled f empty l s b r m
+  angled-both k m h y e = rw h (record { ends = y .ends; holds = e ∙ ap (λ (x : List ℕ). sets x (s .pos) (markIn f (bytes "<"))) (y .holds) })
 
 module _ (f : ℕ) (text : List ℕ) (item : Reader) (a : Answer) (s : Spot) (l : List ℕ) where
   abbrev Is : Ans Tree → Parsed → List ℕ → Type 0
@@ -107,8 +107,8 @@ module _ (f : ℕ) (text : List ℕ) (item : Reader) (a : Answer) (s : Spot) (l 
         reads-refused f text (Fits text a) (brackets item (held text a)) (a .end) s l m₂ r
         (λ fit. refuses-ok types r (λ xs u. bracketed (held text a) u xs) (all-not f text (Fits text a) types (a .end) p m₁ m₂ t w r e fit))
 
-    module _ (n : Items) (e : t ≡ All n) (h : length l ≤ last) (i : Spot) (g : i ≡ inside f s) (y : Placed l i (mark f (bytes "(")) p m₁) where
-      pub brackets-read : (to : Spot) (m₃ m : List ℕ) (k : ℕ) → Placed m₂ (n .to) (mark f (bytes ")")) to m₃ → k ≡ bracketsKind (n .count) → m ≡ sealed f k (a .start) (n .end) s to m₃
+    module _ (n : Items) (e : t ≡ All n) (h : length l ≤ last) (i : Spot) (g : i ≡ inside f s) (y : Placed l i (markIn f (bytes "(")) p m₁) where
+      pub brackets-read : (to : Spot) (m₃ m : List ℕ) (k : ℕ) → Placed m₂ (n .to) (markIn f (bytes ")")) to m₃ → k ≡ bracketsKind (n .count) → m ≡ sealed f k (a .start) (n .end) s to m₃
           → Is (brackets item (held text a)) (Read (record { to = to; end = n .end; next = n .next })) m
       unfolding brackets then
       brackets-read to m₃ m k v c d =
@@ -119,13 +119,13 @@ module _ (f : ℕ) (text : List ℕ) (item : Reader) (a : Answer) (s : Spot) (l 
           built fit =
               let z = all-had f text (Fits text a) types (a .end) p m₁ m₂ t w n e fit in
               let what = bracketed (held text a) (opened text (n .end)) (z .what) in
-              let same = ap (λ (x : ℕ). headed f x (a .start) (n .end) (mark f (bytes "(") ++ (listed f (z .what) ++ mark f (bytes ")")))) (c ∙ ap bracketsKind (z .counts)) in
+              let same = ap (λ (x : ℕ). headed f x (a .start) (n .end) (markIn f (bytes "(") ++ (laidItems f (z .what) ++ markIn f (bytes ")")))) (c ∙ ap bracketsKind (z .counts)) in
               record {
                 what = what;
                 is = ap (λ (x : Ans Trees). then x (λ xs u. ok (bracketed (held text a) u xs) u)) (z .is);
                 bytes =
                     placed-as l m _ (laid f what) s to (same ∙ sym (bracketed-laid f (held text a) (opened text (n .end)) (z .what)))
-                    (placed-parted f k (a .start) (n .end) l m₁ m₂ m₃ m (mark f (bytes "(")) (listed f (z .what)) (mark f (bytes ")")) s i p (n .to) to h g y (z .bytes) v d);
+                    (placed-parted f k (a .start) (n .end) l m₁ m₂ m₃ m (markIn f (bytes "(")) (laidItems f (z .what)) (markIn f (bytes ")")) s i p (n .to) to h g y (z .bytes) v d);
               }
 
   -- references
@@ -151,13 +151,13 @@ module _ (f : ℕ) (text : List ℕ) (item : Reader) (a : Answer) (s : Spot) (l 
           (λ fit. subst (λ (x : Ans Tree). Refuses x r) (sym (refer-is fit))
           (refuses-ok (item (held text c)) r (λ x u. spanned (cond b RecRefMut RecRef) (held text a) u (more x none)) (reads-not f text (Fits text c) (item (held text c)) (c .end) q m₁ m₂ t w r e (next .fits))))
 
-      pub reference-read : (p : Part) → t ≡ Read p → length l ≤ last → (i : Spot) → i ≡ inside f s → Placed l i (mark f (cond b (bytes "&mut ") (bytes "& "))) q m₁ → (m : List ℕ) (k : ℕ) → k ≡ cond b RecRefMut RecRef
+      pub reference-read : (p : Part) → t ≡ Read p → length l ≤ last → (i : Spot) → i ≡ inside f s → Placed l i (markIn f (cond b (bytes "&mut ") (bytes "& "))) q m₁ → (m : List ℕ) (k : ℕ) → k ≡ cond b RecRefMut RecRef
           → m ≡ sealed f k (a .start) (p .end) s (p .to) m₂ → Is refer (Read p) m
       unfolding then
       reference-read p e g i z y m k c₁ d =
           let v = reads-had f text (Fits text c) (item (held text c)) (c .end) q m₁ m₂ t w p e (next .fits) in
           let goes = reads-goes f text (Fits text c) (item (held text c)) (c .end) q m₁ m₂ t w p e in
-          let marks = mark f (cond b (bytes "&mut ") (bytes "& ")) in
+          let marks = markIn f (cond b (bytes "&mut ") (bytes "& ")) in
           let what = node (cond b RecRefMut RecRef) (a .start) (p .end) (more (v .what) none) in
           let body = placed-both l m₁ m₂ marks (laid f (v .what)) i q (p .to) g y (v .bytes) in
           let all = placed-headed f k (a .start) (p .end) l m₂ m (marks ++ laid f (v .what)) s (p .to) g (subst (λ (x : Spot). Placed l x (marks ++ laid f (v .what)) (p .to) m₂) z body) d in
@@ -203,8 +203,8 @@ module _ (f : ℕ) (text : List ℕ) (item : Reader) (a : Answer) (s : Spot) (l 
           (refuses-ok (item (held text (n .next))) r (λ y u. spanned RecFunction (held text a) u (behind (had-all fit .what) y))
           (reads-not f text (Fits text (n .next)) (item (held text (n .next))) (n .next .end) d m₄ m₅ x v r z (next-one .fits))))
 
-      pub function-read : (y : Part) → x ≡ Read y → length l ≤ last → (i c : Spot) (m₃ : List ℕ) → i ≡ inside f s → Placed l i (mark f (bytes "|")) p m₁
-          → Placed m₂ (n .to) (mark f (cond (eqb (n .count) 0) (bytes " |") (bytes "|"))) c m₃ → Placed m₃ c (mark f (bytes " ")) d m₄ → (m : List ℕ) → m ≡ sealed f RecFunction (a .start) (y .end) s (y .to) m₅
+      pub function-read : (y : Part) → x ≡ Read y → length l ≤ last → (i c : Spot) (m₃ : List ℕ) → i ≡ inside f s → Placed l i (markIn f (bytes "|")) p m₁
+          → Placed m₂ (n .to) (markIn f (cond (eqb (n .count) 0) (bytes " |") (bytes "|"))) c m₃ → Placed m₃ c (markIn f (bytes " ")) d m₄ → (m : List ℕ) → m ≡ sealed f RecFunction (a .start) (y .end) s (y .to) m₅
           → Is (function item (held text a)) (Read y) m
       unfolding then
       function-read y z h i c m₃ g bar close blank m seal =
@@ -213,18 +213,18 @@ module _ (f : ℕ) (text : List ℕ) (item : Reader) (a : Answer) (s : Spot) (l 
           reads-built f text (Fits text a) (function item (held text a)) (a .end) s l m y
           (λ fit.
           let all = had-all fit in
-          let end = mark f (cond (eqb (n .count) 0) (bytes " |") (bytes "|")) in
+          let end = markIn f (cond (eqb (n .count) 0) (bytes " |") (bytes "|")) in
           let what = node RecFunction (a .start) (y .end) (behind (all .what) (had .what)) in
-          let i₁ = placed-long l m₁ (mark f (bytes "|")) i p bar in
-          let items = placed-both m₁ m₂ m₃ (listed f (all .what)) end p (n .to) c (omega (arith, h, i₁)) (all .bytes) close in
-          let named : mark f (bytes "|") ++ (listed f (all .what) ++ end) ≡ inBars f (all .what) = ap (λ (k : ℕ). mark f (bytes "|") ++ (listed f (all .what) ++ mark f (cond (eqb k 0) (bytes " |") (bytes "|")))) (all .counts) ∙ sym (bars-laid f (all .what)) in
-          let bars = placed-as l m₃ _ (inBars f (all .what)) i c named (placed-both l m₁ m₃ (mark f (bytes "|")) (listed f (all .what) ++ end) i p c h bar items) in
+          let i₁ = placed-long l m₁ (markIn f (bytes "|")) i p bar in
+          let items = placed-both m₁ m₂ m₃ (laidItems f (all .what)) end p (n .to) c (omega (arith, h, i₁)) (all .bytes) close in
+          let named : markIn f (bytes "|") ++ (laidItems f (all .what) ++ end) ≡ inBars f (all .what) = ap (λ (k : ℕ). markIn f (bytes "|") ++ (laidItems f (all .what) ++ markIn f (cond (eqb k 0) (bytes " |") (bytes "|")))) (all .counts) ∙ sym (bars-laid f (all .what)) in
+          let bars = placed-as l m₃ _ (inBars f (all .what)) i c named (placed-both l m₁ m₃ (markIn f (bytes "|")) (laidItems f (all .what) ++ end) i p c h bar items) in
           record {
             what = what;
             is = function-is fit ∙ ap (λ (q : Ans Tree). then q (result (all .what))) (had .is);
             bytes =
                 placed-as l m _ (laid f what) s (y .to) (sym (laid-function f (a .start) (y .end) (all .what) (had .what)))
-                (placed-parted f RecFunction (a .start) (y .end) l m₃ m₄ m₅ m (inBars f (all .what)) (mark f (bytes " ")) (laid f (had .what)) s i c d (y .to) h g bars blank (had .bytes) seal);
+                (placed-parted f RecFunction (a .start) (y .end) l m₃ m₄ m₅ m (inBars f (all .what)) (markIn f (bytes " ")) (laid f (had .what)) s i c d (y .to) h g bars blank (had .bytes) seal);
           })
           (omega (arith, goes .0, next-one .from, next-one .fits .1, on .0)) (on .1)
 
@@ -279,7 +279,7 @@ module _ (f : ℕ) (text : List ℕ) (item : Reader) (a : Answer) (s : Spot) (l 
             (λ fit. subst (λ (y : Ans Tree). Refuses y r) (sym (argued-is fit))
             (refuses-ok argued r (λ xs u. spanned RecType (held text a) u (more (name fit .what) xs)) (all-not f text (Fits text (p .next)) argued (p .next .end) j m₁ m₂ x v r z (after-name .fits))))
 
-        pub named-read : (n : Items) → x ≡ All n → length l ≤ last → i ≡ inside f s → j ≡ moved (p .to) (length (mark f (bytes "<"))) → (to : Spot) (m₃ m : List ℕ) → Angled f (eqb (n .count) 0) m₂ (p .to) (n .to) to m₃
+        pub named-read : (n : Items) → x ≡ All n → length l ≤ last → i ≡ inside f s → j ≡ movedBy (p .to) (length (markIn f (bytes "<"))) → (to : Spot) (m₃ m : List ℕ) → Angled f (eqb (n .count) 0) m₂ (p .to) (n .to) to m₃
             → m ≡ sealed f RecType (a .start) (n .end) s to m₃ → Is (named item (held text a)) (Read (record { to = to; end = n .end; next = n .next })) m
         unfolding then
         named-read n z h g q to m₃ m y d =

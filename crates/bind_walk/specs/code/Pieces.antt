@@ -16,8 +16,8 @@ use Rattle.records.specs.Tree.{Tree, node, Trees, none, more}
 use Rattle.sources.specs.Source.{opened}
 use Rattle.answers.specs.Reading.{Ans, ok, Reader}
 use Rattle.grammar.specs.Binds.{readField, readBind}
-use Rattle.forms.specs.Forms.{mark, laid, listed}
-use Rattle.forms.specs.code.Spots.{moved, sealed, Placed}
+use Rattle.forms.specs.Forms.{markIn, laid, laidItems}
+use Rattle.forms.specs.code.Spots.{movedBy, sealed, Placed}
 use Rattle.forms.specs.declared.Spot.{Spot}
 use Rattle.parts.specs.declared.Part.{Part}
 use Rattle.parts.specs.declared.Parsed.{Parsed}
@@ -38,8 +38,8 @@ unfoldable pub startBy : Lexed → Start
 startBy (Found n) = cond (structKind (n .kind)) Struct (Variable n)
 startBy (Bad r) = Faulty r
 
-abbrev pub startOf : ℕ → Lexed → Start
-startOf k l = cond (eqb k Identifier) (startBy l) Struct
+abbrev pub openingOf : ℕ → Lexed → Start
+openingOf k l = cond (eqb k Identifier) (startBy l) Struct
 
 -- the reader of a field where n levels are left
 abbrev pub fieldAt : ℕ → Reader
@@ -51,17 +51,17 @@ shortAt text a = node RecField (a .start) (a .end) (more (leafAt RecName text a)
 
 -- the name of a field, and what stands behind it
 abbrev pub fieldName : ℕ → List ℕ → Token → List ℕ
-fieldName f text a = laid f (leafAt RecName text a) ++ mark f (bytes ": ")
+fieldName f text a = laid f (leafAt RecName text a) ++ markIn f (bytes ": ")
 
 -- what stands between two marks, of which the second is one byte; the types and the fields of a struct
 abbrev pub enclosed : ℕ → List ℕ → ℕ → List ℕ → List ℕ
-enclosed f xs b body = mark f xs ++ (body ++ mark f (b ∷ []))
+enclosed f xs b body = markIn f xs ++ (body ++ markIn f (b ∷ []))
 
 abbrev pub angled : ℕ → Trees → List ℕ
-angled f ts = enclosed f (bytes "<") 62 (listed f ts)
+angled f ts = enclosed f (bytes "<") 62 (laidItems f ts)
 
 abbrev pub braced : ℕ → Trees → List ℕ
-braced f fs = enclosed f (bytes " {") 125 (listed f fs)
+braced f fs = enclosed f (bytes " {") 125 (laidItems f fs)
 
 -- a list, as a part of a record
 unfoldable pub partOf : Listed → Parsed
@@ -70,11 +70,11 @@ partOf (Broken r) = Refused r
 
 -- a part with a mark of one byte behind it: the answer, and the buffer
 unfoldable pub endedBy : ℕ → ℕ → Parsed → Parsed
-endedBy f b (Read p) = Read (record { to = moved (p .to) (length (mark f (b ∷ []))); end = p .end; next = p .next })
+endedBy f b (Read p) = Read (record { to = movedBy (p .to) (length (markIn f (b ∷ []))); end = p .end; next = p .next })
 endedBy f b (Refused r) = Refused r
 
 unfoldable pub markedBy : ℕ → ℕ → Parsed → List ℕ → List ℕ
-markedBy f b (Read p) l = sets l (p .to .pos) (mark f (b ∷ []))
+markedBy f b (Read p) l = sets l (p .to .pos) (markIn f (b ∷ []))
 markedBy f b (Refused r) l = l
 
 -- the buffer with the head of a record of kind k that starts at s and whose last part is p

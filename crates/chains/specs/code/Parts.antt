@@ -10,7 +10,7 @@ use Rattle.tokens.specs.Answers.{place}
 use Rattle.tokens.specs.declared.Token.{Token}
 use Rattle.records.specs.Kinds.{RecName, RecAddress, RecThreePart, RecPair, RecAddressValue}
 use Rattle.records.specs.Tree.{Tree, leaf, node, none, more}
-use Rattle.forms.specs.Forms.{mark, laid, headed}
+use Rattle.forms.specs.Forms.{markIn, laid, headed}
 use Rattle.forms.specs.code.Spots.{wordOf}
 use Rattle.parts.specs.declared.Parsed.{Parsed}
 use Rattle.parts.specs.declared.Parsed.the-variants.{Refused}
@@ -32,7 +32,7 @@ addressAt text a b = node RecAddressValue (a .start) (b .end) (more (firstAt tex
 
 -- two parts as a record of kind k
 abbrev pub pairBytes : ℕ → ℕ → List ℕ → Token → Token → List ℕ
-pairBytes f k text a b = headed f k (a .start) (b .end) (laid f (firstAt text a) ++ (mark f (bytes "::") ++ laid f (leafAt RecName text b)))
+pairBytes f k text a b = headed f k (a .start) (b .end) (laid f (firstAt text a) ++ (markIn f (bytes "::") ++ laid f (leafAt RecName text b)))
 
 -- `::` was due at n, behind the number a
 abbrev pub dueAt : Token → Token → Parsed

@@ -1,15 +1,15 @@
 use borrow.Author.Tests.{eq-eqb, ne-eqb}
-use Rattle.forms.specs.Forms.{mark}
+use Rattle.forms.specs.Forms.{markIn}
 use borrow.Author.Needs.{needs}
 use Rattle.forms.proofs.put_angle.Statement.{statement}
 use Rattle.forms.proofs.put_angle.Tie as tie
 
 returns : tie.Need-returns
-unfolding mark
+unfolding markIn
 returns c = rw (eq-eqb _ _ (c .before .before .before .before .if1 .taken)) (c .before .before .put .ensures)
 
 returns-2 : tie.Need-returns-2
-unfolding mark
+unfolding markIn
 returns-2 c = rw (ne-eqb _ _ (c .if1 .left))
 
 pub put-angle-spec : {M : Type 1} → statement M

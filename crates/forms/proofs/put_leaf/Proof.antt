@@ -1,7 +1,7 @@
 use borrow.Author.Tests.{eq-eqb, ne-eqb}
 use mathlib.Core.Path.{ap, sym, _∙_}
 use Rattle.forms.specs.Forms.{spelt}
-use Rattle.forms.specs.code.Spots.{moved}
+use Rattle.forms.specs.code.Spots.{movedBy}
 use Rattle.forms.proofs.Placing.{head-long}
 use borrow.Author.Needs.{needs}
 use Rattle.forms.proofs.put_leaf.Statement.{statement}
@@ -13,7 +13,7 @@ returns c = rw (eq-eqb _ _ (c .before .before .before .before .if1 .taken)) (c .
 
 returns-2 : tie.Need-returns-2
 unfolding spelt
-returns-2 c = rw (ne-eqb _ _ (c .before .before .before .before .before .before .if1 .left)) (record { ends = c .move-by .ensures ∙ ap (moved (c .before .before .before .before .before .before .before .before .before .args .s)) (c .before .head-size .ensures ∙ sym (head-long _ 0 _ _ _)); holds = c .before .before .before .before .put-head .ensures })
+returns-2 c = rw (ne-eqb _ _ (c .before .before .before .before .before .before .if1 .left)) (record { ends = c .move-by .ensures ∙ ap (movedBy (c .before .before .before .before .before .before .before .before .before .args .s)) (c .before .head-size .ensures ∙ sym (head-long _ 0 _ _ _)); holds = c .before .before .before .before .put-head .ensures })
 
 pub put-leaf-spec : {M : Type 1} → statement M
 put-leaf-spec =

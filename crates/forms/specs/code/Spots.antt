@@ -21,8 +21,8 @@ abbrev pub wide : ℕ
 wide = 4294967296
 
 -- the place n bytes behind another
-abbrev pub moved : Spot → ℕ → Spot
-moved s n = record { pos = cap (s .pos + n); low = (s .low + n) % wide }
+abbrev pub movedBy : Spot → ℕ → Spot
+movedBy s n = record { pos = cap (s .pos + n); low = (s .low + n) % wide }
 
 -- the bytes between two places, counted in four bytes
 abbrev pub sizeBetween : Spot → Spot → ℕ
@@ -30,12 +30,12 @@ sizeBetween a b = (b .low % wide + wide - a .low % wide) % wide
 
 -- from the place s on the buffer holds `bytes`, as far as it reaches, and is otherwise as it was; they end at the place r
 pub record Placed (entry : List ℕ) (s : Spot) (bytes : List ℕ) (r : Spot) (exit : List ℕ) : Type 0 where
-  pub ends : r ≡ moved s (length bytes)
+  pub ends : r ≡ movedBy s (length bytes)
   pub holds : exit ≡ sets entry (s .pos) bytes
 
 -- the place behind the head of a record that starts at s
 abbrev pub inside : ℕ → Spot → Spot
-inside f s = moved s (headSize f)
+inside f s = movedBy s (headSize f)
 
 -- the buffer with the head of a record that starts at s, whose children end at b
 abbrev pub sealed : ℕ → ℕ → ℕ → ℕ → Spot → Spot → List ℕ → List ℕ

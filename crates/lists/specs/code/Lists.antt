@@ -15,7 +15,7 @@ use Rattle.tokens.specs.declared.Lexed.the-variants.{Found, Refused as Bad}
 use Rattle.records.specs.Tree.{Trees, none, more}
 use Rattle.sources.specs.Source.{opened}
 use Rattle.answers.specs.Reading.{Ans, ok}
-use Rattle.forms.specs.Forms.{listed}
+use Rattle.forms.specs.Forms.{laidItems}
 use Rattle.forms.specs.code.Spots.{Placed}
 use Rattle.forms.specs.declared.Spot.{Spot}
 use Rattle.parts.specs.code.Meets.{Refuses}
@@ -75,7 +75,7 @@ pub record HadAll (form : ℕ) (text : List ℕ) (x : Ans Trees) (s : Spot) (l :
   pub what : Trees
   pub is : x ≡ ok what (opened text (p .end))
   pub counts : p .count ≡ countOf what
-  pub bytes : Placed l s (listed form what) (p .to) m
+  pub bytes : Placed l s (laidItems form what) (p .to) m
 
 unfoldable pub MeetsAll : ℕ → List ℕ → Ans Trees → Spot → List ℕ → Listed → List ℕ → Type 0
 MeetsAll form text x s l (All p) m = HadAll form text x s l p m

@@ -8,8 +8,8 @@ use lib.ListN.{length}
 use lib.Seq.{sets}
 use Rattle.classes.specs.Bytes.{bytes}
 use Rattle.records.specs.Kinds.{RecUnit, RecTuple, RecBrackets}
-use Rattle.forms.specs.Forms.{mark}
-use Rattle.forms.specs.code.Spots.{moved}
+use Rattle.forms.specs.Forms.{markIn}
+use Rattle.forms.specs.code.Spots.{movedBy}
 use Rattle.forms.specs.declared.Spot.{Spot}
 
 -- the kind of brackets round so many items
@@ -18,5 +18,5 @@ bracketsKind n = cond (eqb n 0) RecUnit (cond (eqb n 1) RecBrackets RecTuple)
 
 -- a `<` at s and a `>` at b, unless there is nothing between them
 pub record Angled (form : ℕ) (empty : Bool) (entry : List ℕ) (s b r : Spot) (exit : List ℕ) : Type 0 where
-  pub ends : r ≡ cond empty (moved s 0) (moved b (length (mark form (bytes ">"))))
-  pub holds : exit ≡ cond empty entry (sets (sets entry (b .pos) (mark form (bytes ">"))) (s .pos) (mark form (bytes "<")))
+  pub ends : r ≡ cond empty (movedBy s 0) (movedBy b (length (markIn form (bytes ">"))))
+  pub holds : exit ≡ cond empty entry (sets (sets entry (b .pos) (markIn form (bytes ">"))) (s .pos) (markIn form (bytes "<")))
