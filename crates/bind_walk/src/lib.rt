@@ -14,6 +14,7 @@ use forms::Spot;
 use lists::Listed;
 use lists::Step;
 use lists::Turn;
+use parts::LEVELS;
 use parts::Parsed;
 use parts::Part;
 use parts::Way;
@@ -43,9 +44,6 @@ pub enum Start {
     Struct,
     Refused(Refusal),
 }
-
-// The most levels.
-const LEVELS: usize = 64;
 
 // Whether a binding that begins with an identifier is a struct, by the kind of the token behind it.
 fn is_struct(kind: u8) -> bool

@@ -11,6 +11,7 @@ ghost use Rattle.calls.specs.code.Given.{refusedWith, atStart, Writes, L
 use forms::FORM_LINE;
 use forms::FORM_STORED;
 use forms::Spot;
+use parts::LEVELS;
 use parts::Parsed;
 use parts::Way;
 use tokens::Lexed;
@@ -32,9 +33,6 @@ pub const TYPE: u64 = 3;
 pub const BIND_LIST: u64 = 4;
 
 pub const LAMBDA_BIND_LIST: u64 = 5;
-
-// The most levels.
-const LEVELS: usize = 64;
 
 // The longest tree and the longest line.
 const TREE_LIMIT: usize = 65535;

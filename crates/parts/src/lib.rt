@@ -10,6 +10,9 @@ use tokens::Refusal;
 use tokens::Token;
 use tokens::refusals::UNEXPECTED_TOKEN;
 
+// The most levels.
+pub const LEVELS: usize = 64;
+
 // What every function of the walk hands on: the form, and the levels that are left.
 pub struct Way {
     pub form: u8,
