@@ -2,7 +2,7 @@
 ghost use mathlib.Core.Path.{_≡_};
 ghost use mathlib.Core.Bool.{false};
 ghost use mathlib.Core.List.{[], _∷_};
-ghost use Prim.Native.Nat.{_+_, _-_, _≤_, _<_, min};
+ghost use Prim.Native.Nat.{_+_, _-_, _*_, _%_, _^_, _≤_, _<_, min};
 ghost use lib.ListN.{length, getD, take, drop};
 ghost use lib.Seq.{slice};
 ghost use Rattle.classes.specs.Bytes.{begins};
@@ -225,6 +225,27 @@ fn packed_row(row: [u8; 9]) -> u64
     packed(&row, 0, 9)
 }
 
+// Of eight bytes packed in v, the first n: the others are shifted out at the top.
+fn first_bytes(v: u64, n: usize) -> u64
+    requires { ⌜ (0 < n) × (n ≤ 8) ⌝ }
+    ensures { λ r. ⌜ r ≡ v % 256 ^ n ⌝ }
+{
+    let others = 64 - n * 8;
+    v << others >> others
+}
+
+// What `packed` gives, of a name of two bytes or more. Where the text has nine bytes from `at` on, all of
+// them are packed, with no test of each (the compiler makes one load of it), and then those of the name kept.
+fn packed_name(text: &[u8], at: usize, n: usize) -> u64
+    requires { ⌜ (at + n ≤ length (now text)) × (1 < n) × (n ≤ 9) ⌝ }
+    ensures { λ r. ⌜ r ≡ number (drop 1 (take n (drop at (now (text .entry))))) ⌝ }
+{
+    if 9 <= text.len() - at {
+        return first_bytes(packed(text, at, 9), n - 1);
+    }
+    packed(text, at, n)
+}
+
 // How many bytes of a row of keywords stand before its first zero.
 fn row_len(row: [u8; 9]) -> usize
     ensures { λ r. ⌜ r ≡ rowLen row ⌝ }
@@ -314,7 +335,7 @@ pub fn name_kind(text: &[u8], at: usize, n: usize) -> u8
     if 9 < m {
         return IDENTIFIER;
     }
-    keyword_kind(text[at], packed(text, at, m), m)
+    keyword_kind(text[at], packed_name(text, at, m), m)
 }
 
 fn no_mark() -> Fit
@@ -370,15 +391,23 @@ fn row_fit(text: &[u8], at: usize, row: [u8; 7]) -> Fit
     no_mark()
 }
 
-// The first of the rows of three bytes and more that fits at `at`, where the byte a stands.
-fn long_mark(text: &[u8], at: usize, a: u8) -> Fit
-    requires { ⌜ a ≡ getD (now text) at 0 ⌝ }
+// Two bytes as one number, so that two are compared with two by one test.
+fn two_bytes(a: u8, b: u8) -> u32
+    ensures { λ r. ⌜ r ≡ a * 256 + b ⌝ }
+{
+    a as u32 * 256 + b as u32
+}
+
+// The first of the rows of three bytes and more that fits at `at`, where the bytes a and b stand. Only a
+// row that begins with both is compared whole, so that most marks take none of these branches.
+fn long_mark(text: &[u8], at: usize, a: u8, b: u8) -> Fit
+    requires { ⌜ (a ≡ getD (now text) at 0) × (b ≡ getD (now text) (at + 1) 0) ⌝ }
     ensures { λ r. ⌜ r ≡ firstFit longMarks (drop at (now (text .entry))) ⌝ }
 {
     let rows = MARKS;
     let mut k: usize = 0;
     while k < 3 {
-        if rows[k][0] == a {
+        if two_bytes(rows[k][0], rows[k][1]) == two_bytes(a, b) {
             let fit = row_fit(text, at, rows[k]);
             if fit.len != 0 {
                 return fit;
@@ -432,11 +461,12 @@ pub fn mark_at(text: &[u8], at: usize) -> Fit
         return no_mark();
     }
     let a = text[at];
-    let long = long_mark(text, at, a);
+    let b = byte_at(text, at + 1);
+    let long = long_mark(text, at, a, b);
     if long.len != 0 {
         return long;
     }
-    let double = double_mark(a, byte_at(text, at + 1));
+    let double = double_mark(a, b);
     if double.len != 0 {
         return double;
     }

@@ -18,7 +18,7 @@ returns-3 c =
     let start = clipped .before .before in
     c .keyword-kind .ensures
     ∙ name-found (start .args .text .now) (start .args .at) (start .args .n) _ (clipped .clip .ensures) (c .before .before .before .before .if1 .left)
-    (λ i. clipped .before .shared-slice-known .given i .fits) _ (c .before .packed .ensures)
+    (λ i. clipped .before .shared-slice-known .given i .fits) _ (c .before .packed-name .ensures)
 
 pub name-kind-spec : {M : Type 1} → statement M
 name-kind-spec =
