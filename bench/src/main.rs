@@ -1,6 +1,7 @@
 //! Measures the port against the Rust: a walk over the tokens of a text, reads and
 //! displays, in one process, on the same texts.
 
+mod counts;
 mod displays;
 mod items;
 mod reads;
@@ -8,35 +9,37 @@ mod runs;
 #[path = "../../oracle/src/station.rs"]
 mod station;
 mod texts;
+mod walks;
 
-use oracle::{
-    answer::{Answer, Call},
-    files::THE_FILE,
-    parser::lexer::{Lexer, Tok},
-    random::Random,
-    reading::{Outcome, Reading},
-    SOURCES,
-};
+use oracle::SOURCES;
 use std::{
     env,
     hint::black_box,
     process::exit,
     time::{Duration, Instant},
 };
+use walks::Walk;
 
 const HELP: &str = "\
-Measures a walk over all tokens of a text, by the Rust lexer and by the port.
+Measures a walk over all tokens of a text, by the Rust lexer, by the port and by a
+small lexer in C.
 
-usage: bench [--check] [--displays-only] [--help]
+usage: bench [--check] [--displays-only | --counts-only] [--record] [--walk ROW] [--help]
 
   --check          exit status 1 where the port is slower than the Rust on some text,
                    or its time a byte grows by more than a fifth from 1 KB to 60 KB; by
                    the fastest runs, since other work on the machine can only add time
   --displays-only  no tokens and reads
+  --counts-only    no times: the instructions a token
+  --record         the counts become those that later ones are held to (bench/COUNTS)
+  --walk ROW       walks once over the text of a row, by the port and by the lexer in C
   --help           these words
 
 Prints a table in nanoseconds a byte: the median of the runs and, in brackets, the
 fastest. The 1 KB are sixty different texts, so that both read as many bytes.
+
+Where valgrind is there, the instructions a token are counted too: --check fails where
+a count is over the recorded one by more than 3 %.
 
 Reads of items are measured too: see bench/README.md. --check fails where the port
 is slower than the Rust on types, bindings or nests, where its time a byte grows by
@@ -44,9 +47,6 @@ more than a fifth from 2 KB to 60 KB of flat list, or where 60 brackets round su
 list cost more than 60 times as much as none. Displays of the same items are measured
 against reads: --check fails where one takes more than 1.1 times as long.
 ";
-
-const LONG: usize = 60_000;
-const SHORT: usize = 1_000;
 
 /// Each time is taken this often, over walks that last this long.
 const RUNS: usize = 15;
@@ -57,32 +57,47 @@ const GROWTH: f64 = 0.2;
 
 fn main() {
     let options = options();
+    if let Some(row) = &options.walk {
+        let text = &Walk::long(row).texts[0];
+        walks::by_the_port(text);
+        walks::by_the_anchor(text);
+        return;
+    }
     println!("Rust sources (sha256):\n\n```\n{SOURCES}```\n");
     let mut failed = false;
     if !options.displays_only {
-        failed |= walks();
-        failed |= reads::measure_all();
+        if !options.counts_only {
+            failed |= all_walks();
+        }
+        failed |= counts::measure_all(options.record);
     }
-    failed |= displays::measure_all();
+    if !options.counts_only {
+        if !options.displays_only {
+            failed |= reads::measure_all();
+        }
+        failed |= displays::measure_all();
+    }
     if options.check && failed {
-        eprintln!("bench: the port is too slow, or its time a byte grows too much");
+        eprintln!(
+            "bench: the port is too slow, its time a byte grows too much, or it takes more \
+             instructions than were recorded"
+        );
         exit(1);
     }
 }
 
 /// Walks over tokens; whether the port is too slow somewhere.
-fn walks() -> bool {
-    println!("| text | tokens | Rust 60 KB | port 60 KB | port/Rust | port 1 KB | growth |");
-    println!("|---|---:|---:|---:|---:|---:|---:|");
+fn all_walks() -> bool {
+    println!(
+        "| text | tokens | Rust 60 KB | port 60 KB | port/Rust | port 1 KB | growth | C 60 KB |"
+    );
+    println!("|---|---:|---:|---:|---:|---:|---:|---:|");
     let mut failed = false;
-    for (name, make) in texts::KINDS {
-        let long = vec![make(&mut Random::new(0), LONG)];
-        let short: Vec<String> = (1..=LONG / SHORT)
-            .map(|seed| make(&mut Random::new(seed as u64), SHORT))
-            .collect();
-        let tokens = same_tokens(&long);
-        same_tokens(&short);
-        let row = measure(&long, &short);
+    for (name, _) in texts::KINDS {
+        let (long, short) = (Walk::long(name), Walk::short(name));
+        let tokens = long.tokens();
+        short.tokens();
+        let row = measure(&long.texts, &short.texts);
         println!("| {name} | {tokens} | {} |", row.cells());
         failed |= row.fails();
     }
@@ -93,72 +108,38 @@ fn walks() -> bool {
 struct Options {
     check: bool,
     displays_only: bool,
+    counts_only: bool,
+    record: bool,
+    /// The row whose text is walked over once, if nothing else is done.
+    walk: Option<String>,
 }
 
 fn options() -> Options {
     let mut options = Options::default();
-    for word in env::args().skip(1) {
+    let mut words = env::args().skip(1);
+    while let Some(word) = words.next() {
         match word.as_str() {
             "--check" => options.check = true,
             "--displays-only" => options.displays_only = true,
+            "--counts-only" => options.counts_only = true,
+            "--record" => options.record = true,
+            "--walk" => match words.next() {
+                Some(row) => options.walk = Some(row),
+                None => bad_usage(),
+            },
             "--help" => {
                 print!("{HELP}");
                 exit(0)
             }
-            _ => {
-                eprintln!("bench: bad usage\n\n{HELP}");
-                exit(2)
-            }
+            _ => bad_usage(),
         }
     }
     options
 }
 
-/// How many tokens the texts have. Stops where the port and the Rust do not agree.
-fn same_tokens(texts: &[String]) -> usize {
-    texts.iter().map(|text| same_tokens_of(text)).sum()
-}
-
-fn same_tokens_of(text: &str) -> usize {
-    let mut reading = Reading::new(text, 0);
-    let mut at = 0;
-    let mut tokens = 0;
-    loop {
-        let Outcome::Token { kind, start, end } = reading.advance() else {
-            panic!("the Rust refuses a text that is to be measured, behind {at}");
-        };
-        let found = station::ask(Call::Token, text.as_bytes(), at);
-        assert_eq!(found, Answer::token(kind, start, end), "the token at {at}");
-        if kind == Tok::EOF as u64 {
-            return tokens;
-        }
-        tokens += 1;
-        at = end;
-    }
-}
-
-fn walk_of_the_rust(text: &str) {
-    let mut lexer = Lexer::new(text, THE_FILE);
-    loop {
-        lexer.advance().expect("the text was walked before");
-        if black_box(lexer.peek()) == Tok::EOF {
-            return;
-        }
-    }
-}
-
-fn walk_of_the_port(text: &str) {
-    let mut answer = [0; 6];
-    loop {
-        let [_, _, at, ..] = answer;
-        let result = unsafe {
-            station::movesig_next_token(text.as_ptr(), text.len(), at as usize, answer.as_mut_ptr())
-        };
-        assert_eq!(result, 0, "the text was walked before");
-        if black_box(answer[0]) == Tok::EOF as u64 {
-            return;
-        }
-    }
+fn bad_usage() -> ! {
+    eprintln!("bench: bad usage\n\n{HELP}");
+    exit(2)
 }
 
 /// Nanoseconds a byte, of several runs.
@@ -172,21 +153,24 @@ struct Row {
     rust: Time,
     port: Time,
     port_short: Time,
+    anchor: Time,
 }
 
 /// The runs take turns, so that other work on the machine falls on all alike.
 fn measure(long: &[String], short: &[String]) -> Row {
-    let mut times = [vec![], vec![], vec![]];
+    let mut times = [vec![], vec![], vec![], vec![]];
     for _ in 0..RUNS {
-        times[0].push(run(long, walk_of_the_rust));
-        times[1].push(run(long, walk_of_the_port));
-        times[2].push(run(short, walk_of_the_port));
+        times[0].push(run(long, walks::by_the_rust));
+        times[1].push(run(long, walks::by_the_port));
+        times[2].push(run(short, walks::by_the_port));
+        times[3].push(run(long, walks::by_the_anchor));
     }
-    let [rust, port, port_short] = times.map(time_of);
+    let [rust, port, port_short, anchor] = times.map(time_of);
     Row {
         rust,
         port,
         port_short,
+        anchor,
     }
 }
 
@@ -229,12 +213,13 @@ impl Row {
 
     fn cells(&self) -> String {
         format!(
-            "{} | {} | {:.2} | {} | {:+.0} %",
+            "{} | {} | {:.2} | {} | {:+.0} % | {}",
             self.rust.cell(),
             self.port.cell(),
             self.port.fastest / self.rust.fastest,
             self.port_short.cell(),
-            100.0 * self.growth()
+            100.0 * self.growth(),
+            self.anchor.cell()
         )
     }
 }

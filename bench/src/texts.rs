@@ -1,16 +1,22 @@
 //! The texts that are measured. The same seed gives the same text.
 
-use oracle::{random::Random, texts::MARKS};
+use oracle::{
+    random::Random,
+    texts::{KEYWORDS, MARKS},
+};
 
 /// A kind of text: its name in the table, and how to make one of about a length.
 pub type Kind = (&'static str, fn(&mut Random, usize) -> String);
 
-pub const KINDS: [Kind; 5] = [
+pub const KINDS: [Kind; 8] = [
     ("Move source", move_source),
     ("comments", comments),
     ("punctuation", punctuation),
     ("one long name", long_name),
     ("deep nested comments", nested_comments),
+    ("short names", short_names),
+    ("hex numbers", hex_numbers),
+    ("keywords", keywords),
 ];
 
 /// Declarations as people write them. `$m`, `$s`, `$f`, `$v` and `$n` stand for a
@@ -199,4 +205,42 @@ fn nested_comments(random: &mut Random, length: usize) -> String {
     let depth = length / (opener.len() + closer.len()) - 1;
     let number = random.below(1000);
     opener.repeat(depth) + &closer.repeat(depth) + &number.to_string()
+}
+
+/// Names of 1 to 12 bytes that mix letters, digits and `_`.
+fn short_names(random: &mut Random, length: usize) -> String {
+    words(random, length, |random| {
+        let mut name = String::from(random.pick(&["a", "B", "c", "Z", "_"]));
+        for _ in 0..random.below(12) {
+            name += random.pick(&["a", "b", "k", "z", "E", "Q", "0", "7", "9", "_"]);
+        }
+        name
+    })
+}
+
+/// `0x` with 1 to 16 digits, some with a type.
+fn hex_numbers(random: &mut Random, length: usize) -> String {
+    words(random, length, |random| {
+        let mut number = String::from("0x");
+        for _ in 0..=random.below(16) {
+            number += random.pick(&["0", "1", "5", "9", "a", "c", "f", "A", "D", "F"]);
+        }
+        number + random.pick(&["", "", "", "u8", "u64"])
+    })
+}
+
+fn keywords(random: &mut Random, length: usize) -> String {
+    words(random, length, |random| random.pick(&KEYWORDS).to_string())
+}
+
+/// Words with a space behind each, as long as they fit.
+fn words(random: &mut Random, length: usize, word: impl Fn(&mut Random) -> String) -> String {
+    let mut text = String::new();
+    loop {
+        let next = word(random) + " ";
+        if text.len() + next.len() > length {
+            return text;
+        }
+        text += &next;
+    }
 }

@@ -86,6 +86,19 @@ pub const STRINGS: [&str; 14] = [
     "b\"a\rb\"",
 ];
 
+/// What stands round a byte whose class is asked: nothing; name bytes; `0x`; a digit; a
+/// string; a line comment; a block comment; and a doc comment.
+pub const ROUND_A_BYTE: [(&[u8], &[u8]); 8] = [
+    (b"", b""),
+    (b"a", b"b"),
+    (b"0x", b"1"),
+    (b"7", b"8"),
+    (b"b\"", b"\" c"),
+    (b"//", b"d\ne"),
+    (b"/*", b"*/f"),
+    (b"///", b"g\nh"),
+];
+
 pub const GAPS: [&str; 12] = [
     " ", " ", " ", " ", "\n", "\n", "\r\n", "\t", "  ", "\n\n", "\r\n\r\n", " \t\n",
 ];

@@ -1,3 +1,5 @@
 pub mod Bools
 pub mod Cut
 pub mod Runs
+pub mod Table
+pub mod Search

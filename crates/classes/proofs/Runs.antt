@@ -1,13 +1,13 @@
 -- A run ends at its first outsider: proved once, over the class.
-use mathlib.Core.Path.{_≡_, refl}
+use mathlib.Core.Path.{_≡_, refl, ap, sym, _∙_}
 use mathlib.Core.Bool.{Bool, true, false, cond}
 use mathlib.Core.List.{List, [], _∷_}
-use Prim.Native.Nat.{ℕ, zero, suc, _+_, _<_, _≤_}
+use Prim.Native.Nat.{ℕ, zero, suc, _+_, _-_, _<_, _≤_}
 use native.Mathlib.Omega.{arith}
 use native.Mathlib.Numerals.{add-one}
 use native.Mathlib.Nat.{add-zero, not-suc-le-zero}
-use lib.ListN.{length, getD, drop, drop-of-length-le, length-drop}
-use lib.Seq.{drop-cons}
+use lib.ListN.{length, getD, take, drop, drop-of-length-le, length-drop}
+use lib.Seq.{drop-cons, getD-take, length-take-le}
 use Rattle.classes.specs.Run.{runLen, runEnd}
 
 -- at a place of a text, in the code's own words
@@ -68,3 +68,50 @@ module _ (f : ℕ → Bool) (text : List ℕ) (at : ℕ) where
   pub run-to : at ≤ length text → runEnd f text at ≤ length text
   unfolding runEnd
   run-to h = omega (arith, simp length-drop at (run-short f (drop at text)))
+
+-- two tests that agree have the same runs
+module _ (f g : ℕ → Bool) (e : (b : ℕ) → f b ≡ g b) where
+  len-same : (s : List ℕ) → runLen f s ≡ runLen g s
+  unfolding runLen
+  len-same [] = refl
+  len-same (a ∷ s) = rw (e a, len-same s)
+
+  pub run-same : (text : List ℕ) (at : ℕ) → runEnd f text at ≡ runEnd g text at
+  unfolding runEnd
+  run-same text at = rw (len-same (drop at text))
+
+-- a run in the bytes before e, step by step; it is the run in the text, or reaches e
+module _ (f : ℕ → Bool) (text : List ℕ) (e : ℕ) (h : e ≤ length text) where
+  pub cut-past : (i : ℕ) → e ≤ i → runEnd f (take e text) i ≡ i
+  cut-past i g = run-past f (take e text) i (rw (length-take-le e text h) g)
+
+  pub cut-out : (i : ℕ) → i < e → f (getD text i 0) ≡ false → runEnd f (take e text) i ≡ i
+  cut-out i g t = run-out f (take e text) i (rw (length-take-le e text h) g) (ap f (getD-take e text i 0 g) ∙ t)
+
+  pub cut-in : (i : ℕ) → i < e → f (getD text i 0) ≡ true → runEnd f (take e text) i ≡ runEnd f (take e text) (i + 1)
+  cut-in i g t = run-in f (take e text) i (rw (length-take-le e text h) g) (ap f (getD-take e text i 0 g) ∙ t)
+
+  abbrev Cut : ℕ → Type 0
+  Cut i = (runEnd f (take e text) i < e → runEnd f text i ≡ runEnd f (take e text) i)
+      × (e ≤ runEnd f (take e text) i → runEnd f text i ≡ runEnd f text (runEnd f (take e text) i))
+
+  cut-step : (i : ℕ) (v : Bool) → i < e → f (getD text i 0) ≡ v → Cut (i + 1) → Cut i
+  cut-step i true g t r =
+      let p = cut-in i g t in
+      let q = run-in f text i (omega (arith, g, h)) t in
+      (λ s. q ∙ r .0 (rw (sym p) s) ∙ sym p, λ s. q ∙ r .1 (rw (sym p) s) ∙ ap (runEnd f text) (sym p))
+  cut-step i false g t r =
+      let p = cut-out i g t in
+      (λ s. run-out f text i (omega (arith, g, h)) t ∙ sym p, λ s. absurd (omega (arith, g, s, p)))
+
+  cut : (n i : ℕ) → i + n ≡ e → Cut i
+  cut zero i s =
+      let p = cut-past i (omega (arith, s)) in
+      (λ g. absurd (omega (arith, s, g, p)), λ g. ap (runEnd f text) (sym p))
+  cut (suc n) i s = cut-step i (f (getD text i 0)) (omega (arith, s)) refl (cut n (i + 1) (omega (arith, s)))
+
+  pub run-before : (i : ℕ) → i ≤ e → runEnd f (take e text) i < e → runEnd f text i ≡ runEnd f (take e text) i
+  run-before i g = cut (e - i) i (omega (arith, g)) .0
+
+  pub run-across : (i : ℕ) → i ≤ e → e ≤ runEnd f (take e text) i → runEnd f text i ≡ runEnd f text (runEnd f (take e text) i)
+  run-across i g = cut (e - i) i (omega (arith, g)) .1

@@ -31,6 +31,18 @@ isAscii x = ltb x 128
 unfoldable pub inLine : ℕ → Bool
 inLine x = not (eqb x 10)
 
+-- space, tab, LF
+unfoldable pub isSpace : ℕ → Bool
+isSpace x = eqb x 32 || eqb x 9 || eqb x 10
+
+-- what a comment or CR LF begins with: `/`, CR
+unfoldable pub beginsPart : ℕ → Bool
+beginsPart x = eqb x 47 || eqb x 13
+
+-- what the mark that opens or closes a block comment begins with: `/`, `*`
+unfoldable pub beginsMark : ℕ → Bool
+beginsMark x = eqb x 47 || eqb x 42
+
 -- the class of each number
 unfoldable pub inClass : ℕ → ℕ → Bool
 inClass k x =

@@ -2,10 +2,7 @@
 use Prim.Native.Nat.{ℕ}
 use mathlib.Core.Bool.{Bool, _||_, _&&_, not}
 use lib.Dec.{eqb}
-
--- space, tab, LF
-unfoldable pub isSpace : ℕ → Bool
-isSpace x = eqb x 32 || eqb x 9 || eqb x 10
+unfoldable pub use Rattle.classes.specs.Class.{isSpace}
 
 -- space, tab, LF, CR before LF
 unfoldable pub isBlank : ℕ → ℕ → Bool

@@ -54,38 +54,16 @@ pub enum FirstDoc {
     BrokenFirst(usize, usize),
 }
 
-fn is_space(a: u8) -> bool
-    ensures { λ r. ⌜ r ≡ isSpace a ⌝ }
-{
-    if a == b' ' {
-        return true;
-    }
-    if a == b'\t' {
-        return true;
-    }
-    a == b'\n'
-}
-
 fn is_blank(a: u8, b: u8) -> bool
     ensures { λ r. ⌜ r ≡ isBlank a b ⌝ }
 {
-    if is_space(a) {
+    if classes::is_space(a) {
         return true;
     }
     if a == b'\r' {
         return b == b'\n';
     }
     false
-}
-
-// Whether a can be the first byte of a comment or of CR LF.
-fn begins_part(a: u8) -> bool
-    ensures { λ r. ⌜ r ≡ (eqb a 47 || eqb a 13) ⌝ }
-{
-    if a == b'/' {
-        return true;
-    }
-    a == b'\r'
 }
 
 // Whether two bytes are these.
@@ -121,16 +99,6 @@ fn doc_line(a: u8, b: u8) -> bool
     false
 }
 
-// Whether a can be the first byte of a mark of a block comment.
-fn begins_mark(a: u8) -> bool
-    ensures { λ r. ⌜ r ≡ (eqb a 47 || eqb a 42) ⌝ }
-{
-    if a == b'/' {
-        return true;
-    }
-    a == b'*'
-}
-
 // a where n is d, else b.
 fn where_equal(n: usize, d: usize, a: usize, b: usize) -> usize
     ensures { λ r. ⌜ r ≡ cond (eqb n d) a b ⌝ }
@@ -150,7 +118,7 @@ fn close_of(text: &[u8], at: usize) -> Close
     let mut n: usize = 1;
     while i < text.len() {
         let a = text[i];
-        if begins_mark(a) {
+        if classes::begins_mark(a) {
             let b = classes::byte_at(text, i + 1);
             if pair(a, b, b'/', b'*') {
                 n += 1;
@@ -322,9 +290,9 @@ pub fn gap_end(text: &[u8], at: usize) -> GapEnd
     let mut i = at;
     while i < text.len() {
         let a = text[i];
-        if is_space(a) {
+        if classes::is_space(a) {
             i += 1;
-        } else if begins_part(a) {
+        } else if classes::begins_part(a) {
             let p = part_at(text, i);
             match p {
                 GapPart::Pass(e) => {

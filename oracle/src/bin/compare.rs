@@ -135,6 +135,13 @@ fn run_sets(comparison: &mut Comparison, options: &Options) {
     comparison.set("every text up to 2 bytes, all 256 bytes", |to| {
         every_text(&all_bytes, 2, |text| to.everywhere(text))
     });
+    comparison.set("each byte alone and at seven places", |to| {
+        for byte in all_bytes.iter().copied() {
+            for (before, behind) in texts::ROUND_A_BYTE {
+                to.everywhere(&[before, &[byte], behind].concat());
+            }
+        }
+    });
     let longest = sized(6, 5);
     let name = format!("every text up to {longest} bytes, gaps");
     comparison.set(&name, |to| {

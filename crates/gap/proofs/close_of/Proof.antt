@@ -1,6 +1,7 @@
 use mathlib.Core.Path.{_≡_, _∙_, sym, refl}
 use Prim.Native.Nat.{_-_, _+_, _≤_}
 use lib.ListN.{length}
+use Rattle.classes.specs.Class.{beginsMark}
 use Rattle.gap.specs.Marks.{opens, closes}
 use Rattle.gap.specs.code.Blocks.{depthAt}
 use Rattle.gap.proofs.Depth.{depth-end, opened, shut, closed, passed, passed-plain}
@@ -34,6 +35,7 @@ unfolding opens closes
 loop-again-3 c = (search needs, c .before .before .before .before .before .before .before .before .before .loop .inv .1 ∙ passed _ _ _ _ (search needs) (c .before .before .before .before .byte-at .ensures) (sym (c .before .before .before .pair .ensures) ∙ c .before .before .if2 .left) (sym (c .before .pair2 .ensures) ∙ c .if3 .left))
 
 loop-again-4 : tie.Need-loop-again-4 Inv-loop μ-loop
+unfolding beginsMark
 loop-again-4 c = (search needs, c .before .before .before .before .loop .inv .1 ∙ passed-plain _ _ _ _ (search needs) refl (sym (c .before .begins-mark .ensures) ∙ c .if1 .left))
 
 returns-2 : tie.Need-returns-2 Inv-loop μ-loop

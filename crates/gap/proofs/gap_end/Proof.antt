@@ -2,6 +2,7 @@ use mathlib.Core.Path.{_≡_, _∙_, sym, ap, refl}
 use Prim.Native.Nat.{_-_}
 use native.Mathlib.Omega.{arith}
 use lib.ListN.{length, drop}
+use Rattle.classes.specs.Class.{beginsPart}
 use Rattle.gap.specs.Gap.{Gap, gap, gapEndOf}
 use Rattle.gap.proofs.Gaps.{gap-over, gap-pass, gap-doc, gap-broken, gap-clear, gap-space, gap-plain}
 use borrow.Author.Needs.{needs}
@@ -41,7 +42,7 @@ unfolding gapEndOf
 returns-2 c = sym (c .before .before .before .before .before .before .before .before .before .loop .inv ∙ ap (λ (g : Gap). gapEndOf (g .last)) (gap-clear _ _ (search needs) (sym (c .before .before .part-at .ensures) ∙ c .enum-told .given .1)))
 
 returns-3 : tie.Need-returns-3 Inv-loop μ-loop
-unfolding gapEndOf
+unfolding gapEndOf beginsPart
 returns-3 c = sym (c .before .before .before .before .before .before .loop .inv ∙ ap (λ (g : Gap). gapEndOf (g .last)) (gap-plain _ _ (search needs) (sym (c .before .before .before .is-space .ensures) ∙ c .before .before .if1 .left) (sym (c .before .begins-part .ensures) ∙ c .if2 .left)))
 
 returns-4 : tie.Need-returns-4 Inv-loop μ-loop

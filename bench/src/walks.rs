@@ -1,0 +1,114 @@
+//! Walks over the tokens of the texts: by the Rust, by the port and by the lexer in C.
+
+use crate::{station, texts};
+use oracle::{
+    answer::{Answer, Call},
+    files::THE_FILE,
+    parser::lexer::{Lexer, Tok},
+    random::Random,
+    reading::{Outcome, Reading},
+};
+use std::hint::black_box;
+
+#[link(name = "lexer", kind = "static")]
+extern "C" {
+    fn anchor_next_token(text: *const u8, len: usize, at: usize, answer: *mut u64) -> u32;
+}
+
+type NextToken = unsafe extern "C" fn(*const u8, usize, usize, *mut u64) -> u32;
+
+const LONG: usize = 60_000;
+const SHORT: usize = 1_000;
+
+/// The texts of a row.
+pub struct Walk {
+    pub texts: Vec<String>,
+}
+
+impl Walk {
+    /// One text of 60 KB.
+    pub fn long(row: &str) -> Walk {
+        let texts = vec![maker(row)(&mut Random::new(0), LONG)];
+        Walk { texts }
+    }
+
+    /// As many bytes in texts of 1 KB.
+    pub fn short(row: &str) -> Walk {
+        let texts = (1..=LONG / SHORT)
+            .map(|seed| maker(row)(&mut Random::new(seed as u64), SHORT))
+            .collect();
+        Walk { texts }
+    }
+
+    /// How many tokens the texts have. Stops where the three do not agree.
+    pub fn tokens(&self) -> usize {
+        self.texts.iter().map(|text| same_tokens(text)).sum()
+    }
+}
+
+fn maker(row: &str) -> fn(&mut Random, usize) -> String {
+    let found = texts::KINDS.iter().find(|(name, _)| *name == row);
+    found.unwrap_or_else(|| panic!("no row '{row}'")).1
+}
+
+fn same_tokens(text: &str) -> usize {
+    let mut reading = Reading::new(text, 0);
+    let mut at = 0;
+    let mut tokens = 0;
+    loop {
+        let Outcome::Token { kind, start, end } = reading.advance() else {
+            panic!("the Rust refuses a text that is to be measured, behind {at}");
+        };
+        let due = Answer::token(kind, start, end);
+        let found = station::ask(Call::Token, text.as_bytes(), at);
+        assert_eq!(found, due, "the token at {at}");
+        assert_eq!(
+            anchor(text, at),
+            due,
+            "the token at {at}, by the lexer in C"
+        );
+        if kind == Tok::EOF as u64 {
+            return tokens;
+        }
+        tokens += 1;
+        at = end;
+    }
+}
+
+fn anchor(text: &str, at: usize) -> Answer {
+    let mut numbers = [0; 6];
+    let result = unsafe { anchor_next_token(text.as_ptr(), text.len(), at, numbers.as_mut_ptr()) };
+    Answer { result, numbers }
+}
+
+pub fn by_the_rust(text: &str) {
+    let mut lexer = Lexer::new(text, THE_FILE);
+    loop {
+        lexer.advance().expect("the text was walked before");
+        if black_box(lexer.peek()) == Tok::EOF {
+            return;
+        }
+    }
+}
+
+pub fn by_the_port(text: &str) {
+    walk(text, station::movesig_next_token);
+}
+
+pub fn by_the_anchor(text: &str) {
+    walk(text, anchor_next_token);
+}
+
+#[inline(always)]
+fn walk(text: &str, next_token: NextToken) {
+    let mut answer = [0; 6];
+    loop {
+        let [_, _, at, ..] = answer;
+        let result =
+            unsafe { next_token(text.as_ptr(), text.len(), at as usize, answer.as_mut_ptr()) };
+        assert_eq!(result, 0, "the text was walked before");
+        if black_box(answer[0]) == Tok::EOF as u64 {
+            return;
+        }
+    }
+}
