@@ -87,7 +87,7 @@ extern "C" {
 /* The version of this header, by semantic versioning: before 1.0 another MINOR may change answers or
  * calls, from then on only another MAJOR. CHANGELOG.md says what changed for a station. */
 #define MOVESIG_VERSION_MAJOR 0
-#define MOVESIG_VERSION_MINOR 2
+#define MOVESIG_VERSION_MINOR 3
 #define MOVESIG_VERSION (MOVESIG_VERSION_MAJOR * 65536 + MOVESIG_VERSION_MINOR)
 
 /* What a call returns. */
@@ -118,8 +118,9 @@ enum movesig_item {
     MOVESIG_LAMBDA_BIND_LIST = 5 /* |x, y| */
 };
 
-/* The next token from `at` on, behind blanks and comments. Accepted: { kind, start, end, 0, 0, 0 },
- * the kind as in enum movesig_token. At the end of the text it is MOVESIG_EOF at (len, len), each time.
+/* The next token from `at` on, behind blanks and comments. Accepted: { kind, start, end, line feed, 0,
+ * 0 }, the kind as in enum movesig_token; the line feed 1 where a line feed stands between `at` and the
+ * token, inside comments too, else 0. At the end of the text it is MOVESIG_EOF at (len, len), each time.
  * Every other token has at least one byte, so asking again from `end` comes to the end.
  * Refusals 1, 2 and 5 to 9. */
 uint32_t movesig_next_token(const uint8_t *text, size_t len, size_t at, uint64_t answer[6]);
@@ -132,7 +133,8 @@ uint32_t movesig_next_comment(const uint8_t *text, size_t len, size_t at, uint64
 
 /* Reads the item of the kind (enum movesig_item) from `at` on and writes its tree into the first bytes
  * of the `room` bytes at `out`. Accepted: { length of the tree, kind, start and end of the token that
- * follows the item, 0, 0 }, the token's kind as in enum movesig_token. Bytes of `out` past the tree stay
+ * follows the item, 0, 0 }, the token's kind as in enum movesig_token; whether a line feed stands before it
+ * is not told. Bytes of `out` past the tree stay
  * as they are. Refusals 1 to 14.
  *
  * The tree is one record with its children: two bytes each, the low one first, for the length of the

@@ -59,12 +59,14 @@ fn same_tokens(text: &str) -> usize {
         let Outcome::Token { kind, start, end } = reading.advance() else {
             panic!("the Rust refuses a text that is to be measured, behind {at}");
         };
-        let due = Answer::token(kind, start, end);
+        let line_feed = text.as_bytes()[at..start].contains(&b'\n');
+        let due = Answer::token(kind, start, end, line_feed);
         let found = station::ask(Call::Token, text.as_bytes(), at);
         assert_eq!(found, due, "the token at {at}");
+        // the lexer in C tells no line feeds
         assert_eq!(
             anchor(text, at),
-            due,
+            Answer::token(kind, start, end, false),
             "the token at {at}, by the lexer in C"
         );
         if kind == Tok::EOF as u64 {

@@ -23,10 +23,10 @@ pub struct Answer {
 }
 
 impl Answer {
-    pub fn token(kind: u64, start: usize, end: usize) -> Answer {
+    pub fn token(kind: u64, start: usize, end: usize, line_feed: bool) -> Answer {
         Answer {
             result: 0,
-            numbers: [kind, start as u64, end as u64, 0, 0, 0],
+            numbers: [kind, start as u64, end as u64, line_feed.into(), 0, 0],
         }
     }
 

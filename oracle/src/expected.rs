@@ -135,7 +135,9 @@ pub fn token_of(text: &Text, at: usize, outcome: Outcome) -> Expected {
                 let refusal = Answer::refused(9, high, high + 1);
                 return by_document_01(Cause::HighByteInString, refusal);
             }
-            from_the_rust(Answer::token(kind, start, end))
+            // The Rust keeps no such flag: it follows from the token's start and the text.
+            let line_feed = text.bytes[at..start].contains(&b'\n');
+            from_the_rust(Answer::token(kind, start, end, line_feed))
         }
         Outcome::Refused { number, start, end } => {
             if let Some(refusal) = whole_last_line(text, number, start, end) {
@@ -285,14 +287,16 @@ mod tests {
         let empty_block = Some(Cause::EmptyBlock);
         let high_byte = Some(Cause::HighByteInString);
         for (text, answer, cause) in [
-            (&b"/**/a"[..], Answer::token(4, 4, 5), empty_block),
+            (&b"/**/a"[..], Answer::token(4, 4, 5, false), empty_block),
             (b"//\n /**/ /**/$", Answer::refused(5, 13, 13), empty_block),
             (b"/**/b\"\xff\"", Answer::refused(9, 6, 7), empty_block),
             (b"b\"a\\\xc3\xa9\"", Answer::refused(9, 4, 5), high_byte),
             (b"x\"\x80\"", Answer::refused(9, 2, 3), high_byte),
             (b"x\"\x80", Answer::refused(7, 0, 3), None),
-            (b"x\"\"\x80\"", Answer::token(3, 0, 3), None),
-            (b"/* /**/ */a", Answer::token(4, 10, 11), None),
+            (b"x\"\"\x80\"", Answer::token(3, 0, 3, false), None),
+            (b"/* /**/ */a", Answer::token(4, 10, 11, false), None),
+            (b"/*\n*/a", Answer::token(4, 5, 6, true), None),
+            (b"//\n/**/a", Answer::token(4, 7, 8, true), empty_block),
         ] {
             assert_eq!(
                 token_at(text, 0),
@@ -334,6 +338,6 @@ mod tests {
         assert_eq!(token_at(&long, 0), too_long);
         assert_eq!(token_at(&long, LONGEST + 2), too_long);
         assert_eq!(token_at(b"a", 2), (refused(2), Some(Cause::StartPastEnd)));
-        assert_eq!(token_at(b"a", 1), (Answer::token(0, 1, 1), None));
+        assert_eq!(token_at(b"a", 1), (Answer::token(0, 1, 1, false), None));
     }
 }

@@ -89,8 +89,27 @@ impl Point {
     }
 }
 
+/// Whether a line feed stands before a token, the fourth number; a refusal tells of none.
+const LINE_FEEDS: &[(&str, u32, [u64; 4])] = &[
+    ("/*\n*/a", 0, [4, 5, 6, 1]),
+    ("/*/*\n*/*/ a", 0, [4, 10, 11, 1]),
+    ("//x\na", 0, [4, 4, 5, 1]),
+    ("///\n a", 0, [4, 5, 6, 1]),
+    ("\na", 0, [4, 1, 2, 1]),
+    ("\r\na", 0, [4, 2, 3, 1]),
+    ("\n", 0, [0, 1, 1, 1]),
+    ("/*\r*/a", 0, [4, 5, 6, 0]),
+    ("a\n", 0, [4, 0, 1, 0]),
+    ("\n$", 5, [1, 1, 1, 1]),
+    ("\n/*\n", 6, [1, 3, 1, 3]),
+    ("\n\r", 5, [1, 1, 1, 1]),
+];
+
 pub fn points() -> Vec<Point> {
     let mut all = proved();
+    for (text, result, numbers) in LINE_FEEDS {
+        all.push(token("", text, *result, *numbers));
+    }
     for (kind, text, result, numbers) in READS {
         all.push(read("", *kind, text, *result, *numbers));
     }

@@ -8,7 +8,7 @@ use native.Mathlib.Omega.{arith}
 use native.Mathlib.Nat.{add-zero, zero-add, add-suc, suc-add, le-of-suc-le-suc, not-suc-le-zero}
 use lib.Dec.{eqb, leb, ltb}
 use lib.ListN.{length, getD, List·getD-eq-default}
-use Rattle.classes.specs.Class.{inRange, isName, isDigit, isHex, isAscii, inLine, isLetter, isSpace, beginsPart, beginsMark, inClass}
+use Rattle.classes.specs.Class.{inRange, isName, isDigit, isHex, isAscii, inLine, isLetter, isSpace, beginsPart, markOrLineFeed, spaceOrTab, inClass}
 use Rattle.classes.specs.Table.{classTable, bit, entryOf, tells, properties, nth}
 use Rattle.classes.specs.code.Search.{known}
 use Rattle.classes.proofs.Bools.{and-left, and-right, and-false}
@@ -52,10 +52,10 @@ agrees : ℕ → ℕ → Bool
 agrees b x = all x b 0 properties
 
 all-agree : every agrees 0 classTable ≡ true
-unfolding agrees classTable bit properties isName isDigit isHex isAscii inLine isLetter isSpace beginsPart beginsMark inRange
+unfolding agrees classTable bit properties isName isDigit isHex isAscii inLine isLetter isSpace beginsPart markOrLineFeed spaceOrTab inRange
 all-agree = refl
 
-pub rule : (k b : ℕ) → k < 9 → b < 256 → tells k b ≡ nth properties k b
+pub rule : (k b : ℕ) → k < 10 → b < 256 → tells k b ≡ nth properties k b
 unfolding agrees classTable properties tells entryOf
 rule k b g h =
     ap (λ (m : ℕ). bit m (getD classTable b 16)) (sym (zero-add k))
@@ -72,7 +72,7 @@ module _ (x : ℕ) (h : 256 ≤ x) where
   other n g = ne-eqb x n (λ e. absurd (omega arith))
 
   past : all 16 x 0 properties ≡ true
-  unfolding bit properties isName isDigit isHex isAscii inLine isLetter isSpace beginsPart beginsMark
+  unfolding bit properties isName isDigit isHex isAscii inLine isLetter isSpace beginsPart markOrLineFeed spaceOrTab
   past =
       rw (
         over 97 122 (omega arith),
@@ -90,13 +90,13 @@ module _ (x : ℕ) (h : 256 ≤ x) where
         other 42 (omega arith),
       )
 
-  beyond : (k : ℕ) → k < 9 → tells k x ≡ nth properties k x
+  beyond : (k : ℕ) → k < 10 → tells k x ≡ nth properties k x
   unfolding tells entryOf classTable properties
   beyond k g =
       rw (List·getD-eq-default classTable 16 h)
       (ap (λ (m : ℕ). bit m 16) (sym (zero-add k)) ∙ all-at 16 x properties 0 k past g)
 
-pub told : (k b : ℕ) → k < 9 → tells k b ≡ nth properties k b
+pub told : (k b : ℕ) → k < 10 → tells k b ≡ nth properties k b
 told k b g = go (leb 256 b) refl
   where
     go : (v : Bool) → leb 256 b ≡ v → tells k b ≡ nth properties k b

@@ -39,9 +39,13 @@ isSpace x = eqb x 32 || eqb x 9 || eqb x 10
 unfoldable pub beginsPart : ℕ → Bool
 beginsPart x = eqb x 47 || eqb x 13
 
--- what the mark that opens or closes a block comment begins with: `/`, `*`
-unfoldable pub beginsMark : ℕ → Bool
-beginsMark x = eqb x 47 || eqb x 42
+-- what the scan of a block comment looks at: what a mark begins with, `/` and `*`, and LF
+unfoldable pub markOrLineFeed : ℕ → Bool
+markOrLineFeed x = eqb x 47 || eqb x 42 || eqb x 10
+
+-- space, tab
+unfoldable pub spaceOrTab : ℕ → Bool
+spaceOrTab x = eqb x 32 || eqb x 9
 
 -- the class of each number
 unfoldable pub inClass : ℕ → ℕ → Bool

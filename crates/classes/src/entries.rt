@@ -2,32 +2,32 @@
 // lib.rt numbers the properties; bytes that no property tells apart share a class.
 
 // 128 and more
-const HIGH: u16 = 0b0_0001_0000;
+const HIGH: u16 = 0b00_0001_0000;
 
 // any other byte
-const OTHER: u16 = 0b0_0001_1000;
+const OTHER: u16 = 0b00_0001_1000;
 
 // 0 to 9
-const DIGIT: u16 = 0b0_0001_1111;
+const DIGIT: u16 = 0b00_0001_1111;
 
 // A to F, a to f
-const HEX_LETTER: u16 = 0b0_0011_1101;
+const HEX_LETTER: u16 = 0b00_0011_1101;
 
 // another letter or `_`
-const LETTER: u16 = 0b0_0011_1001;
+const LETTER: u16 = 0b00_0011_1001;
 
 // space, tab
-const BLANK: u16 = 0b0_0101_1000;
+const BLANK: u16 = 0b10_0101_1000;
 
-const LF: u16 = 0b0_0100_1000;
+const LF: u16 = 0b01_0100_1000;
 
-const CR: u16 = 0b0_1001_1000;
+const CR: u16 = 0b00_1001_1000;
 
 // `/`
-const SLASH: u16 = 0b1_1001_1000;
+const SLASH: u16 = 0b01_1001_1000;
 
 // `*`
-const STAR: u16 = 0b1_0001_1000;
+const STAR: u16 = 0b01_0001_1000;
 
 pub const CLASSES: [u16; 256] = [
     OTHER, // 0

@@ -4,7 +4,7 @@ ghost use mathlib.Core.Bool.{cond};
 ghost use Prim.Native.Nat.{_≤_};
 ghost use lib.Dec.{eqb};
 ghost use lib.ListN.{length, getD, take};
-ghost use Rattle.classes.specs.Class.{isDigit, isLetter, isSpace, beginsPart, beginsMark, inClass};
+ghost use Rattle.classes.specs.Class.{isDigit, isLetter, isSpace, beginsPart, markOrLineFeed, spaceOrTab, inClass};
 ghost use Rattle.classes.specs.Run.{runEnd};
 ghost use Rattle.classes.specs.Table.{classTable, bit, entryOf};
 ghost use Rattle.classes.specs.code.Search.{toldIn, entryIn, known};
@@ -30,7 +30,9 @@ const SPACE: u8 = 6;
 
 const PART_START: u8 = 7;
 
-const MARK_START: u8 = 8;
+const MARK_OR_LINE_FEED: u8 = 8;
+
+const SPACE_OR_TAB: u8 = 9;
 
 // How many bytes of a run are told by a search, before the table is copied.
 const SHORT_RUN: usize = 12;
@@ -148,15 +150,25 @@ pub fn begins_part(b: u8) -> bool
     told(&t, 128, 256, PART_START, b)
 }
 
-// Whether a mark that opens or closes a block comment may begin with b.
-pub fn begins_mark(b: u8) -> bool
-    ensures { λ r. ⌜ r ≡ beginsMark b ⌝ }
+// Whether the scan of a block comment looks at b.
+pub fn mark_or_line_feed(b: u8) -> bool
+    ensures { λ r. ⌜ r ≡ markOrLineFeed b ⌝ }
 {
     let t = class_table();
-    if told(&t, 0, 128, MARK_START, b) {
+    if told(&t, 0, 128, MARK_OR_LINE_FEED, b) {
         return true;
     }
-    told(&t, 128, 256, MARK_START, b)
+    told(&t, 128, 256, MARK_OR_LINE_FEED, b)
+}
+
+pub fn space_or_tab(b: u8) -> bool
+    ensures { λ r. ⌜ r ≡ spaceOrTab b ⌝ }
+{
+    let t = class_table();
+    if told(&t, 0, 128, SPACE_OR_TAB, b) {
+        return true;
+    }
+    told(&t, 128, 256, SPACE_OR_TAB, b)
 }
 
 // The entry of b, where b is one of the entries from lo up to hi, else 0.

@@ -8,6 +8,7 @@ use borrow.Author.Tests.{le-leb, lt-leb}
 use lib.Dec.{eqb}
 use lib.ListN.{length, getD, drop, drop-of-length-le}
 use lib.Seq.{drop-cons}
+use Rattle.classes.specs.Class.{markOrLineFeed}
 use Rattle.classes.proofs.Bools.{or-left, or-right}
 use Rattle.gap.specs.Marks.{opens, closes}
 use Rattle.gap.specs.code.Blocks.{depthStep, depthScan, depthAt}
@@ -16,9 +17,11 @@ use Rattle.gap.specs.declared.Close.the-variants.{At, Missing}
 use Rattle.gap.proofs.Places.{behind, behind-two}
 
 -- a byte that begins no mark neither opens nor closes
-pub no-mark : (a b : ℕ) → eqb a 47 || eqb a 42 ≡ false → (opens a b ≡ false) × (closes a b ≡ false)
-unfolding opens closes
-no-mark a b h = (rw (or-left (eqb a 47) (eqb a 42) h), rw (or-right (eqb a 47) (eqb a 42) h))
+pub no-mark : (a b : ℕ) → markOrLineFeed a ≡ false → (opens a b ≡ false) × (closes a b ≡ false)
+unfolding opens closes markOrLineFeed
+no-mark a b h =
+    let g : eqb a 47 || eqb a 42 ≡ false = or-left (eqb a 47 || eqb a 42) (eqb a 10) h in
+    (rw (or-left (eqb a 47) (eqb a 42) g), rw (or-right (eqb a 47) (eqb a 42) g))
 
 -- the second byte of a mark is passed over
 skipped : (n i : ℕ) (s : List ℕ) → depthScan true n i s ≡ depthScan false n (suc i) (drop 1 s)
@@ -61,5 +64,5 @@ module _ (text : List ℕ) (i n b : ℕ) (h : i < length text) (eb : b ≡ getD 
     pub passed : closes (getD text i 0) b ≡ false → depthAt text i n ≡ depthAt text (i + 1) n
     passed f = rw (step, e, f, one-on text i n)
 
-  pub passed-plain : eqb (getD text i 0) 47 || eqb (getD text i 0) 42 ≡ false → depthAt text i n ≡ depthAt text (i + 1) n
+  pub passed-plain : markOrLineFeed (getD text i 0) ≡ false → depthAt text i n ≡ depthAt text (i + 1) n
   passed-plain e = let r = no-mark (getD text i 0) b e in passed (r .0) (r .1)

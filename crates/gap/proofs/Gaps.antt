@@ -1,6 +1,6 @@
 -- The gap, one part after the other, at a place of a text; and where its parts end.
 use mathlib.Core.Path.{_≡_, refl, ap, sym, _∙_, subst}
-use mathlib.Core.Bool.{Bool, true, false, cond, _||_}
+use mathlib.Core.Bool.{Bool, true, false, cond}
 use mathlib.Core.List.{List, [], _∷_}
 use Prim.Native.Nat.{ℕ, zero, suc, _+_, _-_, _<_, _≤_}
 use native.Mathlib.Omega.{arith}
@@ -9,18 +9,20 @@ use borrow.Author.Tests.{eqb-true}
 use lib.Dec.{eqb}
 use lib.ListN.{length, getD, drop, drop-of-length-le, length-drop}
 use lib.Seq.{drop-cons, drop-drop}
-use Rattle.classes.specs.Class.{inLine}
-use Rattle.classes.specs.Run.{runLen}
+use Rattle.classes.specs.Class.{inLine, beginsPart}
+use Rattle.classes.specs.Run.{runLen, runEnd}
 use Rattle.classes.proofs.Bools.{false-true, and-left, and-right, or-left, or-right}
 use Rattle.classes.proofs.Runs.{run-short}
 use Rattle.gap.specs.Marks.{isSpace, isBlank, slashes, opens, docLine, docBlock}
 use Rattle.gap.specs.Comments.{inside, lineText, lineComment, blockComment, partAt}
+use Rattle.gap.specs.code.Ends.{endOfPart}
 use Rattle.gap.specs.Gap.{End, clear, broken, Gap, noted, gapFrom, gap}
 use Rattle.gap.specs.declared.Comment.{Comment}
 use Rattle.gap.specs.declared.Block.{Block}
 use Rattle.gap.specs.declared.Block.the-variants.{Closed, Open}
 use Rattle.gap.specs.declared.GapPart.{GapPart}
 use Rattle.gap.specs.declared.GapPart.the-variants.{Pass, Doc, Unclosed, Other}
+use Rattle.gap.specs.declared.PartEnd.the-variants.{Ends, Unended, NoPart}
 use Rattle.gap.proofs.Inside.{Within, inside-within}
 use Rattle.gap.proofs.Parts.{part-blank, part-other}
 use Rattle.gap.proofs.Places.{tail-at, in-text}
@@ -129,9 +131,9 @@ module _ (text : List ℕ) (i : ℕ) (h : i < length text) where
   unfolding isBlank
   gap-space e = gap-pass (i + 1) (sym (part-blank text i (getD text (i + 1) 0) refl (rw e))) .0
 
-  pub gap-plain : isSpace (getD text i 0) ≡ false → eqb (getD text i 0) 47 || eqb (getD text i 0) 13 ≡ false
+  pub gap-plain : isSpace (getD text i 0) ≡ false → beginsPart (getD text i 0) ≡ false
       → gap 0 i (drop i text) ≡ record { docs = []; last = clear i (drop i text) }
-  unfolding isBlank slashes opens
+  unfolding isBlank slashes opens beginsPart
   gap-plain e f =
       let g : eqb (getD text i 0) 47 ≡ false = or-left (eqb (getD text i 0) 47) (eqb (getD text i 0) 13) f in
       let h : eqb (getD text i 0) 13 ≡ false = or-right (eqb (getD text i 0) 47) (eqb (getD text i 0) 13) f in
@@ -139,6 +141,56 @@ module _ (text : List ℕ) (i : ℕ) (h : i < length text) where
 
   pub gap-broken : (o e : ℕ) → partAt i (drop i text) ≡ Unclosed o e → gap 0 i (drop i text) ≡ record { docs = []; last = broken o e }
   gap-broken o e q = step ∙ rw q
+
+  -- by its end alone
+  past-by : (x : GapPart) (e : ℕ) → partAt i (drop i text) ≡ x → endOfPart x ≡ Ends e → (gap 0 i (drop i text) .last ≡ gap 0 e (drop e text) .last) × (i < e)
+  unfolding endOfPart
+  past-by (Pass d) e q h = let k : d ≡ e = cc in let r = gap-pass d q in (ap (λ (g : Gap). g .last) (r .0) ∙ ap (λ (n : ℕ). gap 0 n (drop n text) .last) k, omega (arith, r .1))
+  past-by (Doc c) e q h = let k : c .end ≡ e = cc in let r = gap-doc c q in (ap (λ (g : Gap). g .last) (r .0) ∙ ap (λ (n : ℕ). gap 0 n (drop n text) .last) k, omega (arith, r .1))
+  past-by (Unclosed o d) e q h = let z : _≡_ {A = ℕ} 0 1 = cc in absurd (omega arith)
+  past-by Other e q h = let z : _≡_ {A = ℕ} 0 1 = cc in absurd (omega arith)
+
+  pub gap-past : (e : ℕ) → endOfPart (partAt i (drop i text)) ≡ Ends e → (gap 0 i (drop i text) .last ≡ gap 0 e (drop e text) .last) × (i < e)
+  gap-past e h = past-by (partAt i (drop i text)) e refl h
+
+  unended-by : (x : GapPart) (o e : ℕ) → partAt i (drop i text) ≡ x → endOfPart x ≡ Unended o e → gap 0 i (drop i text) .last ≡ broken o e
+  unfolding endOfPart
+  unended-by (Pass d) o e q h = let z : _≡_ {A = ℕ} 0 1 = cc in absurd (omega arith)
+  unended-by (Doc c) o e q h = let z : _≡_ {A = ℕ} 0 1 = cc in absurd (omega arith)
+  unended-by (Unclosed p d) o e q h = let k : p ≡ o = cc in let l : d ≡ e = cc in ap (λ (g : Gap). g .last) (gap-broken p d q) ∙ rw (k, l)
+  unended-by Other o e q h = let z : _≡_ {A = ℕ} 0 1 = cc in absurd (omega arith)
+
+  pub gap-unended : (o e : ℕ) → endOfPart (partAt i (drop i text)) ≡ Unended o e → gap 0 i (drop i text) .last ≡ broken o e
+  gap-unended o e h = unended-by (partAt i (drop i text)) o e refl h
+
+  none-by : (x : GapPart) → partAt i (drop i text) ≡ x → endOfPart x ≡ NoPart → gap 0 i (drop i text) .last ≡ clear i (drop i text)
+  unfolding endOfPart
+  none-by (Pass d) q h = let z : _≡_ {A = ℕ} 0 1 = cc in absurd (omega arith)
+  none-by (Doc c) q h = let z : _≡_ {A = ℕ} 0 1 = cc in absurd (omega arith)
+  none-by (Unclosed p d) q h = let z : _≡_ {A = ℕ} 0 1 = cc in absurd (omega arith)
+  none-by Other q h = ap (λ (g : Gap). g .last) (gap-clear q)
+
+  pub gap-none-at : endOfPart (partAt i (drop i text)) ≡ NoPart → gap 0 i (drop i text) .last ≡ clear i (drop i text)
+  gap-none-at h = none-by (partAt i (drop i text)) refl h
+
+-- a run of blanks
+space-on : (a : ℕ) (s : List ℕ) (p : ℕ) → isSpace a ≡ true → gap 0 p (a ∷ s) ≡ gap 0 (suc p) s
+unfolding gap partAt isBlank
+space-on a s p e = let q : p + 1 - suc p ≡ 0 = omega arith in rw (e, q)
+
+blanks-step : (a : ℕ) (s : List ℕ) (p : ℕ) (v : Bool) → isSpace a ≡ v → gap 0 (suc p) s ≡ gap 0 (suc p + runLen isSpace s) (drop (runLen isSpace s) s)
+    → gap 0 p (a ∷ s) ≡ gap 0 (p + cond v (suc (runLen isSpace s)) 0) (drop (cond v (suc (runLen isSpace s)) 0) (a ∷ s))
+blanks-step a s p true e ih = space-on a s p e ∙ ih ∙ ap (λ (n : ℕ). gap 0 n (drop (runLen isSpace s) s)) (omega arith)
+blanks-step a s p false e ih = rw add-zero
+
+blanks : (s : List ℕ) (p : ℕ) → gap 0 p s ≡ gap 0 (p + runLen isSpace s) (drop (runLen isSpace s) s)
+unfolding runLen
+blanks [] p = rw add-zero
+blanks (a ∷ s) p = blanks-step a s p (isSpace a) refl (blanks s (suc p))
+
+pub gap-blanks : (text : List ℕ) (at : ℕ) → gap 0 at (drop at text) ≡ gap 0 (runEnd isSpace text at) (drop (runEnd isSpace text at) text)
+unfolding runEnd
+gap-blanks text at = blanks (drop at text) at ∙ rw (drop-drop (runLen isSpace (drop at text)) at text)
 
 -- where a gap ends in a text, and with which bytes; a blamed opener is in the text too
 abbrev pub Ended : List ℕ → ℕ → End → Type 0

@@ -2,6 +2,7 @@ pub mod Places
 pub mod Depth
 pub mod Opener
 pub mod Inside
+pub mod LineFeeds
 pub mod Lines
 pub mod Parts
 pub mod Gaps

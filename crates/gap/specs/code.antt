@@ -1,2 +1,3 @@
 -- The words that only contracts of private functions use.
 pub mod Blocks
+pub mod Ends

@@ -1,15 +1,20 @@
 // The gap before a token: blanks, line comments, nested block comments, doc comments
 // (trim_whitespace_and_comments and trim_start_whitespace of the Rust).
 ghost use mathlib.Core.Path.{_≡_};
-ghost use mathlib.Core.Bool.{cond, false, _||_, _&&_};
+ghost use mathlib.Core.Bool.{cond, false, _&&_, _||_};
 ghost use mathlib.Core.List.{List, [], _∷_};
-ghost use Prim.Native.Nat.{_+_, _-_, _^_, _<_};
+ghost use Prim.Native.Nat.{ℕ, _+_, _-_, _^_, _<_};
 ghost use lib.Dec.{eqb};
 ghost use lib.ListN.{length, drop};
-ghost use Rattle.gap.specs.Marks.{isSpace, isBlank, docLine, docBlock};
+ghost use Rattle.gap.specs.Marks.{isBlank, docLine, docBlock};
 ghost use Rattle.gap.specs.Comments.{inside, lineText, lineComment, partAt};
 ghost use Rattle.gap.specs.Gap.{gap, gapEndOf, docOf};
+ghost use Rattle.gap.specs.LineFeed.{lineFeed, gapFeed};
 ghost use Rattle.gap.specs.code.Blocks.{blockPart, depthAt, openerAt};
+ghost use Rattle.gap.specs.code.Ends.{endOfPart};
+ghost use Rattle.gap.specs.declared.Close.the-variants.{At};
+ghost use Rattle.gap.specs.declared.GapEnd.the-variants.{Clear};
+ghost use Rattle.gap.specs.declared.PartEnd.the-variants.{Ends};
 use classes::LINE;
 
 // A doc comment: its span, and its text's, from `from` to `to`.
@@ -32,6 +37,12 @@ pub enum Close {
     Missing(usize),
 }
 
+// Where a block comment closes, and whether LF stands in it.
+struct Closing {
+    pub close: Close,
+    pub feed: bool,
+}
+
 // A part of a gap: a blank or a plain comment, by its end; a doc comment; an unclosed block comment,
 // by the span of the opener that is blamed; or no part of a gap.
 pub enum GapPart {
@@ -41,10 +52,29 @@ pub enum GapPart {
     Other,
 }
 
+// Where a part of a gap ends; the span of the opener that is not closed; or no part of a gap.
+pub enum PartEnd {
+    Ends(usize),
+    Unended(usize, usize),
+    NoPart,
+}
+
+// Where a part of a gap ends, and whether LF stands in it.
+struct PartScan {
+    pub end: PartEnd,
+    pub feed: bool,
+}
+
 // The end of a gap, or the span of the opener that is not closed.
 pub enum GapEnd {
     Clear(usize),
     Broken(usize, usize),
+}
+
+// The end of a gap, and whether LF stands in it.
+pub struct GapScan {
+    pub end: GapEnd,
+    pub feed: bool,
 }
 
 // The first doc comment of a gap; none; or the span of an opener that is not closed before any.
@@ -54,6 +84,7 @@ pub enum FirstDoc {
     BrokenFirst(usize, usize),
 }
 
+// Whether a is a blank, where b follows.
 fn is_blank(a: u8, b: u8) -> bool
     ensures { λ r. ⌜ r ≡ isBlank a b ⌝ }
 {
@@ -109,34 +140,63 @@ fn where_equal(n: usize, d: usize, a: usize, b: usize) -> usize
     b
 }
 
+// Whether one of two is so.
+pub fn either(a: bool, b: bool) -> bool
+    ensures { λ r. ⌜ r ≡ (a || b) ⌝ }
+{
+    if a {
+        return true;
+    }
+    b
+}
+
+// Whether LF stood before, or a is LF.
+fn feed_with(before: bool, a: u8) -> bool
+    ensures { λ r. ⌜ r ≡ (before || eqb a 10) ⌝ }
+{
+    if before {
+        return true;
+    }
+    a == b'\n'
+}
+
 // The first scan of a block comment, from behind its opener: a depth stands for the Rust's
-// stack of openers.
-fn close_of(text: &[u8], at: usize) -> Close
-    ensures { λ r. ⌜ r ≡ depthAt (now (text .entry)) at 1 ⌝ }
+// stack of openers. LF is looked at where marks are, so that other bytes cost nothing more.
+fn close_of(text: &[u8], at: usize) -> Closing
+    ensures close { λ r. ⌜ r .close ≡ depthAt (now (text .entry)) at 1 ⌝ }
+    ensures feed { λ r. ⌜ ((e : ℕ) → r .close ≡ At e → r .feed ≡ lineFeed (now (text .entry)) at e) ⌝ }
 {
     let mut i = at;
     let mut n: usize = 1;
+    let mut feed = false;
     while i < text.len() {
         let a = text[i];
-        if classes::begins_mark(a) {
+        if classes::mark_or_line_feed(a) {
             let b = classes::byte_at(text, i + 1);
             if pair(a, b, b'/', b'*') {
                 n += 1;
                 i += 2;
             } else if pair(a, b, b'*', b'/') {
                 if n <= 1 {
-                    return Close::At(i + 2);
+                    return Closing {
+                        close: Close::At(i + 2),
+                        feed: feed,
+                    };
                 }
                 n -= 1;
                 i += 2;
             } else {
+                feed = feed_with(feed, a);
                 i += 1;
             }
         } else {
             i += 1;
         }
     }
-    Close::Missing(n)
+    Closing {
+        close: Close::Missing(n),
+        feed: feed,
+    }
 }
 
 // The second scan, for a comment that is not closed: the last opener that brought the depth to d,
@@ -164,12 +224,11 @@ fn opener_of(text: &[u8], at: usize, d: usize, p: usize) -> usize
     last
 }
 
-// The block comment whose opener stands at p.
-fn block_at(text: &[u8], p: usize) -> Block
-    requires { ⌜ p < length (now text) ⌝ }
+// The block comment whose opener stands at p, and which closes there.
+fn block_at(text: &[u8], p: usize, w: Close) -> Block
+    requires { ⌜ (p < length (now text)) × (w ≡ depthAt (now text) (p + 2) 1) ⌝ }
     ensures { λ r. ⌜ r ≡ inside false (p ∷ []) (p + 2) (drop (p + 2) (now (text .entry))) ⌝ }
 {
-    let w = close_of(text, p + 2);
     match w {
         Close::At(e) => Block::Closed(e),
         Close::Missing(d) => Block::Open(opener_of(text, p + 2, d, p)),
@@ -213,12 +272,12 @@ fn line_comment(text: &[u8], i: usize) -> GapPart
     let a = classes::byte_at(text, i + 2);
     let b = classes::byte_at(text, i + 3);
     if doc_line(a, b) {
-        let t = text_end(text, i);
+        let d = text_end(text, i);
         return GapPart::Doc(Comment {
             start: i,
             end: e,
             from: i + 3,
-            to: t,
+            to: d,
         });
     }
     GapPart::Pass(e)
@@ -236,15 +295,15 @@ fn opener_len(doc: bool, p: usize, o: usize) -> usize
     2
 }
 
-// The block comment at i.
-fn block_comment(text: &[u8], i: usize) -> GapPart
-    requires { ⌜ i < length (now text) ⌝ }
+// The block comment at i, which closes there.
+fn block_comment(text: &[u8], i: usize, w: Close) -> GapPart
+    requires { ⌜ (i < length (now text)) × (w ≡ depthAt (now text) (i + 2) 1) ⌝ }
     ensures { λ r. ⌜ r ≡ blockPart (now (text .entry)) i ⌝ }
 {
     let a = classes::byte_at(text, i + 2);
     let b = classes::byte_at(text, i + 3);
     let doc = doc_block(a, b);
-    let k = block_at(text, i);
+    let k = block_at(text, i, w);
     match k {
         Block::Closed(e) => {
             if doc {
@@ -278,41 +337,118 @@ fn part_at(text: &[u8], i: usize) -> GapPart
         return line_comment(text, i);
     }
     if pair(a, b, b'/', b'*') {
-        return block_comment(text, i);
+        let w = close_of(text, i + 2);
+        let k = w.close;
+        return block_comment(text, i, k);
     }
     GapPart::Other
 }
 
-// Where the gap from `at` on ends. Most gaps are a blank or nothing, so these are told first.
-pub fn gap_end(text: &[u8], at: usize) -> GapEnd
-    ensures { λ r. ⌜ r ≡ gapEndOf (gap 0 at (drop at (now (text .entry))) .last) ⌝ }
+// Where a part of a gap ends.
+fn end_of_part(p: GapPart) -> PartEnd
+    ensures { λ r. ⌜ r ≡ endOfPart p ⌝ }
+{
+    match p {
+        GapPart::Pass(e) => PartEnd::Ends(e),
+        GapPart::Doc(c) => PartEnd::Ends(c.end),
+        GapPart::Unclosed(o, q) => PartEnd::Unended(o, q),
+        GapPart::Other => PartEnd::NoPart,
+    }
+}
+
+// The part of a gap that stands at i, by its end. Of a line comment no more than its end is looked
+// for, and LF never stands in it.
+fn part_scan(text: &[u8], i: usize) -> PartScan
+    requires { ⌜ i < length (now text) ⌝ }
+    ensures end { λ r. ⌜ r .end ≡ endOfPart (partAt i (drop i (now (text .entry)))) ⌝ }
+    ensures feed { λ r. ⌜ ((e : ℕ) → r .end ≡ Ends e → r .feed ≡ lineFeed (now (text .entry)) i e) ⌝ }
+{
+    let a = text[i];
+    let b = classes::byte_at(text, i + 1);
+    if pair(a, b, b'/', b'/') {
+        return PartScan {
+            end: PartEnd::Ends(classes::run_end(LINE, text, i)),
+            feed: false,
+        };
+    }
+    if pair(a, b, b'/', b'*') {
+        let c = close_of(text, i + 2);
+        let k = c.close;
+        let p = block_comment(text, i, k);
+        return PartScan {
+            end: end_of_part(p),
+            feed: c.feed,
+        };
+    }
+    if is_blank(a, b) {
+        return PartScan {
+            end: PartEnd::Ends(i + 1),
+            feed: feed_with(false, a),
+        };
+    }
+    PartScan {
+        end: PartEnd::NoPart,
+        feed: false,
+    }
+}
+
+// A gap that ends at i.
+fn clear(i: usize, feed: bool) -> GapScan
+    ensures end { λ r. ⌜ r .end ≡ Clear i ⌝ }
+    ensures feed { λ r. ⌜ r .feed ≡ feed ⌝ }
+{
+    GapScan {
+        end: GapEnd::Clear(i),
+        feed: feed,
+    }
+}
+
+// Where the gap from `at` on ends, and whether LF stands in it. Most gaps are blanks or nothing, so
+// these are told first.
+pub fn gap_scan(text: &[u8], at: usize) -> GapScan
+    ensures end { λ r. ⌜ r .end ≡ gapEndOf (gap 0 at (drop at (now (text .entry))) .last) ⌝ }
+    ensures feed { λ r. ⌜ r .feed ≡ gapFeed (now (text .entry)) at (r .end) ⌝ }
 {
     let mut i = at;
+    let mut feed = false;
     while i < text.len() {
         let a = text[i];
-        if classes::is_space(a) {
+        if classes::space_or_tab(a) {
+            i += 1;
+        } else if a == b'\n' {
+            feed = true;
             i += 1;
         } else if classes::begins_part(a) {
-            let p = part_at(text, i);
-            match p {
-                GapPart::Pass(e) => {
+            let p = part_scan(text, i);
+            let k = p.end;
+            match k {
+                PartEnd::Ends(e) => {
+                    feed = either(feed, p.feed);
                     i = e;
                 }
-                GapPart::Doc(c) => {
-                    i = c.end;
+                PartEnd::Unended(o, q) => {
+                    return GapScan {
+                        end: GapEnd::Broken(o, q),
+                        feed: false,
+                    };
                 }
-                GapPart::Unclosed(o, q) => {
-                    return GapEnd::Broken(o, q);
-                }
-                GapPart::Other => {
-                    return GapEnd::Clear(i);
+                PartEnd::NoPart => {
+                    return clear(i, feed);
                 }
             }
         } else {
-            return GapEnd::Clear(i);
+            return clear(i, feed);
         }
     }
-    GapEnd::Clear(i)
+    clear(i, feed)
+}
+
+// Where the gap from `at` on ends.
+pub fn gap_end(text: &[u8], at: usize) -> GapEnd
+    ensures { λ r. ⌜ r ≡ gapEndOf (gap 0 at (drop at (now (text .entry))) .last) ⌝ }
+{
+    let g = gap_scan(text, at);
+    g.end
 }
 
 // The first doc comment of the gap from `at` on.

@@ -7,12 +7,13 @@ use Rattle.classes.specs.Run.{runLen}
 use Rattle.gap.specs.Marks.{isSpace, isBlank, slashes, opens, closes, docLine, docBlock}
 use Rattle.gap.specs.Comments.{inside, lineText, lineComment, blockComment, partAt}
 use Rattle.gap.specs.Gap.{gap}
+use Rattle.gap.specs.LineFeed.{holdsLineFeed, lineFeed}
 use Rattle.words.specs.Tables.{keywords, longMarks, doubleMarks, singleMarks, marks}
 use Rattle.words.specs.Search.{same, lookup, kindOf, longest, markOf, frontLen, suffixes, suffixLen}
 use Rattle.words.specs.Quote.{endsLine, quoteFrom}
 use Rattle.tokens.specs.Token.{typed, decimal, hexTyped, hexLen, hexNumber, number, stringBy, string, opensString, stringRefusal, name, word, mark, findToken, placed, behindGap, lex as lexFrom}
 use Rattle.tokens.specs.Answers.{tokenNumber, tokenValues}
-use Rattle.tokens.specs.Calls.{admitted, lexed, nextToken}
+use Rattle.tokens.specs.Calls.{admitted, lexed, nextToken, lineFeedBefore, advanced}
 use Rattle.records.specs.Tree.{build, builds, behind, joined}
 use Rattle.records.specs.Stored.{two, span, header}
 use Rattle.sources.specs.Source.{scanned, lex}
@@ -29,11 +30,11 @@ use Rattle.roundtrip.specs.Examples.{expected, given, examples}
 
 -- the definitions by which a gap and a word are found; a token; an item; and its bytes and answer
 unfoldable scanning : Unit {0}
-unfolding begins inRange isDigit isHex isLetter isName isAscii inLine runLen isSpace isBlank slashes opens closes docLine docBlock inside lineText lineComment blockComment partAt gap
+unfolding begins inRange isDigit isHex isLetter isName isAscii inLine runLen isSpace isBlank slashes opens closes docLine docBlock inside lineText lineComment blockComment partAt gap holdsLineFeed lineFeed
 scanning = tt
 
 unfoldable lexing : Unit {0}
-unfolding keywords longMarks doubleMarks singleMarks marks same lookup kindOf longest markOf frontLen suffixes suffixLen endsLine quoteFrom typed decimal hexTyped hexLen hexNumber number stringBy string opensString stringRefusal name word mark findToken placed behindGap lexFrom tokenNumber tokenValues admitted lexed nextToken scanned lex
+unfolding keywords longMarks doubleMarks singleMarks marks same lookup kindOf longest markOf frontLen suffixes suffixLen endsLine quoteFrom typed decimal hexTyped hexLen hexNumber number stringBy string opensString stringRefusal name word mark findToken placed behindGap lexFrom tokenNumber tokenValues admitted lexed nextToken scanned lex lineFeedBefore advanced
 lexing = tt
 
 unfoldable reading : Unit {0}

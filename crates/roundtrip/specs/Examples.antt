@@ -6,7 +6,7 @@ use Prim.Native.String.{String}
 use lib.ListN.{length}
 use Rattle.classes.specs.Bytes.{bytes}
 use Rattle.tokens.specs.Answers.{tokenNumber, tokenValues}
-use Rattle.tokens.specs.Calls.{nextToken}
+use Rattle.tokens.specs.Calls.{nextToken, advanced}
 use Rattle.calls.specs.Calls.{treeLimit, read as readCall, readBuffer, answered, readNumber, readValues, display as displayCall, displayBuffer, displayed, displayNumber}
 
 -- by name and text: the token call's number and values; the read call's, for an item kind, with room for every answer; the bytes that a
@@ -29,7 +29,7 @@ expected (tree p k t v) = record { number = 0; values = v }
 expected (line p k t v) = record { number = 0; values = v }
 
 unfoldable pub given : Example → Result
-given (token p t n v) = record { number = tokenNumber (nextToken t 0); values = tokenValues (nextToken t 0) }
+given (token p t n v) = record { number = tokenNumber (nextToken t 0); values = tokenValues (nextToken t 0) (advanced t 0 .feed) }
 given (read p k t n v) = record { number = readNumber (answered (readCall k t 0 treeLimit)); values = readValues (answered (readCall k t 0 treeLimit)) }
 given (tree p k t v) = record { number = readNumber (answered (readCall k t 0 (length v))); values = readBuffer k t 0 (map (λ b. 255) v) }
 given (line p k t v) = record { number = displayNumber (displayed (displayCall k t 0 (length v))); values = displayBuffer k t 0 (map (λ b. 255) v) }

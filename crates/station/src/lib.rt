@@ -1,8 +1,9 @@
 // What a station links: the calls as C functions, over numbers and byte slices. The C header is
 // include/movesig.h.
 ghost use mathlib.Core.Path.{_≡_};
+ghost use mathlib.Core.Bool.{cond};
 ghost use Rattle.tokens.specs.Answers.{places, tokenNumber, tokenValues, commentNumber, commentValues};
-ghost use Rattle.tokens.specs.Calls.{nextToken, nextComment};
+ghost use Rattle.tokens.specs.Calls.{nextToken, advanced, nextComment};
 ghost use lib.ListN.{length};
 ghost use Rattle.calls.specs.Calls.{answered, readNumber, readValues, read, readBuffer, displayed, displayNumber, displayValues, display, displayBuffer};
 use calls::Answer;
@@ -25,16 +26,28 @@ fn refusal_values(r: Refusal) -> [u64; 6]
     ]
 }
 
-// The next token from `at` on.
+// 1 where b is so, else 0.
+fn one_if(b: bool) -> u64
+    ensures { λ r. ⌜ r ≡ cond b 1 0 ⌝ }
+{
+    if b {
+        return 1;
+    }
+    0
+}
+
+// The next token from `at` on, and whether LF stands between `at` and it.
 #[no_mangle]
 pub extern "C" fn movesig_next_token(text: &[u8], at: usize, answer: &mut [u64; 6]) -> u32
     ensures number { λ r. ⌜ r ≡ tokenNumber (nextToken (now (text .entry)) at) ⌝ }
-    ensures values { λ r. ⌜ now (answer .exit) ≡ tokenValues (nextToken (now (text .entry)) at) ⌝ }
+    ensures values { λ r. ⌜ now (answer .exit) ≡ tokenValues (nextToken (now (text .entry)) at) (advanced (now (text .entry)) at .feed) ⌝ }
 {
-    let t = tokens::next_token(text, at);
+    let a = tokens::advance(text, at);
+    let t = a.lexed;
     match t {
         Lexed::Found(k) => {
-            *answer = [k.kind as u64, k.start as u64, k.end as u64, 0, 0, 0];
+            let f = one_if(a.feed);
+            *answer = [k.kind as u64, k.start as u64, k.end as u64, f, 0, 0];
             0
         }
         Lexed::Refused(r) => {

@@ -1,9 +1,11 @@
 pub mod Fronts
 pub mod Lexing
 pub mod Steps
+pub mod Flags
 pub mod Walks
 pub mod Shift
 pub mod Alone
 pub mod Spelled
 pub mod Again
 pub mod RefusalSets
+pub mod TokenLines

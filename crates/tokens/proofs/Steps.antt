@@ -5,18 +5,18 @@ use mathlib.Core.List.{List, [], _∷_}
 use Prim.Native.Nat.{ℕ, _+_, _-_, _<_, _≤_, min}
 use native.Mathlib.Omega.{arith}
 use native.Mathlib.Nat.{add-zero, add-assoc}
-use borrow.Author.Tests.{eq-eqb, ne-eqb, lt-ltb, le-ltb}
-use lib.Dec.{eqb}
+use borrow.Author.Tests.{eq-eqb, ne-eqb, lt-ltb, le-ltb, lt-leb, leb-true}
+use lib.Dec.{eqb, leb}
 use lib.ListN.{length, getD, take, drop, drop-of-length-le, length-drop}
 use lib.Seq.{drop-cons, drop-drop, getD-drop}
 use Rattle.classes.specs.Bytes.{bytes, begins}
-use Rattle.classes.specs.Class.{isDigit, isLetter, isName, isAscii, inClass}
+use Rattle.classes.specs.Class.{inRange, isDigit, isLetter, isName, isAscii, isSpace, inClass}
 use Rattle.classes.specs.Run.{runLen, runEnd}
-use Rattle.classes.proofs.Bools.{and-true}
-use Rattle.gap.specs.Gap.{End, clear, broken, gap, gapEndOf, docOf}
+use Rattle.classes.proofs.Bools.{false-true, and-true, and-right}
+use Rattle.gap.specs.Gap.{End, clear, broken, Gap, gap, gapEndOf, docOf}
 use Rattle.gap.specs.declared.GapEnd.the-variants.{Clear, Broken}
 use Rattle.gap.specs.declared.FirstDoc.{FirstDoc}
-use Rattle.gap.proofs.Gaps.{Ended, gap-ended}
+use Rattle.gap.proofs.Gaps.{Ended, gap-ended, gap-blanks}
 use Rattle.gap.proofs.Places.{front as front-at}
 use Rattle.words.specs.Search.{kindOf, markOf, suffixLen}
 use Rattle.words.specs.Quote.{quoteFrom, raised}
@@ -24,7 +24,7 @@ use Rattle.words.specs.declared.Fit.{Fit}
 use Rattle.words.specs.declared.Quote.{Quote}
 use Rattle.words.specs.declared.Quote.the-variants.{Found as QuoteFound, Missing}
 use Rattle.classes.proofs.Cut.{begins-short, run-cut, drop-cut}
-use Rattle.classes.proofs.Runs.{run-to}
+use Rattle.classes.proofs.Runs.{run-to, run-stops}
 use Rattle.words.proofs.Marks.{mark-short}
 use Rattle.words.proofs.Quotes.{Within, within, quote-shift}
 use Rattle.words.proofs.Suffix.{suffix-short}
@@ -185,6 +185,17 @@ module _ (text : List ℕ) (at b : ℕ) (eb : b ≡ getD text (at + 1) 0) where
   unfolding word
   word-name h = rw (front-at text at, getD-drop at text 1 0, ← eb, h)
 
+-- a letter is no digit
+no-digit : (a : ℕ) → isLetter a ≡ true → isDigit a ≡ false
+unfolding isLetter isDigit inRange
+no-digit a e = go (isDigit a) refl
+  where
+    go : (v : Bool) → isDigit a ≡ v → isDigit a ≡ false
+    go false d = d
+    go true d =
+        let h : a ≤ 57 = leb-true a 57 (and-right (leb 48 a) (leb a 57) d) in
+        false-true _ (rw (lt-leb 97 a (omega arith), lt-leb 65 a (omega arith), ne-eqb a 95 (λ q. absurd (omega arith))) at e)
+
 -- the token at a place, by its first byte
 module _ (text : List ℕ) (at : ℕ) where
   pub find-over : length text ≤ at → Found (token 0 at at) ≡ lexedAt at (findToken (drop at text))
@@ -196,9 +207,9 @@ module _ (text : List ℕ) (at : ℕ) where
     unfolding findToken
     find-number e = rw (drop-cons text at 0 h, e)
 
-    pub find-word : isDigit (getD text at 0) ≡ false → isLetter (getD text at 0) ≡ true → lexedAt at (word (drop at text)) ≡ lexedAt at (findToken (drop at text))
+    pub find-word : isLetter (getD text at 0) ≡ true → lexedAt at (word (drop at text)) ≡ lexedAt at (findToken (drop at text))
     unfolding findToken
-    find-word e f = rw (drop-cons text at 0 h, e, f)
+    find-word f = rw (drop-cons text at 0 h, no-digit (getD text at 0) f, f)
 
     pub find-mark : isDigit (getD text at 0) ≡ false → isLetter (getD text at 0) ≡ false → lexedAt at (mark (markOf (drop at text))) ≡ lexedAt at (findToken (drop at text))
     unfolding findToken
@@ -234,15 +245,27 @@ module _ (text : List ℕ) (at : ℕ) where
   broken-by o q (clear p u) g = let z : _≡_ {A = ℕ} 0 1 = cc in absurd (omega arith)
   broken-by o q (broken p r) g = let u : p ≡ o = cc in let v : r ≡ q = cc in rw (u, v)
 
+  -- behind the blanks
+  module _ (i : ℕ) (q : i ≡ runEnd isSpace text at) where
+    pub blanks-end : i < length text → isSpace (getD text i 0) ≡ false
+    unfolding runEnd
+    blanks-end h =
+        let n : runLen isSpace (drop at text) < length (drop at text) = omega (arith, q, length-drop at text) in
+        rw (q, ← getD-drop at text (runLen isSpace (drop at text)) 0) (run-stops isSpace (drop at text) n)
+
+    same-end : gapEndOf (gap 0 at (drop at text) .last) ≡ gapEndOf (gap 0 i (drop i text) .last)
+    same-end = rw q (ap (λ (g : Gap). gapEndOf (g .last)) (gap-blanks text at))
+
+    module _ (h : length text ≤ textLimit) (g : at ≤ length text) where
+      pub next-clear : (k : ℕ) → gapEndOf (gap 0 i (drop i text) .last) ≡ Clear k → lexedAt k (findToken (drop k text)) ≡ nextToken text at
+      unfolding nextToken lex
+      next-clear k e = clear-by k (gap 0 at (drop at text) .last) (gap-ended text (drop at text) 0 at refl) (same-end ∙ e) ∙ admits Refused text at _ h g
+
+      pub next-broken : (o p : ℕ) → gapEndOf (gap 0 i (drop i text) .last) ≡ Broken o p → Refused (refusal 6 o p) ≡ nextToken text at
+      unfolding nextToken lex
+      next-broken o p e = broken-by o p (gap 0 at (drop at text) .last) (same-end ∙ e) ∙ admits Refused text at _ h g
+
   module _ (h : length text ≤ textLimit) (g : at ≤ length text) where
-    pub next-clear : (i : ℕ) → gapEndOf (gap 0 at (drop at text) .last) ≡ Clear i → lexedAt i (findToken (drop i text)) ≡ nextToken text at
-    unfolding nextToken lex
-    next-clear i e = clear-by i (gap 0 at (drop at text) .last) (gap-ended text (drop at text) 0 at refl) e ∙ admits Refused text at _ h g
-
-    pub next-broken : (o q : ℕ) → gapEndOf (gap 0 at (drop at text) .last) ≡ Broken o q → Refused (refusal 6 o q) ≡ nextToken text at
-    unfolding nextToken lex
-    next-broken o q e = broken-by o q (gap 0 at (drop at text) .last) e ∙ admits Refused text at _ h g
-
     pub comment-of : (d : FirstDoc) → docOf (gap 0 at (drop at text)) ≡ d → commentOf d ≡ nextComment text at
     unfolding nextComment
     comment-of d e = rw (← e) (admits CommentBroken text at _ h g)

@@ -1,6 +1,7 @@
 -- What the calls answer, by the specification's numbers: for every case of each answer, the result's number, 0 where nothing is
 -- refused, and the six values.
 use Prim.Native.Nat.{ℕ}
+use mathlib.Core.Bool.{Bool, cond}
 use mathlib.Core.List.{List, [], _∷_}
 use Rattle.tokens.specs.declared.Place.{Place}
 use Rattle.tokens.specs.declared.Refusal.{Refusal}
@@ -28,9 +29,10 @@ unfoldable pub tokenNumber : Lexed → ℕ
 tokenNumber (Found t) = 0
 tokenNumber (Refused r) = r .number
 
-unfoldable pub tokenValues : Lexed → List ℕ
-tokenValues (Found t) = t .kind ∷ t .start ∷ t .end ∷ 0 ∷ 0 ∷ 0 ∷ []
-tokenValues (Refused r) = places r
+-- the fourth says whether LF stands before the token
+unfoldable pub tokenValues : Lexed → Bool → List ℕ
+tokenValues (Found t) f = t .kind ∷ t .start ∷ t .end ∷ cond f 1 0 ∷ 0 ∷ 0 ∷ []
+tokenValues (Refused r) f = places r
 
 unfoldable pub commentNumber : DocComment → ℕ
 commentNumber (Doc c) = 0

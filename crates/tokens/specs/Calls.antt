@@ -1,11 +1,12 @@
 -- The token call and the comment call, for every text and offset.
 use Prim.Native.Nat.{ℕ}
-use mathlib.Core.Bool.{cond}
+use mathlib.Core.Bool.{Bool, false, cond}
 use mathlib.Core.List.{List}
 use lib.Dec.{ltb}
 use lib.ListN.{length, drop}
 use Rattle.tokens.specs.Refusals.{TextTooLong, StartPastEnd, CommentNotClosed}
 use Rattle.gap.specs.Gap.{gap, docOf}
+use Rattle.gap.specs.LineFeed.{lineFeed}
 use Rattle.gap.specs.declared.FirstDoc.{FirstDoc}
 use Rattle.gap.specs.declared.FirstDoc.the-variants.{Found as DocFound, Nothing as NoDoc, BrokenFirst}
 use Rattle.tokens.specs.Answers.{refusal, token}
@@ -13,6 +14,7 @@ use Rattle.tokens.specs.Token.{Scanned, tok, bad, lex}
 use Rattle.tokens.specs.declared.Refusal.{Refusal}
 use Rattle.tokens.specs.declared.Lexed.{Lexed}
 use Rattle.tokens.specs.declared.Lexed.the-variants.{Found, Refused}
+use Rattle.tokens.specs.declared.Advanced.{Advanced}
 use Rattle.tokens.specs.declared.DocComment.{DocComment}
 use Rattle.tokens.specs.declared.DocComment.the-variants.{Doc, Nothing, Broken}
 
@@ -32,6 +34,15 @@ lexed (bad r) = Refused r
 
 unfoldable pub nextToken : List ℕ → ℕ → Lexed
 nextToken text at = admitted Refused text at (lexed (lex at (drop at text)))
+
+-- LF stands between `at` and the token, in comments too; a refusal has none
+unfoldable pub lineFeedBefore : List ℕ → ℕ → Lexed → Bool
+lineFeedBefore text at (Found t) = lineFeed text at (t .start)
+lineFeedBefore text at (Refused r) = false
+
+-- the token call's answer: the next token, and beside it whether LF stands before it
+unfoldable pub advanced : List ℕ → ℕ → Advanced
+advanced text at = record { lexed = nextToken text at; feed = lineFeedBefore text at (nextToken text at) }
 
 unfoldable pub commentOf : FirstDoc → DocComment
 commentOf (DocFound c) = Doc c

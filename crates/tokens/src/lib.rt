@@ -2,12 +2,17 @@
 ghost use mathlib.Core.Path.{_≡_};
 ghost use Prim.Native.Nat.{_+_, _^_, _<_, _≤_};
 ghost use lib.Dec.{eqb};
-ghost use lib.ListN.{length, drop};
-ghost use mathlib.Core.Bool.{_&&_};
+ghost use lib.ListN.{length, getD, drop};
+ghost use mathlib.Core.Bool.{false, _&&_};
+ghost use Rattle.classes.specs.Class.{isSpace};
+ghost use Rattle.classes.specs.Run.{runEnd};
+ghost use Rattle.gap.specs.Gap.{gap, gapEndOf};
+ghost use Rattle.gap.specs.LineFeed.{lineFeed, gapFeed};
 ghost use Rattle.tokens.specs.Answers.{refusal};
 ghost use Rattle.tokens.specs.Token.{opensString, stringRefusal, findToken, decimal, hexNumber, number, string, word, name, mark};
-ghost use Rattle.tokens.specs.Calls.{nextToken, nextComment};
-ghost use Rattle.tokens.specs.code.Found.{lexedAt, typedAt};
+ghost use Rattle.tokens.specs.Calls.{nextToken, advanced, nextComment};
+ghost use Rattle.tokens.specs.declared.Lexed.the-variants.{Refused};
+ghost use Rattle.tokens.specs.code.Found.{lexedAt, typedAt, flagged};
 ghost use Rattle.words.specs.Search.{markOf};
 use classes::ASCII;
 use classes::DIGIT;
@@ -16,6 +21,7 @@ use classes::NAME;
 use gap::Comment;
 use gap::FirstDoc;
 use gap::GapEnd;
+use gap::GapScan;
 use refusals::BYTE_STRING_NOT_CLOSED;
 use refusals::COMMENT_NOT_CLOSED;
 use refusals::HEX_STRING_NOT_CLOSED;
@@ -54,6 +60,20 @@ pub struct Token {
 pub enum Lexed {
     Found(Token),
     Refused(Refusal),
+}
+
+// The token call's answer: the next token, and whether LF stands between the start offset and it.
+// The flag stands beside the token: read again from its own first byte a token is the same, and no
+// LF stands before it there.
+pub struct Advanced {
+    pub lexed: Lexed,
+    pub feed: bool,
+}
+
+// Where blanks end, and whether LF is one of them.
+struct Blanks {
+    pub end: usize,
+    pub feed: bool,
 }
 
 // The first doc comment of a gap; none; or the refusal that comes before any.
@@ -254,30 +274,113 @@ fn find_token(text: &[u8], at: usize) -> Lexed
         });
     }
     let a = text[at];
-    if classes::is_digit(a) {
-        return number_at(text, at);
-    }
     if classes::is_letter(a) {
         return word_at(text, at);
+    }
+    if classes::is_digit(a) {
+        return number_at(text, at);
     }
     mark_at(text, at)
 }
 
-// The next token from `at` on (advance of the Rust).
+// The blanks from `at` on. A space or tab costs one look at the table.
+fn blanks_from(text: &[u8], at: usize) -> Blanks
+    ensures end { λ r. ⌜ r .end ≡ runEnd isSpace (now (text .entry)) at ⌝ }
+    ensures feed { λ r. ⌜ r .feed ≡ lineFeed (now (text .entry)) at (r .end) ⌝ }
+{
+    let mut i = at;
+    let mut feed = false;
+    while i < text.len() {
+        let a = text[i];
+        if classes::space_or_tab(a) {
+            i += 1;
+        } else if a == b'\n' {
+            feed = true;
+            i += 1;
+        } else {
+            return Blanks { end: i, feed: feed };
+        }
+    }
+    Blanks { end: i, feed: feed }
+}
+
+// The gap from i on, where no blank stands: most often it ends there.
+fn gap_behind(text: &[u8], i: usize) -> GapScan
+    requires { ⌜ (i < length (now text) → isSpace (getD (now text) i 0) ≡ false) ⌝ }
+    ensures end { λ r. ⌜ r .end ≡ gapEndOf (gap 0 i (drop i (now (text .entry))) .last) ⌝ }
+    ensures feed { λ r. ⌜ r .feed ≡ gapFeed (now (text .entry)) i (r .end) ⌝ }
+{
+    if text.len() <= i {
+        return GapScan {
+            end: GapEnd::Clear(i),
+            feed: false,
+        };
+    }
+    if classes::begins_part(text[i]) {
+        return gap::gap_scan(text, i);
+    }
+    GapScan {
+        end: GapEnd::Clear(i),
+        feed: false,
+    }
+}
+
+// What is found, with its flag; a refusal has none.
+fn with_flag(l: Lexed, feed: bool) -> Advanced
+    ensures { λ r. ⌜ r ≡ flagged l feed ⌝ }
+{
+    match l {
+        Lexed::Found(t) => Advanced {
+            lexed: Lexed::Found(t),
+            feed: feed,
+        },
+        Lexed::Refused(r) => Advanced {
+            lexed: Lexed::Refused(r),
+            feed: false,
+        },
+    }
+}
+
+// A refusal as the token call's answer.
+fn refused_answer(number: u32, start: usize, end: usize) -> Advanced
+    ensures { λ r. ⌜ r ≡ flagged (Refused (refusal number start end)) false ⌝ }
+{
+    Advanced {
+        lexed: Lexed::Refused(refuse(number, start, end)),
+        feed: false,
+    }
+}
+
+// The next token from `at` on, and whether LF stands before it (advance of the Rust). The table of
+// classes is made once.
+pub fn advance(text: &[u8], at: usize) -> Advanced
+    ensures { λ r. ⌜ r ≡ advanced (now (text .entry)) at ⌝ }
+{
+    if TEXT_LIMIT < text.len() {
+        return refused_answer(TEXT_TOO_LONG, 0, 0);
+    }
+    if text.len() < at {
+        return refused_answer(START_PAST_END, 0, 0);
+    }
+    let b = blanks_from(text, at);
+    let g = gap_behind(text, b.end);
+    let e = g.end;
+    match e {
+        GapEnd::Clear(k) => {
+            let feed = gap::either(b.feed, g.feed);
+            let l = find_token(text, k);
+            with_flag(l, feed)
+        }
+        GapEnd::Broken(o, q) => refused_answer(COMMENT_NOT_CLOSED, o, q),
+    }
+}
+
+// The next token from `at` on.
 pub fn next_token(text: &[u8], at: usize) -> Lexed
     ensures { λ r. ⌜ r ≡ nextToken (now (text .entry)) at ⌝ }
 {
-    if TEXT_LIMIT < text.len() {
-        return Lexed::Refused(refuse(TEXT_TOO_LONG, 0, 0));
-    }
-    if text.len() < at {
-        return Lexed::Refused(refuse(START_PAST_END, 0, 0));
-    }
-    let g = gap::gap_end(text, at);
-    match g {
-        GapEnd::Clear(i) => find_token(text, i),
-        GapEnd::Broken(o, q) => Lexed::Refused(refuse(COMMENT_NOT_CLOSED, o, q)),
-    }
+    let a = advance(text, at);
+    a.lexed
 }
 
 // The first doc comment in the gap from `at` on.

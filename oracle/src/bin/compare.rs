@@ -281,16 +281,22 @@ impl Comparison {
     }
 
     /// Token after token, each from where the last one ended, until EOF or a refusal;
-    /// the Rust goes the same way with one lexer. At each step the comment too.
+    /// the Rust goes the same way with one lexer. At each step the comment too. Whether a
+    /// line feed stands before a token is here told by line numbers, counted on the text alone.
     fn walk(&mut self, text: &Text) {
         if text.bytes.len() > expected::LONGEST {
             return self.ask_both(text, 0);
         }
         let mut at = 0;
         let mut reading = Reading::new(text.for_the_rust(at), at);
+        let lines = line_numbers(text.bytes);
         loop {
             self.judge(Call::Comment, text, at, expected::comment(text, at));
-            let token = expected::token_of(text, at, reading.advance());
+            let mut token = expected::token_of(text, at, reading.advance());
+            if let Some(answer) = token.answer.as_mut().filter(|answer| answer.result == 0) {
+                let start = answer.numbers[1] as usize;
+                answer.numbers[3] = (lines[start] != lines[at]).into();
+            }
             self.judge(Call::Token, text, at, token);
             match token.answer.and_then(end_of_token) {
                 Some(end) => at = end,
@@ -348,6 +354,17 @@ impl Comparison {
             difference.print();
         }
     }
+}
+
+/// The number of the line that each byte of the text, and its end, stands on.
+fn line_numbers(text: &[u8]) -> Vec<usize> {
+    let mut line = 1;
+    let mut lines = vec![line];
+    for &byte in text {
+        line += usize::from(byte == b'\n');
+        lines.push(line);
+    }
+    lines
 }
 
 /// Where an accepted token ends; None for EOF and refusals.

@@ -1,6 +1,6 @@
 use crate::{
     boundary::{self, Numbers},
-    Refusal, Token, Tree, LONGEST,
+    Following, Refusal, Tree, LONGEST,
 };
 use std::fmt;
 
@@ -76,7 +76,7 @@ pub struct Read<'t, 'b> {
     /// The item, in the buffer that was lent.
     pub tree: Tree<'t, 'b>,
     /// The token that follows it.
-    pub next: Token,
+    pub next: Following,
 }
 
 /// Reads the item of the kind from `at` on into the buffer. Its tree takes the first bytes of
@@ -114,7 +114,7 @@ pub fn read<'t, 'b>(
     }
     Ok(Read {
         tree: Tree::new(text, first_bytes(buffer, answer.number(0))),
-        next: Token::new(answer, 1),
+        next: Following::new(answer, 1),
     })
 }
 

@@ -57,7 +57,7 @@ pub use comment::{comments, next_comment, Comment, Comments};
 pub use item::{display, display_to_string, read, Kind, Read};
 pub use refusal::Refusal;
 pub use span::Span;
-pub use token::{next_token, tokens, Token, TokenKind, Tokens};
+pub use token::{next_token, tokens, Following, Token, TokenKind, Tokens};
 pub use tree::{Children, RecordKind, Tree};
 
 /// The most bytes of a text, of a tree and of a line. A buffer longer than this never changes an

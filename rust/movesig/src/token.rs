@@ -4,20 +4,47 @@ use crate::{
 };
 use std::{fmt, iter::FusedIterator};
 
-/// A token: its kind and where it stands.
+/// A token: its kind, where it stands, and whether a line feed stands before it.
 #[derive(Clone, Copy, Debug, PartialEq, Eq, Hash)]
 pub struct Token {
     /// Its kind.
     pub kind: TokenKind,
     /// Its bytes.
     pub span: Span,
+    /// Whether a line feed stands between the offset from which it was asked for and the token,
+    /// inside comments too. Asked for again from another offset it may be otherwise.
+    pub line_feed: bool,
 }
 
 impl Token {
+    #[inline]
+    fn new(answer: Answer<'_>) -> Token {
+        let Following { kind, span } = Following::new(answer, 0);
+        let line_feed = answer.number(3) == 1;
+        Token { kind, span, line_feed }
+    }
+
+    /// Whether this is the end of the text.
+    #[inline]
+    pub fn is_eof(self) -> bool {
+        self.kind == TokenKind::EOF
+    }
+}
+
+/// The token that follows an item. Nothing is known of the lines before it.
+#[derive(Clone, Copy, Debug, PartialEq, Eq, Hash)]
+pub struct Following {
+    /// Its kind.
+    pub kind: TokenKind,
+    /// Its bytes.
+    pub span: Span,
+}
+
+impl Following {
     /// Of the numbers of an answer, from the index on.
     #[inline]
-    pub(crate) fn new(answer: Answer<'_>, index: usize) -> Token {
-        Token {
+    pub(crate) fn new(answer: Answer<'_>, index: usize) -> Following {
+        Following {
             kind: TokenKind(answer.number(index) as u8),
             span: Span::new(answer, index + 1),
         }
@@ -44,6 +71,12 @@ impl Token {
 /// let token = next_token(b"  /* a gap */ vector<u8>", 0)?;
 /// assert_eq!(token.kind, TokenKind::IDENTIFIER);
 /// assert_eq!(token.span, Span { start: 14, end: 20 });
+/// assert!(!token.line_feed);
+///
+/// // The flag is about the bytes from the offset on.
+/// assert!(next_token(b"/*\n*/a", 0)?.line_feed);
+/// assert!(next_token(b"\na", 0)?.line_feed);
+/// assert!(!next_token(b"\na", 1)?.line_feed);
 ///
 /// assert_eq!(next_token(b"$", 0).unwrap_err().number(), 5);
 /// # Ok::<(), movesig::Refusal>(())
@@ -53,7 +86,7 @@ pub fn next_token(text: &[u8], at: usize) -> Result<Token, Refusal> {
     let mut numbers = Numbers::new();
     let answer = boundary::next_token(text, at, &mut numbers);
     if answer.result == 0 {
-        Ok(Token::new(answer, 0))
+        Ok(Token::new(answer))
     } else {
         Err(Refusal::new(answer))
     }

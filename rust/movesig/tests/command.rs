@@ -74,15 +74,22 @@ fn refused(text: &[u8], words: &str) -> String {
 fn tokens() {
     assert_eq!(
         accepted(b"a<b>>c\n", "tokens f.move"),
-        "0..1  Identifier      a\n\
-         1..2  Less            <\n\
-         2..3  Identifier      b\n\
-         3..5  GreaterGreater  >>\n\
-         5..6  Identifier      c\n\
-         7..7  EOF\n"
+        "1:  0..1  Identifier      a\n    \
+             1..2  Less            <\n    \
+             2..3  Identifier      b\n    \
+             3..5  GreaterGreater  >>\n    \
+             5..6  Identifier      c\n\
+         2:  7..7  EOF\n"
+    );
+    assert_eq!(
+        accepted(b"/*\n*/a//\n/*\n*/\r\nb c", "tokens f.move"),
+        "2:  5..6    Identifier  a\n\
+         5:  16..17  Identifier  b\n    \
+             18..19  Identifier  c\n    \
+             19..19  EOF\n"
     );
     let (status, output, errors) = movesig(b"a\n  $", "tokens f.move");
-    assert_eq!((status, output.as_str()), (1, "0..1  Identifier  a\n"));
+    assert_eq!((status, output.as_str()), (1, "1:  0..1  Identifier  a\n"));
     assert_eq!(
         errors,
         "f.move:2:3 (byte 4): refused 5: no token starts with this byte\n\
@@ -326,7 +333,7 @@ fn every_reason() {
 
 #[test]
 fn empty_file() {
-    assert_eq!(accepted(b"", "tokens f.move"), "0..0  EOF\n");
+    assert_eq!(accepted(b"", "tokens f.move"), "1:  0..0  EOF\n");
     let (status, _, errors) = movesig(b"", "comments f.move");
     assert_eq!((status, errors.as_str()), (0, "f.move: no doc comments\n"));
     assert_eq!(
@@ -339,7 +346,7 @@ fn empty_file() {
 #[test]
 fn long_files_and_far_offsets() {
     let longest = vec![b' '; 65_535];
-    assert_eq!(accepted(&longest, "tokens f.move"), "65535..65535  EOF\n");
+    assert_eq!(accepted(&longest, "tokens f.move"), "1:  65535..65535  EOF\n");
     let too_long = vec![b' '; 65_536];
     let error = "f.move: refused 1: text over 65,535 bytes: it has 65536\n";
     assert_eq!(refused(&too_long, "tokens f.move"), error);
@@ -480,7 +487,7 @@ fn long_lines() {
     let name = "x".repeat(65_535);
     let cut = format!("{}... (65535 bytes)", "x".repeat(100));
     let output = accepted(name.as_bytes(), "tokens f.move");
-    assert!(output.starts_with(&format!("0..65535      Identifier  {cut}\n")));
+    assert!(output.starts_with(&format!("1:  0..65535      Identifier  {cut}\n")));
     assert!(accepted(name.as_bytes(), "read name f.move").contains(&cut));
     assert_eq!(accepted(name.as_bytes(), "line name f.move"), name + "\n");
 }

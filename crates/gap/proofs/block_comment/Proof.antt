@@ -7,27 +7,14 @@ use borrow.Author.Needs.{needs}
 use Rattle.gap.proofs.block_comment.Statement.{statement}
 use Rattle.gap.proofs.block_comment.Tie as tie
 
-sub-t14 : tie.Need-sub-t14
-sub-t14 c =
-    let c₁ = c .before .before .before .before in
-    let c₂ = c₁ .before .before in
-    let c₃ = c₂ .before in
-    let c₄ = c₃ .before .before in
-    let r = closed-after (c₄ .args .text .now) (c₄ .args .i) _ _ (c₃ .byte-at .ensures) (c₂ .byte-at2 .ensures) _ (c₁ .block-at .ensures) (c .before .before .k .given .0 .0)
-    (c .before .before .k .given .1) in omega arith
+sub-t15 : tie.Need-sub-t15
+sub-t15 c = let r = closed-after (c .before .before .before .before .before .before .before .before .before .args .text .now) (c .before .before .before .before .before .before .before .before .before .args .i) _ _ (c .before .before .before .before .before .before .before .byte-at .ensures) (c .before .before .before .before .before .before .byte-at2 .ensures) _ (c .before .before .before .before .block-at .ensures) (c .before .before .k .given .0 .0) (c .before .before .k .given .1) in omega arith
 
 returns : tie.Need-returns
 returns c = block-doc _ _ _ _ (c .before .before .before .before .before .before .before .byte-at .ensures) (c .before .before .before .before .before .before .byte-at2 .ensures) _ (c .before .before .before .before .block-at .ensures) _ (c .before .before .k .given .1) (sym (c .before .before .before .before .before .doc-block .ensures) ∙ c .if1 .taken)
 
-add-t16 : tie.Need-add-t16
-add-t16 c =
-    let c₁ = c .before .before .before .before in
-    let c₂ = c₁ .before in
-    let c₃ = c₂ .before in
-    let c₄ = c₃ .before in
-    let c₅ = c₄ .before .before in
-    let r = open-within (c₅ .args .text .now) (c₅ .args .i) _ _ (c₄ .byte-at .ensures) (c₃ .byte-at2 .ensures) _ (c₁ .block-at .ensures) (c .before .before .k2 .given .0 .0)
-    (c .before .before .k2 .given .1) (search needs) (c₂ .doc-block .result && eqb (c .before .before .k2 .given .0 .0) (c₅ .args .i)) _ (c .opener-len .ensures) in omega arith
+add-t17 : tie.Need-add-t17
+add-t17 c = let r = open-within (c .before .before .before .before .before .before .before .before .before .args .text .now) (c .before .before .before .before .before .before .before .before .before .args .i) _ _ (c .before .before .before .before .before .before .before .byte-at .ensures) (c .before .before .before .before .before .before .byte-at2 .ensures) _ (c .before .before .before .before .block-at .ensures) (c .before .before .k2 .given .0 .0) (c .before .before .k2 .given .1) (search needs) (c .before .before .before .before .before .doc-block .result && eqb (c .before .before .k2 .given .0 .0) (c .before .before .before .before .before .before .before .before .before .args .i)) _ (c .opener-len .ensures) in omega arith
 
 returns-2 : tie.Need-returns-2
 returns-2 c = block-plain _ _ _ _ (c .before .before .before .before .before .before .before .byte-at .ensures) (c .before .before .before .before .before .before .byte-at2 .ensures) _ (c .before .before .before .before .block-at .ensures) _ (c .before .before .k .given .1) (sym (c .before .before .before .before .before .doc-block .ensures) ∙ c .if1 .left)
@@ -40,5 +27,5 @@ block-comment-spec =
     tie.close
     (tie.spec
     (λ c. search needs) (λ c κs. search needs) (λ c. search needs) (λ c κs. search needs) (λ c κs. search needs)
-    (λ c κs. search needs) (λ c. search needs) (λ c. search needs) sub-t14 returns (λ c. search needs)
-    (λ c κs. search needs) add-t16 returns-2 returns-3)
+    (λ c κs. search needs) (λ c. search needs) (λ c. search needs) sub-t15 returns (λ c. search needs)
+    (λ c κs. search needs) add-t17 returns-2 returns-3)

@@ -43,5 +43,5 @@ pub first-doc-spec : {M : Type 1} → statement M
 first-doc-spec =
     tie.close
     (tie.spec
-    Inv-loop μ-loop loop-holds (λ c κs. search needs) (λ c. search needs) loop-less loop-again (λ c. search needs)
-    returns (λ c. search needs) returns-2 (λ c. search needs) returns-3 returns-4)
+    Inv-loop μ-loop loop-holds (λ c κs. search needs) (λ c. search needs) loop-less loop-again
+    (λ c. search needs) returns (λ c. search needs) returns-2 (λ c. search needs) returns-3 returns-4)

@@ -12,15 +12,12 @@ returns-2 : tie.Need-returns-2
 unfolding slashes
 returns-2 c = c .line-comment .ensures ∙ part-line _ _ _ (c .before .before .before .before .before .byte-at .ensures) (sym (c .before .before .before .before .is-blank .ensures) ∙ c .before .before .before .if1 .left) (sym (c .before .before .pair .ensures) ∙ c .before .if2 .taken)
 
+block-comment-requires : tie.Need-block-comment-requires
+block-comment-requires c κs = (search needs, c .close-of .ensures .0)
+
 returns-3 : tie.Need-returns-3
 unfolding slashes opens
-returns-3 c =
-    let c₁ = c .before .before .before .before in
-    let c₂ = c₁ .before in
-    let c₃ = c₂ .before in
-    let c₄ = c₃ .before in
-    c .block-comment .ensures ∙ part-block _ _ _ (c₄ .byte-at .ensures) (sym (c₃ .is-blank .ensures) ∙ c₂ .if1 .left) (sym (c₁ .pair .ensures) ∙ c .before .before .before .if2 .left)
-    (sym (c .before .before .pair2 .ensures) ∙ c .before .if3 .taken)
+returns-3 c = c .block-comment .ensures ∙ part-block _ _ _ (c .before .before .before .before .before .before .before .before .byte-at .ensures) (sym (c .before .before .before .before .before .before .before .is-blank .ensures) ∙ c .before .before .before .before .before .before .if1 .left) (sym (c .before .before .before .before .before .pair .ensures) ∙ c .before .before .before .before .if2 .left) (sym (c .before .before .before .pair2 .ensures) ∙ c .before .before .if3 .taken)
 
 returns-4 : tie.Need-returns-4
 unfolding slashes opens
@@ -31,5 +28,5 @@ part-at-spec =
     tie.close
     (tie.spec
     (λ c. search needs) (λ c. search needs) (λ c κs. search needs) (λ c κs. search needs) (λ c. search needs) returns
-    (λ c κs. search needs) (λ c κs. search needs) returns-2 (λ c κs. search needs) (λ c κs. search needs) returns-3
-    returns-4)
+    (λ c κs. search needs) (λ c κs. search needs) returns-2 (λ c κs. search needs) (λ c. search needs)
+    (λ c κs. search needs) block-comment-requires returns-3 returns-4)

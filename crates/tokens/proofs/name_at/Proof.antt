@@ -7,7 +7,7 @@ use Rattle.tokens.proofs.name_at.Statement.{statement}
 use Rattle.tokens.proofs.name_at.Tie as tie
 
 sub-name-kind : tie.Need-sub-name-kind
-sub-name-kind c = omega (arith, run-from (inClass 0) (c .before .before .args .text .now) (c .before .before .args .at), c .run-end .ensures)
+sub-name-kind c = omega (arith, run-from (inClass 0) (c .before .before .args .text .now) (c .before .before .args .at), (c .run-end .ensures))
 
 returns : tie.Need-returns
 returns c = name-at (c .before .before .before .args .text .now) (c .before .before .before .args .at) _ _ (c .before .run-end .ensures) (c .name-kind .ensures)

@@ -8,21 +8,13 @@ use Rattle.tokens.proofs.string_at.Statement.{statement}
 use Rattle.tokens.proofs.string_at.Tie as tie
 
 slice-aggregate-run-end : tie.Need-slice-aggregate-run-end
-slice-aggregate-run-end c =
-    let c₁ = c .before .before .before .before in
-    let c₂ = c₁ .before .before in
-    let r = quote-room (c₂ .args .text .now) (c₂ .args .at) (c₂ .args .m) _ (c₁ .closing-quote .ensures) _ (c .before .before .k2 .given .1) in sym
-    (length-take-le (c .before .before .k2 .given .0 .0) (c₂ .args .text .now) (omega arith))
+slice-aggregate-run-end c = let r = quote-room (c .before .before .before .before .before .before .args .text .now) (c .before .before .before .before .before .before .args .at) (c .before .before .before .before .before .before .args .m) _ (c .before .before .before .before .closing-quote .ensures) _ (c .before .before .k2 .given .1) in sym (length-take-le (c .before .before .k2 .given .0 .0) (c .before .before .before .before .before .before .args .text .now) (omega arith))
 
 returns : tie.Need-returns
 returns c = ap Refused (c .refuse2 .ensures) ∙ string-high _ _ _ _ (c .before .before .before .before .before .before .before .closing-quote .ensures) _ (c .before .before .before .before .before .k2 .given .1) _ (c .before .before .run-end .ensures) (c .before .if1 .taken)
 
 add-t13 : tie.Need-add-t13
-add-t13 c =
-    let c₁ = c .before .before .before .before in
-    let c₂ = c₁ .before .before in
-    let c₃ = c₂ .before .before in
-    let r = quote-room (c₃ .args .text .now) (c₃ .args .at) (c₃ .args .m) _ (c₂ .closing-quote .ensures) _ (c₁ .k2 .given .1) in omega arith
+add-t13 c = let r = quote-room (c .before .before .before .before .before .before .before .before .args .text .now) (c .before .before .before .before .before .before .before .before .args .at) (c .before .before .before .before .before .before .before .before .args .m) _ (c .before .before .before .before .before .before .closing-quote .ensures) _ (c .before .before .before .before .k2 .given .1) in omega arith
 
 returns-2 : tie.Need-returns-2
 returns-2 c = ap Refused (c .refuse .ensures) ∙ string-missing _ _ _ _ (c .before .before .before .before .closing-quote .ensures) _ (c .before .before .k .given .1)

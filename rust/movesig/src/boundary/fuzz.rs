@@ -144,10 +144,12 @@ fn token_and_comment() {
         let (number, values) = next_token(&text, at);
         match number {
             0 => {
-                let [kind, start, end, rest @ ..] = values;
+                let [kind, start, end, line_feed, rest @ ..] = values;
                 assert!(kind <= 67 && at <= start && inside(start, end, &text));
                 assert_eq!(kind == 0, start == end);
-                assert_eq!(rest, [0; 3]);
+                assert_eq!(line_feed == 1, text[at..start].contains(&b'\n'));
+                assert!(line_feed <= 1);
+                assert_eq!(rest, [0; 2]);
             }
             _ => refused_well(number, values, &text, &[1, 2, 5, 6, 7, 8, 9]),
         }

@@ -17,7 +17,8 @@ const SECTIONS: [(&str, &str); 8] = [
     (
         "Commands",
         r"
-  tokens       each token: its span, its kind and its spelling
+  tokens       each token: its span, its kind and its spelling; the first of a
+               line under the line's number
   comments     each doc comment: its span, its place and its text
   read         the item as an outline: each record's kind, its span and, for a
                leaf, its spelling; then the token that follows

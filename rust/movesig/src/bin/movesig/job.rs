@@ -11,7 +11,7 @@ use crate::{
     text::{self, Text},
     visible, Said,
 };
-use movesig::{comments, display, read, tokens, Kind, Refusal, LONGEST};
+use movesig::{comments, display, read, tokens, Following, Kind, Refusal, LONGEST};
 use std::{
     env,
     ffi::OsString,
@@ -225,7 +225,7 @@ impl Job {
 }
 
 impl Beside {
-    fn new(text: &[u8], item: Item, next: Option<movesig::Token>) -> Beside {
+    fn new(text: &[u8], item: Item, next: Option<Following>) -> Beside {
         let end = next.map_or(item.at, |next| next.span.start);
         let mut notes: Vec<_> = notes::offset(text, item.at).into_iter().collect();
         notes.extend(notes::references(text, item.at, end));

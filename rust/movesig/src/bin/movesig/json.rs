@@ -6,7 +6,7 @@ use crate::{
     places::Places,
     text::Text,
 };
-use movesig::{Comment, Refusal, Span, Token, Tree, LONGEST};
+use movesig::{Comment, Following, Refusal, Span, Token, Tree, LONGEST};
 use std::fmt::Write;
 
 /// An object that is being written.
@@ -132,11 +132,11 @@ pub enum Answer<'a> {
 
 /// What is beside an item: the token that follows, where it is known, and what is to be noted.
 pub struct Beside {
-    pub next: Option<Token>,
+    pub next: Option<Following>,
     pub notes: Vec<Note>,
 }
 
-fn following(token: Token, text: &[u8]) -> String {
+fn following(token: Following, text: &[u8]) -> String {
     Object::new()
         .text("token", token.kind.name().as_bytes())
         .number("number", token.kind.number().into())
@@ -184,7 +184,8 @@ pub fn refusal(file: &[u8], text: &Text, item: Option<Item>, refusal: &Refusal) 
         object = object.raw("second", &second.end());
     }
     if let Some(found) = due::token_at(text, refusal) {
-        object = object.raw("found", &following(found, text));
+        let Token { kind, span, .. } = found;
+        object = object.raw("found", &following(Following { kind, span }, text));
     }
     if let Some(item) = item {
         if due::token_at(text, refusal).is_some() {

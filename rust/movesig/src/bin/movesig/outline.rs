@@ -1,7 +1,7 @@
 //! What is accepted, as text for people.
 
 use crate::{places::Places, visible};
-use movesig::{Comment, Token, Tree};
+use movesig::{Comment, Following, Token, Tree};
 use std::fmt::Write;
 
 /// A spelling is shown up to so many bytes.
@@ -9,14 +9,21 @@ const MOST: usize = 100;
 
 /// One line a token, in columns.
 pub fn tokens(text: &[u8], tokens: &[Token], to: &mut String) {
+    let places = Places::new(text);
     let spans = tokens.iter().map(|token| token.span.to_string().len());
     let spans = spans.max().unwrap_or(0);
     let names = tokens.iter().map(|token| token.kind.name().len());
     let names = names.max().unwrap_or(0);
-    for token in tokens {
+    let lines = tokens.iter().enumerate().map(|(index, token)| {
+        let first = index == 0 || token.line_feed;
+        first.then(|| format!("{}:", places.of(token.span.start).0))
+    });
+    let lines: Vec<String> = lines.map(Option::unwrap_or_default).collect();
+    let numbers = lines.iter().map(String::len).max().unwrap_or(0);
+    for (token, line) in tokens.iter().zip(lines) {
         let (span, kind) = (token.span.to_string(), token.kind);
         let spelling = visible::cut(token.span.of(text), MOST);
-        let line = format!("{span:spans$}  {kind:names$}  {spelling}");
+        let line = format!("{line:numbers$}  {span:spans$}  {kind:names$}  {spelling}");
         put_line(to, 0, line.trim_end());
     }
 }
@@ -56,7 +63,7 @@ pub fn tree(tree: Tree, depth: usize, to: &mut String) {
 }
 
 /// The token that follows an item.
-pub fn following(text: &[u8], token: Token, to: &mut String) {
+pub fn following(text: &[u8], token: Following, to: &mut String) {
     let spelling = visible::cut(token.span.of(text), MOST);
     let line = format!("followed by {} {}  {spelling}", token.kind, token.span);
     put_line(to, 0, line.trim_end());

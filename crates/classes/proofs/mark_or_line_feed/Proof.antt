@@ -3,8 +3,8 @@ use native.Mathlib.Omega.{arith}
 use Rattle.classes.specs.Table.{properties}
 use Rattle.classes.proofs.Search.{told-low, told-high}
 use borrow.Author.Needs.{needs}
-use Rattle.classes.proofs.begins_mark.Statement.{statement}
-use Rattle.classes.proofs.begins_mark.Tie as tie
+use Rattle.classes.proofs.mark_or_line_feed.Statement.{statement}
+use Rattle.classes.proofs.mark_or_line_feed.Tie as tie
 
 told-requires : tie.Need-told-requires
 told-requires c κs = (c .before .class-table .ensures, omega arith, omega arith)
@@ -23,5 +23,5 @@ returns-2 c =
     told-high _ (first .before .before .before .before .fits .b .fits) 8 _ (omega arith) (sym (first .before .told .ensures) ∙ first .if1 .left)
     (c .told2 .ensures)
 
-pub begins-mark-spec : {M : Type 1} → statement M
-begins-mark-spec = tie.close (tie.spec (λ c κs. search needs) told-requires returns told-requires-2 returns-2)
+pub mark-or-line-feed-spec : {M : Type 1} → statement M
+mark-or-line-feed-spec = tie.close (tie.spec (λ c κs. search needs) told-requires returns told-requires-2 returns-2)
