@@ -79,10 +79,10 @@ extern "C" {
 #define MOVESIG_LEVELS 64
 
 /* Bytes of stack that are enough for any call. The most that was measured, over nests of every construct
- * and a random search, is 61,976; this is at least a tenth more. Measured, not proved: a test holds it to
+ * and 20,000 at random, is 45,848; this is at least a twentieth more. Measured, not proved: a test holds it to
  * what is measured, and makes the calls in threads of this stack beside their own. Put no buffer of
  * MOVESIG_LONGEST bytes on the same small stack. */
-#define MOVESIG_STACK 73728
+#define MOVESIG_STACK 49152
 
 /* The version of this header, by semantic versioning: before 1.0 another MINOR may change answers or
  * calls, from then on only another MAJOR. CHANGELOG.md says what changed for a station. */

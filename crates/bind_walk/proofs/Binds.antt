@@ -1,6 +1,6 @@
 -- Bindings and fields: one law for each way through the code.
 use mathlib.Core.Path.{_≡_, refl, ap, sym, _∙_, subst}
-use mathlib.Core.Bool.{Bool, true, false, cond}
+use mathlib.Core.Bool.{Bool, true, false, cond, not}
 use mathlib.Core.List.{List, _++_, append-assoc}
 use Prim.Native.Nat.{ℕ, suc, _-_, _≤_}
 use native.Mathlib.Omega.{arith}
@@ -8,20 +8,20 @@ use borrow.Author.Tests.{eq-eqb, ne-eqb, eqb-true, eqb-false}
 use lib.Dec.{eqb}
 use lib.ListN.{length}
 use Rattle.classes.specs.Bytes.{bytes}
-use Rattle.words.specs.Kinds.{Identifier, Colon}
+use Rattle.classes.proofs.Bools.{false-true}
+use Rattle.words.specs.Kinds.{NumValue, Identifier, Colon}
 use Rattle.tokens.specs.Refusals.{UnexpectedToken, TooDeep}
 use Rattle.tokens.specs.Answers.{refusal}
 use Rattle.tokens.specs.Calls.{nextToken}
 use Rattle.tokens.specs.declared.Refusal.{Refusal}
 use Rattle.tokens.specs.declared.Token.{Token as Answer}
-use Rattle.tokens.specs.declared.Lexed.{Lexed}
 use Rattle.tokens.specs.declared.Lexed.the-variants.{Found, Refused as Bad}
 use Rattle.records.specs.Kinds.{RecName, RecVariable, RecField}
 use Rattle.records.specs.Tree.{Tree, node, none, more}
-use Rattle.sources.specs.Source.{Token, after}
-use Rattle.answers.specs.Reading.{Ans, ok, no, then, leafOf, refusedAt}
-use Rattle.grammar.specs.Types.{spanned, readType}
-use Rattle.grammar.specs.Binds.{fields, unpacked, bindOver, fieldOver, readField, readBind}
+use Rattle.sources.specs.Source.{Source, Token, after, Scanned, tok, bad, lex}
+use Rattle.answers.specs.Reading.{Ans, ok, no, then, look, when, leafOf, refusedAt, Reader}
+use Rattle.grammar.specs.Types.{readType}
+use Rattle.grammar.specs.Binds.{unpacked, bindOver, fieldOver, readField, readBind}
 use Rattle.forms.specs.Forms.{markIn, spelt, laid, headed}
 use Rattle.forms.specs.code.Spots.{last, inside, Placed, wordOf}
 use Rattle.forms.specs.declared.Spot.{Spot}
@@ -30,57 +30,39 @@ use Rattle.forms.proofs.Constructs.{laid-field}
 use Rattle.parts.specs.declared.Parsed.{Parsed}
 use Rattle.parts.specs.declared.Parsed.the-variants.{Read, Refused}
 use Rattle.parts.specs.code.Meets.{Fits, held, refusedToken, Reads}
-use Rattle.parts.proofs.Held.{held-end, held-leaf, next-found, look-found, look-refused}
+use Rattle.parts.proofs.Held.{held-leaf, Next, next-found, look-found, look-refused}
 use Rattle.parts.proofs.Contracts.{reads-no, reads-read, reads-as}
-use Rattle.chains.specs.code.Parts.{leafAt}
-use Rattle.chains.proofs.Names.{leaf-laid, when-true, when-false, token-refused, read-to}
-use Rattle.bind_walk.specs.code.Pieces.{structKind, startBy, openingOf, fieldAt, shortAt, fieldName, headedBy}
-use Rattle.bind_walk.specs.declared.Start.{Start}
-use Rattle.bind_walk.specs.declared.Start.the-variants.{Variable, Struct, Refused as Faulty}
-use Rattle.bind_walk.proofs.Parted.{goes-from, by-meets, front, closed-by}
+use Rattle.chains.specs.code.Parts.{leafAt, begins}
+use Rattle.chains.proofs.Names.{leaf-laid, when-true, when-false, token-refused, read-to, chain-other, chain-bad}
+use Rattle.type_walk.proofs.Types.{neither-left}
+use Rattle.bind_walk.specs.code.Pieces.{structKind, variableKinds, fieldAt, boundBy, fieldName, headedBy}
+use Rattle.bind_walk.proofs.Parted.{by-meets, front, closed-by}
+use Rattle.bind_walk.proofs.Structs.{unpack-unnamed}
 
--- what a binding's start says of its tokens
-differ : (A : Type 0) → _≡_ {A = ℕ} 0 1 → A
-differ A h = absurd (omega (arith, h))
+-- what the kinds of a binding's first two tokens say
+module _ (k n : ℕ) where
+  variable-yes : variableKinds k n ≡ true → (k ≡ Identifier) × (structKind n ≡ false)
+  variable-yes = go (eqb k Identifier) refl (structKind n) refl
+    where
+      go : (b : Bool) → eqb k Identifier ≡ b → (c : Bool) → structKind n ≡ c → cond b (not c) false ≡ true → (k ≡ Identifier) × (structKind n ≡ false)
+      go true d true e h = false-true _ h
+      go true d false e h = (eqb-true k Identifier d, e)
+      go false d c e h = false-true _ h
 
-start-refused : (k : ℕ) (y : Lexed) (r : Refusal) → openingOf k y ≡ Faulty r → (k ≡ Identifier) × (y ≡ Bad r)
-unfolding startBy
-start-refused k y r = go (eqb k Identifier) refl y
-  where
-    by : (b : Bool) (n : Answer) → structKind (n .kind) ≡ b → cond b Struct (Variable n) ≡ Faulty r → Found n ≡ Bad r
-    by true n g e = differ _ cc
-    by false n g e = differ _ cc
+  variable-no : (A : Type 0) → variableKinds k n ≡ false → ((k ≡ Identifier → ⊥) → A) → (k ≡ Identifier → structKind n ≡ true → A) → A
+  variable-no A = go (eqb k Identifier) refl (structKind n) refl
+    where
+      go : (b : Bool) → eqb k Identifier ≡ b → (c : Bool) → structKind n ≡ c → cond b (not c) false ≡ false → ((k ≡ Identifier → ⊥) → A) → (k ≡ Identifier → structKind n ≡ true → A) → A
+      go true d true e h f g = g (eqb-true k Identifier d) e
+      go true d false e h f g = false-true _ (sym h)
+      go false d c e h f g = f (eqb-false k Identifier d)
 
-    go : (b : Bool) → eqb k Identifier ≡ b → (y : Lexed) → cond b (startBy y) Struct ≡ Faulty r → (k ≡ Identifier) × (y ≡ Bad r)
-    go true d (Found n) e = (eqb-true k Identifier d, by (structKind (n .kind)) n refl e)
-    go true d (Bad q) e = (eqb-true k Identifier d, cc)
-    go false d z e = differ _ cc
-
-start-variable : (k : ℕ) (y : Lexed) (v : Answer) → openingOf k y ≡ Variable v → (k ≡ Identifier) × ((y ≡ Found v) × (structKind (v .kind) ≡ false))
-unfolding startBy
-start-variable k y v = go (eqb k Identifier) refl y
-  where
-    by : (b : Bool) (n : Answer) → structKind (n .kind) ≡ b → cond b Struct (Variable n) ≡ Variable v → (Found n ≡ Found v) × (structKind (v .kind) ≡ false)
-    by true n g e = differ _ cc
-    by false n g e = let w : n ≡ v = cc in (ap Found w, sym (ap (λ (x : Answer). structKind (x .kind)) w) ∙ g)
-
-    go : (b : Bool) → eqb k Identifier ≡ b → (y : Lexed) → cond b (startBy y) Struct ≡ Variable v → (k ≡ Identifier) × ((y ≡ Found v) × (structKind (v .kind) ≡ false))
-    go true d (Found n) e = let w = by (structKind (n .kind)) n refl e in (eqb-true k Identifier d, w)
-    go true d (Bad q) e = differ _ cc
-    go false d z e = differ _ cc
-
-start-struct : (A : Type 0) (k : ℕ) (y : Lexed) → openingOf k y ≡ Struct → ((k ≡ Identifier → ⊥) → A) → (k ≡ Identifier → (n : Answer) → y ≡ Found n → structKind (n .kind) ≡ true → A) → A
-unfolding startBy
-start-struct A k y = go (eqb k Identifier) refl y
-  where
-    by : (b : Bool) (n : Answer) → structKind (n .kind) ≡ b → cond b Struct (Variable n) ≡ Struct → structKind (n .kind) ≡ true
-    by true n g e = g
-    by false n g e = differ _ cc
-
-    go : (b : Bool) → eqb k Identifier ≡ b → (y : Lexed) → cond b (startBy y) Struct ≡ Struct → ((k ≡ Identifier → ⊥) → A) → (k ≡ Identifier → (n : Answer) → y ≡ Found n → structKind (n .kind) ≡ true → A) → A
-    go true d (Found n) e f g = g (eqb-true k Identifier d) n refl (by (structKind (n .kind)) n refl e)
-    go true d (Bad q) e f g = differ _ cc
-    go false d z e f g = f (eqb-false k Identifier d)
+-- a field by what it binds
+when-then : (c : Bool) (l : Scanned) (f : Reader) (y : Tree) (v : Source) (k : Tree → Source → Ans Tree) → when c (λ _. look l (λ b. then (f b) k)) (λ _. k y v) ≡ then (when c (λ _. look l f) (λ _. ok y v)) k
+unfolding when look then
+when-then true (tok t) f y v k = refl
+when-then true (bad r) f y v k = refl
+when-then false l f y v k = refl
 
 module _ (f : ℕ) (text : List ℕ) (s : Spot) (l m : List ℕ) (a : Answer) where
   -- the token itself is refused
@@ -108,28 +90,28 @@ module _ (f : ℕ) (text : List ℕ) (s : Spot) (l m : List ℕ) (a : Answer) wh
       unfolding readBind
       bind-level z = let e : n ≡ suc (n - 1) = omega (arith, h) in ap (λ (k : ℕ). readBind k z) e
 
-      pub bind-other : (r : Parsed) → (a .kind ≡ Identifier → ⊥) → Unpack r → Bind r
+      bind-other : (r : Parsed) → (a .kind ≡ Identifier → ⊥) → Unpack r → Bind r
       unfolding bindOver
       bind-other r k d =
           reads-as f text (Fits text a) (Fits text a) bind (unpacked (readType (n - 1)) (fieldAt (n - 1)) (held text a)) (a .end) (a .end) s l m r (omega arith) (λ z. z)
           (λ _. bind-level (held text a) ∙ when-false (eqb (a .kind) Identifier) _ _ (ne-eqb (a .kind) Identifier k)) d
 
       module _ (k : a .kind ≡ Identifier) where
-        pub bind-bad : (r : Refusal) → nextToken text (a .end) ≡ Bad r → Bind (Refused r)
+        bind-bad : (r : Refusal) → nextToken text (a .end) ≡ Bad r → Bind (Refused r)
         unfolding bindOver
         bind-bad r e =
             reads-no f text (Fits text a) bind (a .end) s l m r
             (λ z. bind-level (held text a) ∙ when-true (eqb (a .kind) Identifier) _ _ (eq-eqb (a .kind) Identifier k) ∙ look-refused text a z _ r e)
 
         module _ (d : Answer) (e : nextToken text (a .end) ≡ Found d) (c : Bool) (g : c ≡ structKind (d .kind)) where
-          pub bind-struct : (r : Parsed) → c ≡ true → Unpack r → Bind r
+          bind-struct : (r : Parsed) → c ≡ true → Unpack r → Bind r
           unfolding bindOver
           bind-struct r b w =
               reads-as f text (Fits text a) (Fits text a) bind (unpacked (readType (n - 1)) (fieldAt (n - 1)) (held text a)) (a .end) (a .end) s l m r (omega arith) (λ z. z)
               (λ z. bind-level (held text a) ∙ when-true (eqb (a .kind) Identifier) _ _ (eq-eqb (a .kind) Identifier k) ∙ look-found text a z _ d e
               ∙ when-true (structKind (d .kind)) _ _ (sym g ∙ b)) w
 
-          pub bind-variable : (to : Spot) → c ≡ false → Placed l s (spelt f RecVariable (a .start) (a .end) (wordOf text a)) to m → Bind (Read (record { to = to; end = a .end; next = d }))
+          bind-variable : (to : Spot) → c ≡ false → Placed l s (spelt f RecVariable (a .start) (a .end) (wordOf text a)) to m → Bind (Read (record { to = to; end = a .end; next = d }))
           unfolding bindOver
           bind-variable to b w =
               reads-read f text (Fits text a) bind (a .end) s l m (leafAt RecVariable text a) (a .end) d to (omega arith)
@@ -137,20 +119,26 @@ module _ (f : ℕ) (text : List ℕ) (s : Spot) (l m : List ℕ) (a : Answer) wh
               ∙ when-false (structKind (d .kind)) _ _ (sym g ∙ b) ∙ read-to text (leafOf RecVariable (held text a)) (leafAt RecVariable text a) a z (held-leaf text a z RecVariable)) e
               (placed-as l m (spelt f RecVariable (a .start) (a .end) (wordOf text a)) (laid f (leafAt RecVariable text a)) s to (sym (leaf-laid f text RecVariable a refl)) w)
 
-      -- by the binding's start
-      module _ (x : Start) (e : x ≡ openingOf (a .kind) (nextToken text (a .end))) where
-        pub start-bad : (r : Refusal) → x ≡ Faulty r → Bind (Refused r)
-        start-bad r d = let w = start-refused (a .kind) (nextToken text (a .end)) r (sym e ∙ d) in bind-bad (w .0) r (w .1)
+      -- by its first two tokens
+      pub bind-unnamed : (r : Parsed) → begins a ≡ false → r ≡ refusedToken UnexpectedToken a → Bind r
+      bind-unnamed r b e =
+          let k = neither-left (eqb (a .kind) Identifier) (eqb (a .kind) NumValue) b in
+          subst (λ (y : Parsed). Bind y) (sym e)
+          (bind-other _ (eqb-false (a .kind) Identifier k) (unpack-unnamed f text (n - 1) a s s l m r (chain-other f text s l m a (begins a) r refl b e) _ e))
 
-        pub start-unpack : (r : Parsed) → x ≡ Struct → Unpack r → Bind r
-        start-unpack r d u =
-            start-struct (Bind r) (a .kind) (nextToken text (a .end)) (sym e ∙ d) (λ k. bind-other r k u) (λ k n g b. bind-struct k n g (structKind (n .kind)) refl r b u)
+      pub bind-refused : (r : Refusal) → begins a ≡ true → nextToken text (a .end) ≡ Bad r → Bind (Refused r)
+      bind-refused r b e = go (eqb (a .kind) Identifier) refl
+        where
+          go : (c : Bool) → eqb (a .kind) Identifier ≡ c → Bind (Refused r)
+          go true d = bind-bad (eqb-true (a .kind) Identifier d) r e
+          go false d = bind-other (Refused r) (eqb-false (a .kind) Identifier d) (unpack-unnamed f text (n - 1) a s s l m (Refused r) (chain-bad f text s l m a (begins a) refl b r e) r refl)
 
-        pub start-one : (n : Answer) (to : Spot) → x ≡ Variable n → Placed l s (spelt f RecVariable (a .start) (a .end) (wordOf text a)) to m
-            → Bind (Read (record { to = to; end = a .end; next = n }))
-        start-one n to d w =
-            let z = start-variable (a .kind) (nextToken text (a .end)) n (sym e ∙ d) in
-            bind-variable (z .0) n (z .1 .0) (structKind (n .kind)) refl to (z .1 .1) w
+      module _ (d : Answer) (e : nextToken text (a .end) ≡ Found d) (c : Bool) (g : c ≡ variableKinds (a .kind) (d .kind)) where
+        pub bind-one : (to : Spot) → c ≡ true → Placed l s (spelt f RecVariable (a .start) (a .end) (wordOf text a)) to m → Bind (Read (record { to = to; end = a .end; next = d }))
+        bind-one to b w = let y = variable-yes (a .kind) (d .kind) (sym g ∙ b) in bind-variable (y .0) d e (structKind (d .kind)) refl to (y .1) w
+
+        pub bind-unpack : (r : Parsed) → c ≡ false → Unpack r → Bind r
+        bind-unpack r b w = variable-no (a .kind) (d .kind) (Bind r) (sym g ∙ b) (λ k. bind-other r k w) (λ k h. bind-struct k d e (structKind (d .kind)) refl r h w)
 
     -- fields
     abbrev field : Ans Tree
@@ -180,47 +168,55 @@ module _ (f : ℕ) (text : List ℕ) (s : Spot) (l m : List ℕ) (a : Answer) wh
             (λ z. field-level (held text a) ∙ when-true (eqb (a .kind) Identifier) _ _ (eq-eqb (a .kind) Identifier k) ∙ look-refused text a z _ r e)
 
         module _ (d : Answer) (e : nextToken text (a .end) ≡ Found d) where
-          pub field-short : (to : Spot) → (d .kind ≡ Colon → ⊥) → Placed l s (laid f (shortAt text a)) to m → Field (Read (record { to = to; end = a .end; next = d }))
-          unfolding fieldOver
-          field-short to c w =
-              reads-read f text (Fits text a) field (a .end) s l m (shortAt text a) (a .end) d to (omega arith)
-              (λ z. field-level (held text a) ∙ when-true (eqb (a .kind) Identifier) _ _ (eq-eqb (a .kind) Identifier k) ∙ look-found text a z _ d e
-              ∙ when-false (eqb (d .kind) Colon) _ _ (ne-eqb (d .kind) Colon c) ∙ read-to text _ (shortAt text a) a z (short-same z)) e w
-            where
-              short-same : Fits text a → spanned RecField (held text a) (after (held text a)) (more (leafOf RecName (held text a)) (more (leafOf RecVariable (held text a)) none)) ≡ shortAt text a
-              short-same z = rw (held-end text a z)
+          abbrev fieldOf : Tree → ℕ → Tree
+          fieldOf x q = node RecField (a .start) q (more (leafAt RecName text a) (more x none))
 
-          module _ (c : d .kind ≡ Colon) where
-            pub field-bad-bind : (r : Refusal) → nextToken text (d .end) ≡ Bad r → Field (Refused r)
-            unfolding fieldOver
-            field-bad-bind r g =
-                let x = next-found text (a .end) d e in
-                reads-no f text (Fits text a) field (a .end) s l m r
-                (λ z. field-level (held text a) ∙ when-true (eqb (a .kind) Identifier) _ _ (eq-eqb (a .kind) Identifier k) ∙ look-found text a z _ d e
-                ∙ when-true (eqb (d .kind) Colon) _ _ (eq-eqb (d .kind) Colon c) ∙ look-refused text d (x .fits) _ r g)
+          field-is : Fits text a → field ≡ then (boundBy n (held text a) (held text d)) (λ x u. ok (fieldOf x (u .at)) u)
+          unfolding fieldOver boundBy
+          field-is z =
+              field-level (held text a) ∙ when-true (eqb (a .kind) Identifier) _ _ (eq-eqb (a .kind) Identifier k) ∙ look-found text a z _ d e
+              ∙ when-then (eqb (d .kind) Colon) (lex (after (held text d))) (readBind n) (leafOf RecVariable (held text a)) (after (held text a)) _
+              ∙ ap (λ (t : Tree). then (boundBy n (held text a) (held text d)) (λ x u. ok (node RecField (a .start) (u .at) (more t (more x none))) u)) (held-leaf text a z RecName)
 
-            module _ (b : Answer) (g : nextToken text (d .end) ≡ Found b) where
-              abbrev fieldOf : Tree → ℕ → Tree
-              fieldOf x q = node RecField (a .start) q (more (leafAt RecName text a) (more x none))
+          pub field-bound : length l ≤ last → (q : Spot) (l₂ m₂ : List ℕ) (p r : Parsed) → Placed l (inside f s) (fieldName f text a) q l₂ → Reads f text (Fits text a) (boundBy n (held text a) (held text d)) (a .end) q l₂ p m₂
+              → (r ≡ p) × (m ≡ headedBy f RecField (a .start) s p m₂) → Field r
+          field-bound i q l₂ m₂ p r w j v =
+              let name = leafAt RecName text a in
+              let bound = boundBy n (held text a) (held text d) in
+              subst (λ (r : Parsed). Field r) (sym (v .0))
+              (record {
+                meets = λ z. closed-by (λ t. fieldName f text a ++ laid f t) f text field bound fieldOf RecField (a .start) s l m₂ m p i (field-is z)
+                    (λ t u q _. laid-field f (a .start) q name t ∙ ap (headed f RecField (a .start) q) (sym (append-assoc (laid f name) (markIn f (bytes ": ")) (laid f t))))
+                    (front (laid f) text bound (fieldName f text a) (inside f s) q l l₂ m₂ p i w (by-meets f text bound q l₂ m₂ p (j .meets z))) (v .1);
+                goes = j .goes;
+              })
 
-              bound : Fits text a → field ≡ then (readBind n (held text b)) (λ x u. ok (fieldOf x (u .at)) u)
-              unfolding fieldOver
-              bound z =
-                  let x = next-found text (a .end) d e in
-                  field-level (held text a) ∙ when-true (eqb (a .kind) Identifier) _ _ (eq-eqb (a .kind) Identifier k) ∙ look-found text a z _ d e
-                  ∙ when-true (eqb (d .kind) Colon) _ _ (eq-eqb (d .kind) Colon c) ∙ look-found text d (x .fits) _ b g
-                  ∙ ap (λ (t : Tree). then (readBind n (held text b)) (λ x u. ok (node RecField (a .start) (u .at) (more t (more x none))) u)) (held-leaf text a z RecName)
+-- what a field binds
+module _ (f : ℕ) (text : List ℕ) (s : Spot) (l m : List ℕ) (n : ℕ) (a d : Answer) (e : nextToken text (a .end) ≡ Found d) where
+  abbrev Bound : Parsed → Type 0
+  Bound r = Reads f text (Fits text a) (boundBy n (held text a) (held text d)) (a .end) s l r m
 
-              pub field-bound : length l ≤ last → (q : Spot) (l₂ m₂ : List ℕ) (p r : Parsed) → Placed l (inside f s) (fieldName f text a) q l₂ → Reads f text (Fits text b) (readBind n (held text b)) (b .end) q l₂ p m₂
-                  → (r ≡ p) × (m ≡ headedBy f RecField (a .start) s p m₂) → Field r
-              field-bound i q l₂ m₂ p r w j v =
-                  let x = next-found text (a .end) d e in
-                  let y = next-found text (d .end) b g in
-                  let name = leafAt RecName text a in
-                  subst (λ (r : Parsed). Field r) (sym (v .0))
-                  (record {
-                    meets = λ z. closed-by (λ t. fieldName f text a ++ laid f t) f text field (readBind n (held text b)) fieldOf RecField (a .start) s l m₂ m p i (bound z)
-                        (λ t u q _. laid-field f (a .start) q name t ∙ ap (headed f RecField (a .start) q) (sym (append-assoc (laid f name) (markIn f (bytes ": ")) (laid f t))))
-                        (front (laid f) text (readBind n (held text b)) (fieldName f text a) (inside f s) q l l₂ m₂ p i w (by-meets f text (readBind n (held text b)) q l₂ m₂ p (j .meets (y .fits)))) (v .1);
-                    goes = goes-from text (b .end) p (j .goes) (a .end) (omega (arith, x .from, x .fits .1, y .from, y .fits .1));
-                  })
+  pub bound-short : (to : Spot) → (d .kind ≡ Colon → ⊥) → Placed l s (spelt f RecVariable (a .start) (a .end) (wordOf text a)) to m → Bound (Read (record { to = to; end = a .end; next = d }))
+  unfolding boundBy
+  bound-short to c w =
+      reads-read f text (Fits text a) (boundBy n (held text a) (held text d)) (a .end) s l m (leafAt RecVariable text a) (a .end) d to (omega arith)
+      (λ z. when-false (eqb (d .kind) Colon) _ _ (ne-eqb (d .kind) Colon c) ∙ read-to text (leafOf RecVariable (held text a)) (leafAt RecVariable text a) a z (held-leaf text a z RecVariable)) e
+      (placed-as l m (spelt f RecVariable (a .start) (a .end) (wordOf text a)) (laid f (leafAt RecVariable text a)) s to (sym (leaf-laid f text RecVariable a refl)) w)
+
+  module _ (c : d .kind ≡ Colon) where
+    abbrev colon : Next text (a .end) d
+    colon = next-found text (a .end) d e
+
+    pub bound-bad : (r : Refusal) → nextToken text (d .end) ≡ Bad r → Bound (Refused r)
+    unfolding boundBy
+    bound-bad r g =
+        reads-no f text (Fits text a) (boundBy n (held text a) (held text d)) (a .end) s l m r
+        (λ z. when-true (eqb (d .kind) Colon) _ _ (eq-eqb (d .kind) Colon c) ∙ look-refused text d (colon .fits) _ r g)
+
+    pub bound-bind : (b : Answer) → nextToken text (d .end) ≡ Found b → (r : Parsed) → Reads f text (Fits text b) (readBind n (held text b)) (b .end) s l r m → Bound r
+    unfolding boundBy
+    bound-bind b g r w =
+        let y = next-found text (d .end) b g in
+        reads-as f text (Fits text a) (Fits text b) (boundBy n (held text a) (held text d)) (readBind n (held text b)) (a .end) (b .end) s l m r
+        (omega (arith, colon .from, colon .fits .1, y .from, y .fits .1)) (λ _. y .fits)
+        (λ z. when-true (eqb (d .kind) Colon) _ _ (eq-eqb (d .kind) Colon c) ∙ look-found text d (colon .fits) _ b g) w

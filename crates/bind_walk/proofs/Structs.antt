@@ -1,9 +1,10 @@
 -- Structs and their fields: one law for each way through the code.
-use mathlib.Core.Path.{_≡_, ap, sym, _∙_, subst}
+use mathlib.Core.Path.{_≡_, refl, ap, sym, _∙_, subst}
+use mathlib.Core.Bool.{Bool, true, false, cond}
 use mathlib.Core.List.{List, _++_, append-assoc}
 use Prim.Native.Nat.{ℕ, _≤_}
 use native.Mathlib.Omega.{arith}
-use borrow.Author.Tests.{eq-eqb, ne-eqb}
+use borrow.Author.Tests.{eq-eqb, ne-eqb, eqb-true, eqb-false}
 use lib.Dec.{eqb}
 use lib.ListN.{length}
 use Rattle.classes.specs.Bytes.{bytes}
@@ -35,8 +36,9 @@ use Rattle.parts.proofs.Held.{Next, next-found}
 use Rattle.parts.proofs.Contracts.{reads-no, reads-had, reads-goes, reads-not, refuses-look}
 use Rattle.lists.specs.declared.Listed.{Listed}
 use Rattle.lists.specs.code.Lists.{ReadsAll}
-use Rattle.chains.proofs.Names.{when-true, when-false, token-refused}
-use Rattle.bind_walk.specs.code.Pieces.{fieldAt, angled, braced, partOf, endedBy, markedBy, headedBy, HadBy, ReadsBy}
+use Rattle.chains.specs.code.Parts.{Past, ReadsBehind}
+use Rattle.chains.proofs.Names.{when-true, when-false, token-refused, past-from}
+use Rattle.bind_walk.specs.code.Pieces.{fieldAt, angled, braced, partOf, endedBy, markedBy, headedBy, HadBy, ReadsBy, TypesBehind}
 use Rattle.bind_walk.proofs.Parted.{then-ok, had-by, had-not, goes-by, goes-from, list-part, front, marked, closed-by, by-as, by-refused}
 
 -- looking at the token that stands at a place
@@ -55,6 +57,20 @@ pub types-enclosed : (f : ℕ) (text : List ℕ) (n : ℕ) (o : Answer) (s q : S
 types-enclosed f text n o s q l l₂ m₂ m t p r h g d e w =
     let x = listBehind (readType n) Greater (held text o) in
     marked (laidItems f) text x f 62 (bytes "<") (Fits text o) (o .end) s q l l₂ m₂ m p r h g (list-part f text (Fits text o) x (o .end) q l₂ m₂ t d p e) (w .0) (w .1)
+
+-- a name inside a record
+pub name-at : (f : ℕ) (text : List ℕ) (a d : Answer) (x : Ans Tree) (s i : Spot) (l : List ℕ) (r : Parsed) (m : List ℕ) → i ≡ inside f s → ReadsBehind f text a d x i l r m → ReadsBehind f text a d x (inside f s) l r m
+name-at f text a d x s i l r m e w = subst (λ (z : Spot). ReadsBehind f text a d x z l r m) e w
+
+-- the types, or none
+module _ (f : ℕ) (text : List ℕ) (n : ℕ) (p : Part) (l : List ℕ) where
+  pub behind-none : (p .next .kind ≡ Less → ⊥) → TypesBehind f text n p l (Read p) l
+  unfolding Past
+  behind-none k = record { plain = λ _. (refl, refl); typed = λ h. absurd (k h); past = omega arith }
+
+  pub behind-types : (r : Parsed) (m : List ℕ) → p .next .kind ≡ Less
+      → ReadsBy (angled f) text (Fits text (p .next)) (listBehind (readType n) Greater (held text (p .next))) (p .next .end) (p .to) l r m → TypesBehind f text n p l r m
+  behind-types r m k d = record { plain = λ h. absurd (h k); typed = λ _. d; past = past-from text (p .next .end) r (d .goes) }
 
 module _ (f : ℕ) (text : List ℕ) (n : ℕ) where
   -- fields
@@ -117,7 +133,7 @@ module _ (f : ℕ) (text : List ℕ) (n : ℕ) where
           then-ok (chain (held text a)) (λ x u. structOver (readType n) (fieldAt n) (held text a) x u) (w .what) (opened text (p .end)) (w .is) ∙ look-at text (p .end) (p .next) _ (name-goes .1)
 
       -- no types
-      pub unpack-plain : length l ≤ last → i ≡ inside f s → (p .next .kind ≡ Less → ⊥) → (q r : Parsed) (m₂ m : List ℕ)
+      unpack-plain : length l ≤ last → i ≡ inside f s → (p .next .kind ≡ Less → ⊥) → (q r : Parsed) (m₂ m : List ℕ)
           → ReadsBy (braced f) text (Fits text (p .next)) (fields (readType n) (fieldAt n) (held text (p .next))) (p .next .end) (p .to) l₁ q m₂ → (r ≡ q) × (m ≡ headedBy f RecStruct (a .start) s q m₂) → Unpack r m
       unpack-plain h j k q r m₂ m g w =
           let y = fields (readType n) (fieldAt n) (held text (p .next)) in
@@ -141,7 +157,7 @@ module _ (f : ℕ) (text : List ℕ) (n : ℕ) where
         is-typed : (z : Fits text a) → struct ≡ typed (name-had z .what)
         is-typed z = is-named z ∙ when-true (eqb (p .next .kind) Less) _ _ (eq-eqb (p .next .kind) Less k)
 
-        pub unpack-untyped : (r : Refusal) → t ≡ Refused r → Unpack (Refused r) l₂
+        unpack-untyped : (r : Refusal) → t ≡ Refused r → Unpack (Refused r) l₂
         unpack-untyped r x =
             reads-no f text (Fits text a) struct (a .end) s l l₂ r (λ z. is-typed z ∙ refuses-look types r _ (had-not (angled f) text types (p .to) l₁ t l₂ (g .meets (here .fits)) r x))
 
@@ -173,7 +189,7 @@ module _ (f : ℕ) (text : List ℕ) (n : ℕ) where
               laid-struct-typed f (a .start) e y (types-had .what) fs (types-behind n Greater (held text (p .next)) (types-had .what) (opened text (q .end)) (types-had .is)) (fields-every (readType n) n _ (held text (q .next)) fs u o)
               ∙ ap (headed f RecStructTyped (a .start) e) (joins (laid f y) (markIn f (bytes "<")) (laidItems f (types-had .what)) (markIn f (bytes ">")) (braced f fs))
 
-          pub unpack-typed : length l ≤ last → i ≡ inside f s → (v r : Parsed) (m₂ m : List ℕ) → ReadsBy (braced f) text (Fits text (q .next)) rest (q .next .end) (q .to) l₂ v m₂
+          unpack-typed : length l ≤ last → i ≡ inside f s → (v r : Parsed) (m₂ m : List ℕ) → ReadsBy (braced f) text (Fits text (q .next)) rest (q .next .end) (q .to) l₂ v m₂
               → (r ≡ v) × (m ≡ headedBy f RecStructTyped (a .start) s v m₂) → Unpack r m
           unpack-typed h j v r m₂ m o w =
               subst (λ (x : Parsed). Unpack x m) (sym (w .0))
@@ -186,3 +202,34 @@ module _ (f : ℕ) (text : List ℕ) (n : ℕ) where
                     (front (braced f) text rest before (inside f s) (q .to) l l₂ m₂ v h (both-laid h j z) (o .meets (there .fits))) (w .1));
                 goes = goes-from text (q .next .end) v (o .goes) (a .end) (omega (arith, name-goes .0, here .from, here .fits .1, types-goes .0, there .from, there .fits .1));
               })
+
+      -- types or none
+      module _ (t : Parsed) (l₂ : List ℕ) (g : TypesBehind f text n p l₁ t l₂) where
+        pub unpack-bad : (r : Refusal) → t ≡ Refused r → Unpack (Refused r) l₂
+        unpack-bad r x = go (eqb (p .next .kind) Less) refl
+          where
+            go : (b : Bool) → eqb (p .next .kind) Less ≡ b → Unpack (Refused r) l₂
+            go true k = let y = eqb-true (p .next .kind) Less k in unpack-untyped y t l₂ (g .typed y) r x
+            go false k =
+                let y : Read p ≡ Refused r = sym (g .plain (eqb-false (p .next .kind) Less k) .0) ∙ x in
+                let z : _≡_ {A = ℕ} 0 1 = cc in
+                absurd (omega arith)
+
+        abbrev Fielded : Part → List ℕ → Parsed → List ℕ → Type 0
+        Fielded q k v m₂ = ReadsBy (braced f) text (Fits text (q .next)) (fields (readType n) (fieldAt n) (held text (q .next))) (q .next .end) (q .to) k v m₂
+
+        pub unpack-fields : length l ≤ last → i ≡ inside f s → (k : ℕ) → k ≡ cond (eqb (p .next .kind) Less) RecStructTyped RecStruct → (q : Part) → t ≡ Read q → (v r : Parsed) (m₂ m : List ℕ) → Fielded q l₂ v m₂
+            → (r ≡ v) × (m ≡ headedBy f k (a .start) s v m₂) → Unpack r m
+        unpack-fields h j k c q x v r m₂ m o w = go (eqb (p .next .kind) Less) refl
+          where
+            headed-as : (b : Bool) → eqb (p .next .kind) Less ≡ b → m ≡ headedBy f (cond b RecStructTyped RecStruct) (a .start) s v m₂
+            headed-as b e = w .1 ∙ ap (λ (z : ℕ). headedBy f z (a .start) s v m₂) (c ∙ ap (λ (z : Bool). cond z RecStructTyped RecStruct) e)
+
+            go : (b : Bool) → eqb (p .next .kind) Less ≡ b → Unpack r m
+            go true e = let y = eqb-true (p .next .kind) Less e in unpack-typed y t l₂ (g .typed y) q x h j v r m₂ m o (w .0, headed-as true e)
+            go false e =
+                let y = g .plain (eqb-false (p .next .kind) Less e) in
+                let z : Read p ≡ Read q = sym (y .0) ∙ x in
+                let u : p ≡ q = cc in
+                unpack-plain h j (eqb-false (p .next .kind) Less e) v r m₂ m
+                (subst (λ (b : Part). Fielded b l₁ v m₂) (sym u) (subst (λ (b : List ℕ). Fielded q b v m₂) (y .1) o)) (w .0, headed-as false e)

@@ -1,15 +1,20 @@
 // Bindings, their fields, and the two lists of bindings, laid down in the form that the caller asks for.
 ghost use mathlib.Core.Path.{_≡_};
-ghost use Rattle.words.specs.Kinds.{Greater, RBrace};
+ghost use mathlib.Core.Bool.{true, cond};
+ghost use lib.Dec.{eqb};
+ghost use Rattle.words.specs.Kinds.{Less, Greater, RBrace};
 ghost use Rattle.tokens.specs.Calls.{nextToken};
+ghost use Rattle.tokens.specs.declared.Lexed.the-variants.{Found};
+ghost use Rattle.records.specs.Kinds.{RecStruct, RecStructTyped};
 ghost use Rattle.answers.specs.Reading.{listBehind};
 ghost use Rattle.grammar.specs.Types.{readType};
+ghost use Rattle.grammar.specs.Names.{chain};
 ghost use Rattle.grammar.specs.Binds.{fields, unpacked, readBind, readBindList, readLambdaList};
-ghost use Rattle.forms.specs.Forms.{laid};
 ghost use Rattle.forms.specs.code.Spots.{inside, Placed};
 ghost use Rattle.parts.specs.code.Meets.{Fits, held, Reads};
-ghost use Rattle.lists.specs.code.Lists.{ReadsAll};
-ghost use Rattle.bind_walk.specs.code.Pieces.{structKind, openingOf, fieldAt, shortAt, fieldName, angled, braced, partOf, endedBy, markedBy, headedBy, ReadsBy};
+ghost use Rattle.lists.specs.code.Lists.{nextItem, Steps, ReadsAll};
+ghost use Rattle.chains.specs.code.Parts.{begins, ReadsBehind};
+ghost use Rattle.bind_walk.specs.code.Pieces.{structKind, variableKinds, fieldAt, boundBy, fieldName, angled, braced, partOf, endedBy, markedBy, headedBy, ReadsBy, TypesBehind};
 use forms::Spot;
 use lists::Listed;
 use lists::Step;
@@ -26,7 +31,6 @@ use records::kinds::REC_STRUCT;
 use records::kinds::REC_STRUCT_TYPED;
 use records::kinds::REC_VARIABLE;
 use tokens::Lexed;
-use tokens::Refusal;
 use tokens::Token;
 use words::kinds::COLON;
 use words::kinds::COLON_COLON;
@@ -37,13 +41,6 @@ use words::kinds::LESS;
 use words::kinds::PIPE;
 use words::kinds::R_BRACE;
 use words::kinds::R_PAREN;
-
-// What a binding is, by its first token and the one behind it.
-pub enum Start {
-    Variable(Token),
-    Struct,
-    Refused(Refusal),
-}
 
 // Whether a binding that begins with an identifier is a struct, by the kind of the token behind it.
 fn is_struct(kind: u8) -> bool
@@ -58,23 +55,24 @@ fn is_struct(kind: u8) -> bool
     kind == COLON_COLON
 }
 
-// What the binding that a begins is: a variable, and the token behind it, or a struct.
-fn bind_start(text: &[u8], a: Token) -> Start
-    ensures { λ r. ⌜ r ≡ openingOf (a .kind) (nextToken (now (text .entry)) (a .end)) ⌝ }
+// Whether a binding is a variable, by the kinds of its first token and of the one behind it.
+fn is_variable(first: u8, second: u8) -> bool
+    ensures { λ r. ⌜ r ≡ variableKinds first second ⌝ }
 {
-    if a.kind != IDENTIFIER {
-        return Start::Struct;
+    if first != IDENTIFIER {
+        return false;
     }
-    let l = tokens::next_token(text, a.end);
-    match l {
-        Lexed::Refused(r) => Start::Refused(r),
-        Lexed::Found(n) => {
-            if is_struct(n.kind) {
-                return Start::Struct;
-            }
-            Start::Variable(n)
-        }
+    !is_struct(second)
+}
+
+// The kind of a struct, by the kind of the token behind its name.
+fn struct_kind(kind: u8) -> usize
+    ensures { λ r. ⌜ r ≡ cond (eqb kind Less) RecStructTyped RecStruct ⌝ }
+{
+    if kind == LESS {
+        return REC_STRUCT_TYPED;
     }
+    REC_STRUCT
 }
 
 // A list, as a part of a record.
@@ -138,16 +136,6 @@ fn put_field_name(w: Way, text: &[u8], a: Token, out: &mut [u8], s: Spot) -> Spo
     forms::put_marks(w.form, b':', b' ', out, p)
 }
 
-// Lays down a field that binds its own name a.
-fn put_short(w: Way, text: &[u8], a: Token, out: &mut [u8], s: Spot) -> Spot
-    ensures { λ r. ⌜ Placed (now (out .entry)) s (laid (w .form) (shortAt (now (text .entry)) a)) r (now (out .exit)) ⌝ }
-{
-    let p = put_field_name(w, text, a, out, s);
-    let r = forms::put_leaf(w.form, REC_VARIABLE, text, a, out, p);
-    forms::seal(w.form, REC_FIELD, a.start, a.end, s, r, out);
-    r
-}
-
 // The types of a struct, between the `<` o and `>`.
 fn types_at(w: Way, text: &[u8], o: Token, out: &mut [u8], s: Spot) -> Parsed
     ensures { λ r. ⌜ ReadsBy (angled (w .form)) (now (text .entry)) (Fits (now (text .entry)) o) (listBehind (readType (w .left)) Greater (held (now (text .entry)) o)) (o .end) s (now (out .entry)) r (now (out .exit)) ⌝ }
@@ -157,52 +145,71 @@ fn types_at(w: Way, text: &[u8], o: Token, out: &mut [u8], s: Spot) -> Parsed
     end_part(w.form, b'>', part_of(l), out)
 }
 
+// The types of a struct behind its name, which is p: in `<` and `>`, or none.
+fn types_behind(w: Way, text: &[u8], p: Part, out: &mut [u8]) -> Parsed
+    ensures { λ r. ⌜ TypesBehind (w .form) (now (text .entry)) (w .left) p (now (out .entry)) r (now (out .exit)) ⌝ }
+{
+    if p.next.kind != LESS {
+        return Parsed::Read(p);
+    }
+    types_at(w, text, p.next, out, p.to)
+}
+
+// The name of the struct that starts at s, whose first token is a, and n the one behind it.
+fn name_inside(w: Way, text: &[u8], a: Token, n: Token, out: &mut [u8], s: Spot) -> Parsed
+    ensures { λ r. ⌜ ReadsBehind (w .form) (now (text .entry)) a n (chain (held (now (text .entry)) a)) (inside (w .form) s) (now (out .entry)) r (now (out .exit)) ⌝ }
+{
+    let i = forms::step_inside(w.form, s);
+    chains::name_behind(w, text, a, n, out, i)
+}
+
 // The binding whose first token is a; the levels that are left count its own.
 fn parse_bind(w: Way, text: &[u8], a: Token, out: &mut [u8], s: Spot) -> Parsed
     ensures { λ r. ⌜ Reads (w .form) (now (text .entry)) (Fits (now (text .entry)) a) (readBind (w .left) (held (now (text .entry)) a)) (a .end) s (now (out .entry)) r (now (out .exit)) ⌝ }
 {
     if w.left == 0 {
-        return type_walk::too_deep(a);
+        return parts::too_deep(a);
     }
     let deeper = Way {
         form: w.form,
         left: w.left - 1,
     };
-    let b = bind_start(text, a);
-    match b {
-        Start::Refused(r) => Parsed::Refused(r),
-        Start::Struct => unpack_at(deeper, text, a, out, s),
-        Start::Variable(n) => {
-            let to = forms::put_leaf(w.form, REC_VARIABLE, text, a, out, s);
-            Parsed::Read(Part {
-                to: to,
-                end: a.end,
-                next: n,
-            })
+    if !chains::is_first(a.kind) {
+        return parts::unexpected(a);
+    }
+    let l = tokens::next_token(text, a.end);
+    match l {
+        Lexed::Refused(r) => Parsed::Refused(r),
+        Lexed::Found(n) => {
+            if is_variable(a.kind, n.kind) {
+                let to = forms::put_leaf(w.form, REC_VARIABLE, text, a, out, s);
+                return Parsed::Read(Part {
+                    to: to,
+                    end: a.end,
+                    next: n,
+                });
+            }
+            unpack_at(deeper, text, a, n, out, s)
         }
     }
 }
 
-// The struct that the name at a begins, with its types, if any, and its fields. The levels that are left
-// count those of a type and of a field.
-fn unpack_at(w: Way, text: &[u8], a: Token, out: &mut [u8], s: Spot) -> Parsed
-    ensures { λ r. ⌜ Reads (w .form) (now (text .entry)) (Fits (now (text .entry)) a) (unpacked (readType (w .left)) (fieldAt (w .left)) (held (now (text .entry)) a)) (a .end) s (now (out .entry)) r (now (out .exit)) ⌝ }
+// The struct that the name at a begins, with its types, if any, and its fields; n is the token behind a. The
+// levels that are left count those of a type and of a field.
+fn unpack_at(w: Way, text: &[u8], a: Token, n: Token, out: &mut [u8], s: Spot) -> Parsed
+    ensures { λ r. ⌜ (nextToken (now (text .entry)) (a .end) ≡ Found n → begins a ≡ true → Reads (w .form) (now (text .entry)) (Fits (now (text .entry)) a) (unpacked (readType (w .left)) (fieldAt (w .left)) (held (now (text .entry)) a)) (a .end) s (now (out .entry)) r (now (out .exit))) ⌝ }
 {
-    let i = forms::step_inside(w.form, s);
-    let c = chains::parse_name_access_chain(w, text, a, out, i);
+    let c = name_inside(w, text, a, n, out, s);
     match c {
         Parsed::Refused(r) => Parsed::Refused(r),
         Parsed::Read(p) => {
-            if p.next.kind != LESS {
-                let f = fields_at(w, text, p.next, out, p.to);
-                return close_record(w.form, REC_STRUCT, a.start, f, out, s);
-            }
-            let t = types_at(w, text, p.next, out, p.to);
+            let kind = struct_kind(p.next.kind);
+            let t = types_behind(w, text, p, out);
             match t {
                 Parsed::Refused(r) => Parsed::Refused(r),
                 Parsed::Read(q) => {
                     let f = fields_at(w, text, q.next, out, q.to);
-                    close_record(w.form, REC_STRUCT_TYPED, a.start, f, out, s)
+                    close_record(w.form, kind, a.start, f, out, s)
                 }
             }
         }
@@ -229,32 +236,46 @@ fn field_list(w: Way, text: &[u8], o: Token, out: &mut [u8], s: Spot) -> Listed
     let mut to = forms::move_by(s, 0);
     let mut count = 0;
     loop {
-        let b = lists::next_item(R_BRACE, text, i);
-        match b {
-            Turn::Refused(r) => {
+        let c = field_step(w, text, o, i, count == 0, out, to);
+        match c {
+            Step::Refused(r) => {
                 return Listed::Refused(r);
             }
-            Turn::Closes(q) => {
+            Step::Closes(q) => {
                 return lists::close_list(text, q, count, to);
             }
-            Turn::Item(a) => {
-                let p = forms::put_between(w.form, count == 0, out, to);
-                let t = parse_bind_field(w, text, a, out, p);
-                let c = lists::after_item(R_BRACE, o, t);
-                match c {
-                    Step::Refused(r) => {
-                        return Listed::Refused(r);
-                    }
-                    Step::Last(e, q) => {
-                        return lists::close_list(text, q, lists::count_more(count), e);
-                    }
-                    Step::Goes(e, q) => {
-                        to = e;
-                        count = lists::count_more(count);
-                        i = q;
-                    }
-                }
+            Step::Last(e, q) => {
+                return lists::close_list(text, q, lists::count_more(count), e);
             }
+            Step::Goes(e, q) => {
+                to = e;
+                count = lists::count_more(count);
+                i = q;
+            }
+        }
+    }
+}
+
+// The next field of that list, if it does not close.
+fn field_step(
+    w: Way,
+    text: &[u8],
+    o: Token,
+    at: usize,
+    first: bool,
+    out: &mut [u8],
+    s: Spot,
+) -> Step
+    ensures { λ r. ⌜ Steps (w .form) (now (text .entry)) (fieldAt (w .left)) RBrace o first s (now (out .entry)) (nextItem RBrace (nextToken (now (text .entry)) at)) r (now (out .exit)) ⌝ }
+{
+    let b = lists::next_item(R_BRACE, text, at);
+    match b {
+        Turn::Refused(r) => Step::Refused(r),
+        Turn::Closes(q) => Step::Closes(q),
+        Turn::Item(a) => {
+            let p = forms::put_between(w.form, first, out, s);
+            let t = parse_bind_field(w, text, a, out, p);
+            lists::after_item(R_BRACE, o, t)
         }
     }
 }
@@ -264,7 +285,7 @@ fn parse_bind_field(w: Way, text: &[u8], a: Token, out: &mut [u8], s: Spot) -> P
     ensures { λ r. ⌜ Reads (w .form) (now (text .entry)) (Fits (now (text .entry)) a) (fieldAt (w .left) (held (now (text .entry)) a)) (a .end) s (now (out .entry)) r (now (out .exit)) ⌝ }
 {
     if w.left == 0 { // also where the field binds its own name
-        return type_walk::too_deep(a);
+        return parts::too_deep(a);
     }
     if a.kind != IDENTIFIER {
         return parts::unexpected(a);
@@ -273,24 +294,30 @@ fn parse_bind_field(w: Way, text: &[u8], a: Token, out: &mut [u8], s: Spot) -> P
     match l {
         Lexed::Refused(r) => Parsed::Refused(r),
         Lexed::Found(n) => {
-            if n.kind != COLON {
-                let to = put_short(w, text, a, out, s);
-                return Parsed::Read(Part {
-                    to: to,
-                    end: a.end,
-                    next: n,
-                });
-            }
-            let m = tokens::next_token(text, n.end);
-            match m {
-                Lexed::Refused(r) => Parsed::Refused(r),
-                Lexed::Found(b) => {
-                    let p = put_field_name(w, text, a, out, s);
-                    let f = parse_bind(w, text, b, out, p);
-                    close_record(w.form, REC_FIELD, a.start, f, out, s)
-                }
-            }
+            let p = put_field_name(w, text, a, out, s);
+            let f = field_bind(w, text, a, n, out, p);
+            close_record(w.form, REC_FIELD, a.start, f, out, s)
         }
+    }
+}
+
+// What the field named a binds, n being the token behind its name: behind `:` a binding, else a variable of
+// the same name.
+fn field_bind(w: Way, text: &[u8], a: Token, n: Token, out: &mut [u8], s: Spot) -> Parsed
+    ensures { λ r. ⌜ (nextToken (now (text .entry)) (a .end) ≡ Found n → Reads (w .form) (now (text .entry)) (Fits (now (text .entry)) a) (boundBy (w .left) (held (now (text .entry)) a) (held (now (text .entry)) n)) (a .end) s (now (out .entry)) r (now (out .exit))) ⌝ }
+{
+    if n.kind != COLON {
+        let to = forms::put_leaf(w.form, REC_VARIABLE, text, a, out, s);
+        return Parsed::Read(Part {
+            to: to,
+            end: a.end,
+            next: n,
+        });
+    }
+    let l = tokens::next_token(text, n.end);
+    match l {
+        Lexed::Refused(r) => Parsed::Refused(r),
+        Lexed::Found(b) => parse_bind(w, text, b, out, s),
     }
 }
 
@@ -303,32 +330,47 @@ fn bind_list(w: Way, close: u8, text: &[u8], o: Token, out: &mut [u8], s: Spot) 
     let mut to = forms::move_by(s, 0);
     let mut count = 0;
     loop {
-        let b = lists::next_item(close, text, i);
-        match b {
-            Turn::Refused(r) => {
+        let c = bind_step(w, close, text, o, i, count == 0, out, to);
+        match c {
+            Step::Refused(r) => {
                 return Listed::Refused(r);
             }
-            Turn::Closes(q) => {
+            Step::Closes(q) => {
                 return lists::close_list(text, q, count, to);
             }
-            Turn::Item(a) => {
-                let p = forms::put_between(w.form, count == 0, out, to);
-                let t = parse_bind(w, text, a, out, p);
-                let c = lists::after_item(close, o, t);
-                match c {
-                    Step::Refused(r) => {
-                        return Listed::Refused(r);
-                    }
-                    Step::Last(e, q) => {
-                        return lists::close_list(text, q, lists::count_more(count), e);
-                    }
-                    Step::Goes(e, q) => {
-                        to = e;
-                        count = lists::count_more(count);
-                        i = q;
-                    }
-                }
+            Step::Last(e, q) => {
+                return lists::close_list(text, q, lists::count_more(count), e);
             }
+            Step::Goes(e, q) => {
+                to = e;
+                count = lists::count_more(count);
+                i = q;
+            }
+        }
+    }
+}
+
+// The next binding of that list, if it does not close.
+fn bind_step(
+    w: Way,
+    close: u8,
+    text: &[u8],
+    o: Token,
+    at: usize,
+    first: bool,
+    out: &mut [u8],
+    s: Spot,
+) -> Step
+    ensures { λ r. ⌜ Steps (w .form) (now (text .entry)) (readBind (w .left)) close o first s (now (out .entry)) (nextItem close (nextToken (now (text .entry)) at)) r (now (out .exit)) ⌝ }
+{
+    let b = lists::next_item(close, text, at);
+    match b {
+        Turn::Refused(r) => Step::Refused(r),
+        Turn::Closes(q) => Step::Closes(q),
+        Turn::Item(a) => {
+            let p = forms::put_between(w.form, first, out, s);
+            let t = parse_bind(w, text, a, out, p);
+            lists::after_item(close, o, t)
         }
     }
 }

@@ -25,12 +25,13 @@ use Rattle.forms.specs.code.Spots.{last, inside, sealed, Placed, wordOf}
 use Rattle.forms.specs.declared.Spot.{Spot}
 use Rattle.forms.proofs.Placing.{placed-long, placed-as, placed-both, placed-headed}
 use Rattle.forms.proofs.Constructs.{laid-leaf, laid-two, laid-three, laid-pair}
+use Rattle.parts.specs.declared.Part.{Part}
 use Rattle.parts.specs.declared.Parsed.{Parsed}
 use Rattle.parts.specs.declared.Parsed.the-variants.{Read, Refused}
-use Rattle.parts.specs.code.Meets.{Fits, held, refusedToken, followedBy, Reads}
+use Rattle.parts.specs.code.Meets.{Fits, held, refusedToken, followedBy, Follows, Reads}
 use Rattle.parts.proofs.Held.{held-end, held-after, held-leaf, next-found, look-found, look-refused}
 use Rattle.parts.proofs.Contracts.{reads-no, reads-read, reads-finished, reads-as}
-use Rattle.chains.specs.code.Parts.{leafAt, firstAt, pairAt, threeAt, pairBytes, dueAt}
+use Rattle.chains.specs.code.Parts.{leafAt, firstAt, pairAt, threeAt, pairBytes, dueAt, begins, Past, ReadsBehind}
 
 -- a record over three pieces: two parts and a mark between them
 pub placed-parted : (f k st e : ℕ) (l m₁ m₂ m₃ m xs ys zs : List ℕ) (s i p q r : Spot) → length l ≤ last → i ≡ inside f s → Placed l i xs p m₁ → Placed m₁ p ys q m₂ → Placed m₂ q zs r m₃ → m ≡ sealed f k st e s r m₃
@@ -190,7 +191,7 @@ module _ (f : ℕ) (text : List ℕ) (s : Spot) (l m : List ℕ) where
       chain-bad r h = reads-no f text (Fits text a) (chain (held text a)) (a .end) s l m r (λ z. when-true first _ _ (sym g ∙ k) ∙ look-refused text a z _ r h)
 
       module _ (d : Answer) (h : nextToken text (a .end) ≡ Found d) where
-        pub chain-more : (r : Parsed) → d .kind ≡ ColonColon → Second a d r → Chain r
+        chain-more : (r : Parsed) → d .kind ≡ ColonColon → Second a d r → Chain r
         unfolding chain
         chain-more r j w =
             let n = next-found text (a .end) d h in
@@ -199,7 +200,7 @@ module _ (f : ℕ) (text : List ℕ) (s : Spot) (l m : List ℕ) where
             (λ z. when-true first _ _ (sym g ∙ k) ∙ look-found text a z _ d h ∙ when-true (eqb (d .kind) ColonColon) _ _ (eq-eqb (d .kind) ColonColon j)) w
 
         module _ (j : (d .kind ≡ ColonColon → ⊥)) where
-          pub chain-due : (r : Parsed) → (a .kind ≡ Identifier → ⊥) → r ≡ dueAt d a → Chain r
+          chain-due : (r : Parsed) → (a .kind ≡ Identifier → ⊥) → r ≡ dueAt d a → Chain r
           unfolding chain
           chain-due r i e =
               let n = next-found text (a .end) d h in
@@ -208,10 +209,37 @@ module _ (f : ℕ) (text : List ℕ) (s : Spot) (l m : List ℕ) where
               (λ z. when-true first _ _ (sym g ∙ k) ∙ look-found text a z _ d h ∙ when-false (eqb (d .kind) ColonColon) _ _ (ne-eqb (d .kind) ColonColon j)
               ∙ when-false (eqb (a .kind) Identifier) _ _ (ne-eqb (a .kind) Identifier i) ∙ rw (held-end text d (n .fits), held-end text a z)))
 
-          pub chain-one : (to : Spot) → a .kind ≡ Identifier → Placed l s (spelt f RecOnePart (a .start) (a .end) (wordOf text a)) to m → Chain (Read (record { to = to; end = a .end; next = d }))
+          chain-one : (to : Spot) → a .kind ≡ Identifier → Placed l s (spelt f RecOnePart (a .start) (a .end) (wordOf text a)) to m → Chain (Read (record { to = to; end = a .end; next = d }))
           unfolding chain
           chain-one to i w =
               reads-read f text (Fits text a) (chain (held text a)) (a .end) s l m (leafAt RecOnePart text a) (a .end) d to (omega arith)
               (λ z. when-true first _ _ (sym g ∙ k) ∙ look-found text a z _ d h ∙ when-false (eqb (d .kind) ColonColon) _ _ (ne-eqb (d .kind) ColonColon j)
               ∙ when-true (eqb (a .kind) Identifier) _ _ (eq-eqb (a .kind) Identifier i) ∙ read-to text _ (leafAt RecOnePart text a) a z (held-leaf text a z RecOnePart)) h
               (placed-as l m (spelt f RecOnePart (a .start) (a .end) (wordOf text a)) (laid f (leafAt RecOnePart text a)) s to (sym (leaf-laid f text RecOnePart a refl)) w)
+
+-- reading goes on behind a token
+pub past-from : (text : List ℕ) (e : ℕ) (r : Parsed) → Follows text e r → Past e r
+unfolding Follows Past
+past-from text e (Read p) z = let n = next-found text (p .end) (p .next) (z .1) in omega (arith, z .0, n .from, n .fits .1)
+past-from text e (Refused r) z = tt
+
+pub past-read : (e : ℕ) (r : Parsed) → Past e r → (p : Part) → r ≡ Read p → e ≤ p .next .end
+unfolding Past
+past-read e r h p g = subst (Past e) g h
+
+-- a name, by the token behind its first part
+module _ (f : ℕ) (text : List ℕ) (s : Spot) (l m : List ℕ) (a d : Answer) where
+  abbrev Behind : Parsed → Type 0
+  Behind r = ReadsBehind f text a d (chain (held text a)) s l r m
+
+  pub behind-more : (r : Parsed) → d .kind ≡ ColonColon → Second f text s l m a d r → Behind r
+  behind-more r j w = record { reads = λ h k. chain-more f text s l m a (begins a) refl k d h r j w; past = past-from text (d .end) r (w .goes) }
+
+  module _ (j : (d .kind ≡ ColonColon → ⊥)) where
+    pub behind-due : (r : Parsed) → (a .kind ≡ Identifier → ⊥) → r ≡ dueAt d a → Behind r
+    unfolding Past
+    behind-due r i e = record { reads = λ h k. chain-due f text s l m a (begins a) refl k d h j r i e; past = subst (Past (d .end)) (sym e) tt }
+
+    pub behind-one : (to : Spot) → a .kind ≡ Identifier → Placed l s (spelt f RecOnePart (a .start) (a .end) (wordOf text a)) to m → Behind (Read (record { to = to; end = a .end; next = d }))
+    unfolding Past
+    behind-one to i w = record { reads = λ h k. chain-one f text s l m a (begins a) refl k d h j to i w; past = omega arith }

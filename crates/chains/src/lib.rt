@@ -10,7 +10,7 @@ ghost use Rattle.grammar.specs.Values.{leafKind, addressValue, value};
 ghost use Rattle.forms.specs.Forms.{laid};
 ghost use Rattle.forms.specs.code.Spots.{Placed};
 ghost use Rattle.parts.specs.code.Meets.{Fits, held, refusedToken, Reads};
-ghost use Rattle.chains.specs.code.Parts.{pairBytes, threeAt, addressAt, dueAt};
+ghost use Rattle.chains.specs.code.Parts.{pairBytes, threeAt, addressAt, dueAt, ReadsBehind};
 use forms::Spot;
 use parts::Parsed;
 use parts::Part;
@@ -43,7 +43,7 @@ use words::kinds::NUM_VALUE;
 use words::kinds::TRUE;
 
 // Whether a name may begin with a token of this kind.
-fn is_first(kind: u8) -> bool
+pub fn is_first(kind: u8) -> bool
     ensures { λ r. ⌜ r ≡ (eqb kind Identifier || eqb kind NumValue) ⌝ }
 {
     if kind == IDENTIFIER {
@@ -157,6 +157,25 @@ fn second_part(w: Way, text: &[u8], a: Token, d: Token, out: &mut [u8], s: Spot)
     }
 }
 
+// The name whose first token is a, by the token d behind it. Who has read that token already, since it tells
+// what else begins with a name, does not read it again.
+pub fn name_behind(w: Way, text: &[u8], a: Token, d: Token, out: &mut [u8], s: Spot) -> Parsed
+    ensures { λ r. ⌜ ReadsBehind (w .form) (now (text .entry)) a d (chain (held (now (text .entry)) a)) s (now (out .entry)) r (now (out .exit)) ⌝ }
+{
+    if d.kind == COLON_COLON {
+        return second_part(w, text, a, d, out, s);
+    }
+    if a.kind != IDENTIFIER {
+        return colons_due(d, a);
+    }
+    let to = forms::put_leaf(w.form, REC_ONE_PART, text, a, out, s);
+    Parsed::Read(Part {
+        to: to,
+        end: a.end,
+        next: d,
+    })
+}
+
 // The name whose first token is a.
 pub fn parse_name_access_chain(w: Way, text: &[u8], a: Token, out: &mut [u8], s: Spot) -> Parsed
     ensures { λ r. ⌜ Reads (w .form) (now (text .entry)) (Fits (now (text .entry)) a) (chain (held (now (text .entry)) a)) (a .end) s (now (out .entry)) r (now (out .exit)) ⌝ }
@@ -167,20 +186,7 @@ pub fn parse_name_access_chain(w: Way, text: &[u8], a: Token, out: &mut [u8], s:
     let l = tokens::next_token(text, a.end);
     match l {
         Lexed::Refused(r) => Parsed::Refused(r),
-        Lexed::Found(d) => {
-            if d.kind == COLON_COLON {
-                return second_part(w, text, a, d, out, s);
-            }
-            if a.kind != IDENTIFIER {
-                return colons_due(d, a);
-            }
-            let to = forms::put_leaf(w.form, REC_ONE_PART, text, a, out, s);
-            Parsed::Read(Part {
-                to: to,
-                end: a.end,
-                next: d,
-            })
-        }
+        Lexed::Found(d) => name_behind(w, text, a, d, out, s),
     }
 }
 

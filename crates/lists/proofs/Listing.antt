@@ -31,7 +31,7 @@ use Rattle.parts.specs.declared.Parsed.{Parsed}
 use Rattle.parts.specs.declared.Parsed.the-variants.{Read, Refused as Wrong}
 use Rattle.parts.proofs.Held.{past-opened, held-after, Next, next-found, next-refused}
 use Rattle.parts.proofs.Contracts.{reads-had, reads-goes, reads-not, refuses-look}
-use Rattle.lists.specs.code.Lists.{endingAt, beforeItem, nextItem, behindItem, afterItem, countOf, oneMore, closedAt, MeetsAll, FollowsAll, ReadsAll}
+use Rattle.lists.specs.code.Lists.{endingAt, beforeItem, nextItem, behindItem, afterItem, Itemed, Steps, countOf, oneMore, closedAt, MeetsAll, FollowsAll, ReadsAll}
 use Rattle.lists.specs.declared.Listed.{Listed}
 use Rattle.lists.specs.declared.Listed.the-variants.{Refused as Broken}
 use Rattle.lists.specs.declared.Ending.{Ending}
@@ -39,7 +39,7 @@ use Rattle.lists.specs.declared.Ending.the-variants.{At, Not}
 use Rattle.lists.specs.declared.Turn.{Turn}
 use Rattle.lists.specs.declared.Turn.the-variants.{Item, Closes, Refused as Faulty}
 use Rattle.lists.specs.declared.Step.{Step}
-use Rattle.lists.specs.declared.Step.the-variants.{Goes, Last, Refused as Stopped}
+use Rattle.lists.specs.declared.Step.the-variants.{Goes, Last, Closes as Shut, Refused as Stopped}
 use Rattle.lists.proofs.Laying.{joined-behind, joined-none, joined-one, listed-behind, count-behind}
 
 -- a token of a text that closes a list, and one that does not
@@ -143,6 +143,7 @@ module _ (text : List ℕ) (item : Reader) (close : ℕ) (o : Answer) where
     Stepped : Step → Type 0
     Stepped (Goes e q) = Passed form x (goes-on q) from s l e q m × (from < q)
     Stepped (Last e q) = Passed form x (ended q) from s l e q m
+    Stepped (Shut q) = ⊥
     Stepped (Stopped r) = (f : ℕ) → rest f x ≡ no r
 
     module _ (what : Tree) (p : Part) (y : x ≡ ok what (opened text (p .end))) (z : Placed l s (laid form what) (p .to) m) (i : from ≤ p .end) (h : nextToken text (p .end) ≡ Found (p .next)) where
@@ -214,6 +215,27 @@ start-placed l m xs s s₀ r h e w =
       holds = w .holds ∙ ap (λ (x : Spot). sets l (x .pos) xs) e ∙ capped l xs (s .pos + 0) h ∙ ap (λ (x : ℕ). sets l x xs) (add-zero (s .pos));
     }
 
+-- a step, by what stands before the item
+module _ (form : ℕ) (text : List ℕ) (item : Reader) (close : ℕ) (o : Answer) (first : Bool) (s : Spot) (l : List ℕ) (b : Turn) where
+  pub steps-refused : (x : Refusal) → b ≡ Faulty x → Steps form text item close o first s l b (Stopped x) l
+  unfolding Steps
+  steps-refused x e = rw e (refl, refl)
+
+  pub steps-closes : (q : ℕ) → b ≡ Closes q → Steps form text item close o first s l b (Shut q) l
+  unfolding Steps
+  steps-closes q e = rw e (refl, refl)
+
+  pub steps-item : (a : Answer) (r : Step) (m : List ℕ) → b ≡ Item a → Itemed form text item close o first s l a r m → Steps form text item close o first s l b r m
+  unfolding Steps
+  steps-item a r m e d = rw e d
+
+-- whether a step took an item
+Took : Step → Type 0
+Took (Goes e q) = Unit {0}
+Took (Last e q) = Unit {0}
+Took (Shut q) = ⊥
+Took (Stopped r) = ⊥
+
 module _ (form : ℕ) (text : List ℕ) (item : Reader) (close : ℕ) (o : Answer) where
   abbrev whole : Ans Trees
   whole = listBehind item close (held text o)
@@ -270,13 +292,13 @@ module _ (form : ℕ) (text : List ℕ) (item : Reader) (close : ℕ) (o : Answe
       abbrev turn : Turn
       turn = nextItem close (nextToken text i)
 
-      pub list-refused : (r : Refusal) → turn ≡ Faulty r → ReadsAll form text (Fits text o) whole (o .end) s l₀ (Broken r) l
+      list-refused : (r : Refusal) → turn ≡ Faulty r → ReadsAll form text (Fits text o) whole (o .end) s l₀ (Broken r) l
       unfolding Turned then
       list-refused r e =
           let d = subst (Turned text item close o i) e (turned text item close o i) in
           stops-by l r (λ fit. g .is fit ∙ rw (d (fit .0) (g .within fit) (g .fuel)))
 
-      pub list-closes : (q : ℕ) (r : Listed) → turn ≡ Closes q → r ≡ closedAt q n to (nextToken text q) → ReadsAll form text (Fits text o) whole (o .end) s l₀ r l
+      list-closes : (q : ℕ) (r : Listed) → turn ≡ Closes q → r ≡ closedAt q n to (nextToken text q) → ReadsAll form text (Fits text o) whole (o .end) s l₀ r l
       unfolding Turned then
       list-closes q r e x =
           let d = subst (Turned text item close o i) e (turned text item close o i) in
@@ -313,14 +335,14 @@ module _ (form : ℕ) (text : List ℕ) (item : Reader) (close : ℕ) (o : Answe
         one-count : (x : Tree) (j : ℕ) → j ≡ oneMore n → j ≡ countOf (behind (g .seen) x)
         one-count x j c = c ∙ ap oneMore (g .counts) ∙ sym (count-behind (g .seen) x)
 
-        pub list-stopped : (r : Refusal) → afterItem close o t ≡ Stopped r → ReadsAll form text (Fits text o) whole (o .end) s l₀ (Broken r) m
+        list-stopped : (r : Refusal) → afterItem close o t ≡ Stopped r → ReadsAll form text (Fits text o) whole (o .end) s l₀ (Broken r) m
         unfolding Stepped then
         list-stopped r c =
             let d = subst Done c done in
             stops-by m r (λ fit. g .is fit ∙ rw (item-is (g .fuel) ∙ d (g .fuel)))
 
         module _ (v : Spot) (q j : ℕ) (b : j ≡ oneMore n) where
-          pub list-last : (r : Listed) → afterItem close o t ≡ Last v q → r ≡ closedAt q j v (nextToken text q) → ReadsAll form text (Fits text o) whole (o .end) s l₀ r m
+          list-last : (r : Listed) → afterItem close o t ≡ Last v q → r ≡ closedAt q j v (nextToken text q) → ReadsAll form text (Fits text o) whole (o .end) s l₀ r m
           unfolding Stepped then
           list-last r c x =
               let d = subst Done c done in
@@ -328,11 +350,11 @@ module _ (form : ℕ) (text : List ℕ) (item : Reader) (close : ℕ) (o : Answe
               (λ fit. g .is fit ∙ rw (item-is (g .fuel) ∙ d .is (g .fuel)) (ap (λ (ts : Trees). ok ts (opened text q)) (joined-one (g .seen) (d .what))))
               (one-count (d .what) j b) (one-more (d .what) v (d .bytes)) (omega (arith, g .after, item-here .from, item-here .fits .1, d .after)) (d .within) x
 
-          pub list-on : afterItem close o t ≡ Goes v q → (i < q) × (q ≤ length text)
+          list-on : afterItem close o t ≡ Goes v q → (i < q) × (q ≤ length text)
           unfolding Stepped
           list-on c = let d = subst Done c done in (omega (arith, item-here .from, item-here .fits .1, d .1), d .0 .within)
 
-          pub list-goes : afterItem close o t ≡ Goes v q → Going s₀ l₀ q v j m
+          list-goes : afterItem close o t ≡ Goes v q → Going s₀ l₀ q v j m
           unfolding Stepped
           list-goes c =
               let d = subst Done c done in
@@ -348,3 +370,70 @@ module _ (form : ℕ) (text : List ℕ) (item : Reader) (close : ℕ) (o : Answe
                 after = omega (arith, g .after, item-here .from, item-here .fits .1, d .1);
                 within = λ fit. d .0 .within;
               }
+
+      -- a step, by what it gives
+      module _ (c : Step) (m : List ℕ) where
+        abbrev Is : Turn → Type 0
+        Is b = Steps form text item close o (eqb n 0) to l b c m
+
+        pub step-stopped : (r : Refusal) → Is turn → c ≡ Stopped r → ReadsAll form text (Fits text o) whole (o .end) s l₀ (Broken r) m
+        unfolding Steps
+        step-stopped r d e = go turn refl d
+          where
+            go : (b : Turn) → turn ≡ b → Is b → ReadsAll form text (Fits text o) whole (o .end) s l₀ (Broken r) m
+            go (Item a) k w = list-stopped a k (w .from) (w .parted) (w .between) (w .part) m (w .reads) r (sym (w .is) ∙ e)
+            go (Closes q) k w = let x : Shut q ≡ Stopped r = sym (w .0) ∙ e in let y : _≡_ {A = ℕ} 0 1 = cc in absurd (omega arith)
+            go (Faulty x) k w =
+                let y : Stopped x ≡ Stopped r = sym (w .0) ∙ e in
+                let u : x ≡ r = cc in
+                subst (λ (v : List ℕ). ReadsAll form text (Fits text o) whole (o .end) s l₀ (Broken r) v) (sym (w .1)) (list-refused r (k ∙ ap Faulty u))
+
+        pub step-closes : (q : ℕ) (r : Listed) → Is turn → c ≡ Shut q → r ≡ closedAt q n to (nextToken text q) → ReadsAll form text (Fits text o) whole (o .end) s l₀ r m
+        unfolding Steps Stepped
+        step-closes q r d e x = go turn refl d
+          where
+            go : (b : Turn) → turn ≡ b → Is b → ReadsAll form text (Fits text o) whole (o .end) s l₀ r m
+            go (Item a) k w = absurd (subst (Done a k (w .from) (w .parted) (w .between) (w .part) m (w .reads)) (sym (w .is) ∙ e) (done a k (w .from) (w .parted) (w .between) (w .part) m (w .reads)))
+            go (Closes q₂) k w =
+                let y : Shut q₂ ≡ Shut q = sym (w .0) ∙ e in
+                let u : q₂ ≡ q = cc in
+                subst (λ (v : List ℕ). ReadsAll form text (Fits text o) whole (o .end) s l₀ r v) (sym (w .1)) (list-closes q r (k ∙ ap Closes u) x)
+            go (Faulty y) k w = let u : Stopped y ≡ Shut q = sym (w .0) ∙ e in let v : _≡_ {A = ℕ} 0 1 = cc in absurd (omega arith)
+
+        -- an item was read
+        record Had (v : Step) : Type 0 where
+          a : Answer
+          there : turn ≡ Item a
+          itemed : Itemed form text item close o (eqb n 0) to l a c m
+          same : afterItem close o (itemed .part) ≡ v
+
+        had : (v : Step) → Took v → Is turn → c ≡ v → Had v
+        unfolding Steps Took
+        had v t d e = go turn refl d
+          where
+            go : (b : Turn) → turn ≡ b → Is b → Had v
+            go (Item a) k w = record { a = a; there = k; itemed = w; same = sym (w .is) ∙ e }
+            go (Closes q) k w = absurd (subst Took (sym e ∙ w .0) t)
+            go (Faulty x) k w = absurd (subst Took (sym e ∙ w .0) t)
+
+        module _ (v : Spot) (q j : ℕ) (b : j ≡ oneMore n) (d : Is turn) where
+          pub step-last : (r : Listed) → c ≡ Last v q → r ≡ closedAt q j v (nextToken text q) → ReadsAll form text (Fits text o) whole (o .end) s l₀ r m
+          unfolding Took
+          step-last r e x =
+              let y = had (Last v q) tt d e in
+              let w = y .itemed in
+              list-last (y .a) (y .there) (w .from) (w .parted) (w .between) (w .part) m (w .reads) v q j b r (y .same) x
+
+          pub step-on : c ≡ Goes v q → (i < q) × (q ≤ length text)
+          unfolding Took
+          step-on e =
+              let y = had (Goes v q) tt d e in
+              let w = y .itemed in
+              list-on (y .a) (y .there) (w .from) (w .parted) (w .between) (w .part) m (w .reads) v q j b (y .same)
+
+          pub step-goes : c ≡ Goes v q → Going s₀ l₀ q v j m
+          unfolding Took
+          step-goes e =
+              let y = had (Goes v q) tt d e in
+              let w = y .itemed in
+              list-goes (y .a) (y .there) (w .from) (w .parted) (w .between) (w .part) m (w .reads) v q j b (y .same)

@@ -34,7 +34,7 @@ pub enum Listed {
 }
 
 // What a token says of a list: it closes the list, and where reading goes on; or it does not.
-pub enum Ending {
+enum Ending {
     At(usize),
     Not,
 }
@@ -46,11 +46,12 @@ pub enum Turn {
     Refused(Refusal),
 }
 
-// What stands behind an item whose bytes end at the place: a comma, and where reading goes on; or the list
-// closes, and where.
+// What a step of a list gives: an item whose bytes end at the place and a comma behind it, and where reading
+// goes on; an item behind which the list closes, and where; or no item, since the list closes.
 pub enum Step {
     Goes(Spot, usize),
     Last(Spot, usize),
+    Closes(usize),
     Refused(Refusal),
 }
 

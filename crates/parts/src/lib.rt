@@ -1,13 +1,14 @@
 // What the walk's functions take and answer. Every function of the walk is lent a text, the first token of
 // what it reads, a way, a buffer and a place in it, and lays down there what it reads.
 ghost use mathlib.Core.Path.{_≡_};
-ghost use Rattle.tokens.specs.Refusals.{UnexpectedToken};
+ghost use Rattle.tokens.specs.Refusals.{UnexpectedToken, TooDeep};
 ghost use Rattle.tokens.specs.Calls.{nextToken};
 ghost use Rattle.parts.specs.code.Meets.{refusedToken, followedBy};
 use forms::Spot;
 use tokens::Lexed;
 use tokens::Refusal;
 use tokens::Token;
+use tokens::refusals::TOO_DEEP;
 use tokens::refusals::UNEXPECTED_TOKEN;
 
 // The most levels.
@@ -36,6 +37,13 @@ pub fn unexpected(t: Token) -> Parsed
     ensures { λ r. ⌜ r ≡ refusedToken UnexpectedToken t ⌝ }
 {
     Parsed::Refused(tokens::refuse(UNEXPECTED_TOKEN, t.start, t.end))
+}
+
+// The refusal of the token t, at which the levels end.
+pub fn too_deep(t: Token) -> Parsed
+    ensures { λ r. ⌜ r ≡ refusedToken TooDeep t ⌝ }
+{
+    Parsed::Refused(tokens::refuse(TOO_DEEP, t.start, t.end))
 }
 
 // What ends at `end`, with its bytes up to `to`, and the token that follows it.

@@ -10,8 +10,8 @@ use lib.ListN.{length}
 use lib.Seq.{sets}
 use Rattle.classes.specs.Bytes.{bytes}
 use Rattle.classes.proofs.Bools.{false-true}
-use Rattle.words.specs.Kinds.{Amp, AmpMut, LParen, RParen, Less, Greater, Pipe}
-use Rattle.tokens.specs.Refusals.{TooDeep}
+use Rattle.words.specs.Kinds.{NumValue, Identifier, Amp, AmpMut, LParen, RParen, Less, Greater, Pipe}
+use Rattle.tokens.specs.Refusals.{UnexpectedToken, TooDeep}
 use Rattle.tokens.specs.Answers.{refusal}
 use Rattle.tokens.specs.Calls.{nextToken}
 use Rattle.tokens.specs.declared.Refusal.{Refusal}
@@ -40,7 +40,8 @@ use Rattle.lists.specs.declared.Listed.the-variants.{All, Refused as Broken}
 use Rattle.lists.specs.code.Lists.{countOf, HadAll, ReadsAll}
 use Rattle.lists.proofs.Laying.{bars-laid}
 use Rattle.lists.proofs.Contracts.{all-had, all-goes, all-not}
-use Rattle.chains.proofs.Names.{placed-parted, when-true, when-false, token-refused}
+use Rattle.chains.specs.code.Parts.{begins}
+use Rattle.chains.proofs.Names.{placed-parted, when-true, when-false, token-refused, chain-other, chain-bad}
 use Rattle.type_walk.specs.code.Types.{bracketsKind, Angled}
 
 -- what is read, by what its parts are
@@ -302,7 +303,7 @@ module _ (f : ℕ) (text : List ℕ) (item : Reader) (a : Answer) (s : Spot) (l 
             (omega (arith, on .0, after-name .from, after-name .fits .1, goes .0)) (goes .1)
 
 -- the kinds that begin a reference
-neither-left : (a b : Bool) → (a || b) ≡ false → a ≡ false
+pub neither-left : (a b : Bool) → (a || b) ≡ false → a ≡ false
 neither-left true b h = false-true _ (sym h)
 neither-left false b h = refl
 
@@ -364,38 +365,70 @@ module _ (item : Reader) (t : Token) where
             let y = sym (ap (λ (b : Bool). b || eqb (t .kind) AmpMut) h) ∙ e in
             over-ref-mut (eqb-false (t .kind) Amp h) (eqb-true (t .kind) AmpMut y) ∙ ap (λ (b : Bool). reference item (cond b RecRefMut RecRef) t) (sym y)
 
-module _ (f : ℕ) (text : List ℕ) (left : ℕ) (a : Answer) (s : Spot) (l m : List ℕ) (r : Parsed) where
+-- the kinds that begin a name
+begins-kind : (a : Answer) (P : ℕ → Type 0) → P Identifier → P NumValue → begins a ≡ true → P (a .kind)
+begins-kind a P x y e = go (eqb (a .kind) Identifier) refl
+  where
+    go : (b : Bool) → eqb (a .kind) Identifier ≡ b → P (a .kind)
+    go true d = subst P (sym (eqb-true (a .kind) Identifier d)) x
+    go false d = subst P (sym (eqb-true (a .kind) NumValue (sym (ap (λ (b : Bool). b || eqb (a .kind) NumValue) d) ∙ e))) y
+
+pub begins-some : (a : Answer) → begins a ≡ true → 0 < a .kind
+begins-some a e = begins-kind a (λ k. 0 < k) (omega arith) (omega arith) e
+
+module _ (f : ℕ) (text : List ℕ) (item : Reader) (a : Answer) (s : Spot) (l m : List ℕ) (r : Parsed) where
   abbrev Whole : Ans Tree → Type 0
   Whole x = Reads f text (Fits text a) x (a .end) s l r m
 
-  pub type-deep : left ≡ 0 → r ≡ refusedToken TooDeep a → Whole (readType left (held text a))
+  over-as : (x : Ans Tree) → typeOver item (held text a) ≡ x → Whole x → Whole (typeOver item (held text a))
+  over-as x e d = reads-as f text (Fits text a) (Fits text a) (typeOver item (held text a)) x (a .end) (a .end) s l m r (omega arith) (λ fit. fit) (λ fit. e) d
+
+  pub marked-brackets : a .kind ≡ LParen → Whole (brackets item (held text a)) → Whole (typeOver item (held text a))
+  marked-brackets e d = over-as (brackets item (held text a)) (over-brackets item (held text a) e) d
+
+  module _ (k₁ : (a .kind ≡ LParen → ⊥)) where
+    pub marked-reference : (x : Bool) → x ≡ (eqb (a .kind) Amp || eqb (a .kind) AmpMut) → x ≡ true
+        → Whole (reference item (cond (eqb (a .kind) AmpMut) RecRefMut RecRef) (held text a)) → Whole (typeOver item (held text a))
+    marked-reference x r e d =
+        over-as (reference item (cond (eqb (a .kind) AmpMut) RecRefMut RecRef) (held text a)) (over-reference item (held text a) k₁ (sym r ∙ e)) d
+
+    module _ (k₂ : (a .kind ≡ Amp → ⊥)) (k₃ : (a .kind ≡ AmpMut → ⊥)) where
+      pub marked-function : a .kind ≡ Pipe → Whole (function item (held text a)) → Whole (typeOver item (held text a))
+      marked-function e d = over-as (function item (held text a)) (over-function item (held text a) k₁ k₂ k₃ e) d
+
+      pub marked-other : (a .kind ≡ Pipe → ⊥) → begins a ≡ false → r ≡ refusedToken UnexpectedToken a → Whole (typeOver item (held text a))
+      marked-other e b d =
+          over-as (named item (held text a)) (over-named item (held text a) k₁ k₂ k₃ e)
+          (subst (λ (y : Parsed). Reads f text (Fits text a) (named item (held text a)) (a .end) s l y m) (sym d)
+          (named-refused f text item a s l s m r (chain-other f text s l m a (begins a) r refl b d) _ d))
+
+  -- a name begins it
+  module _ (b : begins a ≡ true) where
+    pub begun-named : Whole (named item (held text a)) → Whole (typeOver item (held text a))
+    begun-named d =
+        over-as (named item (held text a))
+        (begins-kind a (λ k. (k ≡ a .kind → typeOver item (held text a) ≡ named item (held text a)))
+        (λ q. over-named item (held text a) (λ w. absurd (omega (arith, q, w))) (λ w. absurd (omega (arith, q, w))) (λ w. absurd (omega (arith, q, w))) (λ w. absurd (omega (arith, q, w))))
+        (λ q. over-named item (held text a) (λ w. absurd (omega (arith, q, w))) (λ w. absurd (omega (arith, q, w))) (λ w. absurd (omega (arith, q, w))) (λ w. absurd (omega (arith, q, w))))
+        b refl) d
+
+pub begun-bad : (f : ℕ) (text : List ℕ) (item : Reader) (a : Answer) (s : Spot) (l m : List ℕ) (r : Refusal) → begins a ≡ true → nextToken text (a .end) ≡ Bad r
+    → Reads f text (Fits text a) (typeOver item (held text a)) (a .end) s l (Refused r) m
+begun-bad f text item a s l m r b h =
+    begun-named f text item a s l m (Refused r) b (named-refused f text item a s l s m (Refused r) (chain-bad f text s l m a (begins a) refl b r h) r refl)
+
+module _ (f : ℕ) (text : List ℕ) (left : ℕ) (a : Answer) (s : Spot) (l m : List ℕ) (r : Parsed) where
+  abbrev Levelled : Ans Tree → Type 0
+  Levelled x = Reads f text (Fits text a) x (a .end) s l r m
+
+  pub type-deep : left ≡ 0 → r ≡ refusedToken TooDeep a → Levelled (readType left (held text a))
   unfolding readType
   type-deep h e =
       subst (λ (y : Parsed). Reads f text (Fits text a) (readType left (held text a)) (a .end) s l y m) (sym e)
       (reads-no f text (Fits text a) (readType left (held text a)) (a .end) s l m (refusal TooDeep (a .start) (a .end)) (λ fit. rw h (ap no (token-refused text TooDeep a fit))))
 
-  module _ (h : 0 < left) where
-    level : readType left (held text a) ≡ typeOver (readType (left - 1)) (held text a)
-    unfolding readType
-    level = let e : left ≡ suc (left - 1) = omega (arith, h) in ap (λ (n : ℕ). readType n (held text a)) e
-
-    whole-as : (x : Ans Tree) → typeOver (readType (left - 1)) (held text a) ≡ x → Whole x → Whole (readType left (held text a))
-    whole-as x e d = reads-as f text (Fits text a) (Fits text a) (readType left (held text a)) x (a .end) (a .end) s l m r (omega arith) (λ fit. fit) (λ fit. level ∙ e) d
-
-    pub type-brackets : a .kind ≡ LParen → Whole (brackets (readType (left - 1)) (held text a)) → Whole (readType left (held text a))
-    type-brackets e d = whole-as (brackets (readType (left - 1)) (held text a)) (over-brackets (readType (left - 1)) (held text a) e) d
-
-    module _ (k₁ : (a .kind ≡ LParen → ⊥)) where
-      pub type-reference : (x : Bool) → x ≡ (eqb (a .kind) Amp || eqb (a .kind) AmpMut) → x ≡ true
-          → Whole (reference (readType (left - 1)) (cond (eqb (a .kind) AmpMut) RecRefMut RecRef) (held text a)) → Whole (readType left (held text a))
-      type-reference x r e d =
-          whole-as (reference (readType (left - 1)) (cond (eqb (a .kind) AmpMut) RecRefMut RecRef) (held text a))
-          (over-reference (readType (left - 1)) (held text a) k₁ (sym r ∙ e)) d
-
-      module _ (k₂ : (a .kind ≡ Amp → ⊥)) where
-        module _ (k₃ : (a .kind ≡ AmpMut → ⊥)) where
-          pub type-function : a .kind ≡ Pipe → Whole (function (readType (left - 1)) (held text a)) → Whole (readType left (held text a))
-          type-function e d = whole-as (function (readType (left - 1)) (held text a)) (over-function (readType (left - 1)) (held text a) k₁ k₂ k₃ e) d
-
-          pub type-named : (a .kind ≡ Pipe → ⊥) → Whole (named (readType (left - 1)) (held text a)) → Whole (readType left (held text a))
-          type-named e d = whole-as (named (readType (left - 1)) (held text a)) (over-named (readType (left - 1)) (held text a) k₁ k₂ k₃ e) d
+  pub type-over : 0 < left → Levelled (typeOver (readType (left - 1)) (held text a)) → Levelled (readType left (held text a))
+  unfolding readType
+  type-over h d =
+      let e : left ≡ suc (left - 1) = omega (arith, h) in
+      reads-as f text (Fits text a) (Fits text a) (readType left (held text a)) (typeOver (readType (left - 1)) (held text a)) (a .end) (a .end) s l m r (omega arith) (λ fit. fit) (λ fit. ap (λ (n : ℕ). readType n (held text a)) e) d

@@ -1,14 +1,16 @@
 // Types and lists of types, laid down in the form that the caller asks for.
 ghost use mathlib.Core.Path.{_≡_};
-ghost use mathlib.Core.Bool.{cond, _||_};
+ghost use mathlib.Core.Bool.{true, false, cond, _||_};
 ghost use lib.Dec.{eqb};
 ghost use Rattle.words.specs.Kinds.{Amp, AmpMut, Greater};
-ghost use Rattle.tokens.specs.Refusals.{TooDeep};
+ghost use Rattle.tokens.specs.Calls.{nextToken};
+ghost use Rattle.tokens.specs.declared.Lexed.the-variants.{Found};
 ghost use Rattle.records.specs.Kinds.{RecRef, RecRefMut};
 ghost use Rattle.answers.specs.Reading.{listBehind};
-ghost use Rattle.grammar.specs.Types.{brackets, reference, function, named, readType};
-ghost use Rattle.parts.specs.code.Meets.{Fits, held, refusedToken, Reads};
-ghost use Rattle.lists.specs.code.Lists.{ReadsAll};
+ghost use Rattle.grammar.specs.Types.{brackets, reference, function, named, typeOver, readType};
+ghost use Rattle.parts.specs.code.Meets.{Fits, held, Reads};
+ghost use Rattle.lists.specs.code.Lists.{nextItem, Itemed, Steps, ReadsAll};
+ghost use Rattle.chains.specs.code.Parts.{begins};
 ghost use Rattle.type_walk.specs.code.Types.{Angled, bracketsKind};
 use forms::Spot;
 use lists::Listed;
@@ -26,7 +28,6 @@ use records::kinds::REC_TYPE;
 use records::kinds::REC_UNIT;
 use tokens::Lexed;
 use tokens::Token;
-use tokens::refusals::TOO_DEEP;
 use words::kinds::AMP;
 use words::kinds::AMP_MUT;
 use words::kinds::GREATER;
@@ -35,11 +36,11 @@ use words::kinds::LESS;
 use words::kinds::PIPE;
 use words::kinds::R_PAREN;
 
-// The refusal of the token t, at which the levels end.
-pub fn too_deep(t: Token) -> Parsed
-    ensures { λ r. ⌜ r ≡ refusedToken TooDeep t ⌝ }
+// The token behind t. A function of its own, so that the room for the answer is free again when the type is read.
+fn behind(text: &[u8], t: Token) -> Lexed
+    ensures { λ r. ⌜ r ≡ nextToken (now (text .entry)) (t .end) ⌝ }
 {
-    Parsed::Refused(tokens::refuse(TOO_DEEP, t.start, t.end))
+    tokens::next_token(text, t.end)
 }
 
 // Whether a reference begins with a token of this kind.
@@ -93,22 +94,36 @@ pub fn parse_type(w: Way, text: &[u8], a: Token, out: &mut [u8], s: Spot) -> Par
     ensures { λ r. ⌜ Reads (w .form) (now (text .entry)) (Fits (now (text .entry)) a) (readType (w .left) (held (now (text .entry)) a)) (a .end) s (now (out .entry)) r (now (out .exit)) ⌝ }
 {
     if w.left == 0 {
-        return too_deep(a);
+        return parts::too_deep(a);
     }
     let deeper = Way {
         form: w.form,
         left: w.left - 1,
     };
+    if !chains::is_first(a.kind) {
+        return marked_at(deeper, text, a, out, s);
+    }
+    let l = behind(text, a);
+    match l {
+        Lexed::Refused(r) => Parsed::Refused(r),
+        Lexed::Found(n) => named_at(deeper, text, a, n, out, s),
+    }
+}
+
+// The type that a begins, which begins no name.
+fn marked_at(w: Way, text: &[u8], a: Token, out: &mut [u8], s: Spot) -> Parsed
+    ensures { λ r. ⌜ (begins a ≡ false → Reads (w .form) (now (text .entry)) (Fits (now (text .entry)) a) (typeOver (readType (w .left)) (held (now (text .entry)) a)) (a .end) s (now (out .entry)) r (now (out .exit))) ⌝ }
+{
     if a.kind == L_PAREN {
-        return brackets_at(deeper, text, a, out, s);
+        return brackets_at(w, text, a, out, s);
     }
     if is_reference(a.kind) {
-        return reference_at(deeper, a.kind == AMP_MUT, text, a, out, s);
+        return reference_at(w, a.kind == AMP_MUT, text, a, out, s);
     }
     if a.kind == PIPE {
-        return function_at(deeper, text, a, out, s);
+        return function_at(w, text, a, out, s);
     }
-    named_at(deeper, text, a, out, s)
+    parts::unexpected(a)
 }
 
 // The brackets that a opens round none, one or more types.
@@ -188,12 +203,12 @@ fn function_at(w: Way, text: &[u8], a: Token, out: &mut [u8], s: Spot) -> Parsed
     }
 }
 
-// The type that the name at a begins, with its arguments.
-fn named_at(w: Way, text: &[u8], a: Token, out: &mut [u8], s: Spot) -> Parsed
-    ensures { λ r. ⌜ Reads (w .form) (now (text .entry)) (Fits (now (text .entry)) a) (named (readType (w .left)) (held (now (text .entry)) a)) (a .end) s (now (out .entry)) r (now (out .exit)) ⌝ }
+// The type that the name at a begins, with its arguments; n is the token behind a.
+fn named_at(w: Way, text: &[u8], a: Token, n: Token, out: &mut [u8], s: Spot) -> Parsed
+    ensures { λ r. ⌜ (nextToken (now (text .entry)) (a .end) ≡ Found n → begins a ≡ true → Reads (w .form) (now (text .entry)) (Fits (now (text .entry)) a) (named (readType (w .left)) (held (now (text .entry)) a)) (a .end) s (now (out .entry)) r (now (out .exit))) ⌝ }
 {
     let i = forms::step_inside(w.form, s);
-    let c = chains::parse_name_access_chain(w, text, a, out, i);
+    let c = chains::name_behind(w, text, a, n, out, i);
     match c {
         Parsed::Refused(r) => Parsed::Refused(r),
         Parsed::Read(p) => {
@@ -205,13 +220,13 @@ fn named_at(w: Way, text: &[u8], a: Token, out: &mut [u8], s: Spot) -> Parsed
             let l = type_list(w, GREATER, text, p.next, out, j);
             match l {
                 Listed::Refused(r) => Parsed::Refused(r),
-                Listed::All(n) => {
-                    let next = n.next;
-                    let to = close_angles(w.form, n.count == 0, out, p.to, n.to);
-                    forms::seal(w.form, REC_TYPE, a.start, n.end, s, to, out);
+                Listed::All(m) => {
+                    let next = m.next;
+                    let to = close_angles(w.form, m.count == 0, out, p.to, m.to);
+                    forms::seal(w.form, REC_TYPE, a.start, m.end, s, to, out);
                     Parsed::Read(Part {
                         to: to,
-                        end: n.end,
+                        end: m.end,
                         next: next,
                     })
                 }
@@ -229,34 +244,63 @@ fn type_list(w: Way, close: u8, text: &[u8], o: Token, out: &mut [u8], s: Spot) 
     let mut to = forms::move_by(s, 0);
     let mut count = 0;
     loop {
-        let b = lists::next_item(close, text, i);
-        match b {
-            Turn::Refused(r) => {
+        let c = type_step(w, close, text, o, i, count == 0, out, to);
+        match c {
+            Step::Refused(r) => {
                 return Listed::Refused(r);
             }
-            Turn::Closes(q) => {
+            Step::Closes(q) => {
                 return lists::close_list(text, q, count, to);
             }
-            Turn::Item(a) => {
-                let p = forms::put_between(w.form, count == 0, out, to);
-                let t = parse_type(w, text, a, out, p);
-                let c = lists::after_item(close, o, t);
-                match c {
-                    Step::Refused(r) => {
-                        return Listed::Refused(r);
-                    }
-                    Step::Last(e, q) => {
-                        return lists::close_list(text, q, lists::count_more(count), e);
-                    }
-                    Step::Goes(e, q) => {
-                        to = e;
-                        count = lists::count_more(count);
-                        i = q;
-                    }
-                }
+            Step::Last(e, q) => {
+                return lists::close_list(text, q, lists::count_more(count), e);
+            }
+            Step::Goes(e, q) => {
+                to = e;
+                count = lists::count_more(count);
+                i = q;
             }
         }
     }
+}
+
+// The next type of that list, if it does not close.
+fn type_step(
+    w: Way,
+    close: u8,
+    text: &[u8],
+    o: Token,
+    at: usize,
+    first: bool,
+    out: &mut [u8],
+    s: Spot,
+) -> Step
+    ensures { λ r. ⌜ Steps (w .form) (now (text .entry)) (readType (w .left)) close o first s (now (out .entry)) (nextItem close (nextToken (now (text .entry)) at)) r (now (out .exit)) ⌝ }
+{
+    let b = lists::next_item(close, text, at);
+    match b {
+        Turn::Refused(r) => Step::Refused(r),
+        Turn::Closes(q) => Step::Closes(q),
+        Turn::Item(a) => type_item(w, close, text, o, a, first, out, s),
+    }
+}
+
+// The type of that list whose first token is a, and what stands behind it.
+fn type_item(
+    w: Way,
+    close: u8,
+    text: &[u8],
+    o: Token,
+    a: Token,
+    first: bool,
+    out: &mut [u8],
+    s: Spot,
+) -> Step
+    ensures { λ r. ⌜ Itemed (w .form) (now (text .entry)) (readType (w .left)) close o first s (now (out .entry)) a r (now (out .exit)) ⌝ }
+{
+    let p = forms::put_between(w.form, first, out, s);
+    let t = parse_type(w, text, a, out, p);
+    lists::after_item(close, o, t)
 }
 
 // The type arguments behind the `<` o, up to `>`, or to the first byte of `>>`: the items alone, without the

@@ -67,6 +67,6 @@ pub const LONGEST: usize = 65_535;
 /// The most levels of an item.
 pub const LEVELS: usize = 64;
 
-/// Bytes of stack that are enough for any call: what was measured and at least a tenth more, as
+/// Bytes of stack that are enough for any call: what was measured and at least a twentieth more, as
 /// `MOVESIG_STACK` of `movesig.h`. It is measured, not proved.
-pub const STACK: usize = 73_728;
+pub const STACK: usize = 49_152;

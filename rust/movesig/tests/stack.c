@@ -1,5 +1,5 @@
 /* How much stack the calls take: on nests of 64 levels and more, of each construct, and on random nests of
- * all of them. MOVESIG_STACK is held to it: at least a tenth more than what is measured, and at most four
+ * all of them. MOVESIG_STACK is held to it: at least a twentieth more than what is measured, and at most four
  * tenths. The stack of a thread is painted, and what is no longer paint was used. Then all is asked again in
  * threads that have MOVESIG_STACK bytes beside their own: below them lies a page that nobody may touch.
  *
@@ -205,8 +205,8 @@ int main(int count, char **words)
     size = STACK;
     measure_all(rounds);
     before = accepted;
-    if (MOVESIG_STACK < most + most / 10 || MOVESIG_STACK > most + 4 * (most / 10)) {
-        printf("MOVESIG_STACK should be between %lu and %lu\n", (unsigned long)(most + most / 10),
+    if (MOVESIG_STACK < most + most / 20 || MOVESIG_STACK > most + 4 * (most / 10)) {
+        printf("MOVESIG_STACK should be between %lu and %lu\n", (unsigned long)(most + most / 20),
                (unsigned long)(most + 4 * (most / 10)));
         return 1;
     }

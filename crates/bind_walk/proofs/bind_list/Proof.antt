@@ -1,10 +1,10 @@
-use mathlib.Core.Path.{sym, _∙_}
+use mathlib.Core.Path.{_∙_}
 use native.Mathlib.Omega.{arith}
 use Prim.Native.Nat.{_-_}
 use lib.ListN.{length}
 use Rattle.grammar.specs.Binds.{readBind}
 use Rattle.forms.proofs.Placing.{placed-long}
-use Rattle.lists.proofs.Listing.{Going, going-first, list-refused, list-closes, list-stopped, list-last, list-on, list-goes}
+use Rattle.lists.proofs.Listing.{Going, going-first, step-stopped, step-closes, step-last, step-on, step-goes}
 use borrow.Author.Needs.{needs}
 use Rattle.bind_walk.proofs.bind_list.Statement.{statement}
 use Rattle.bind_walk.proofs.bind_list.Tie as tie
@@ -19,88 +19,59 @@ loop-holds : tie.Need-loop-holds Inv-loop μ-loop
 loop-holds c = going-first _ _ _ _ _ _ _ (c .move-by .ensures) _ (omega (arith, c .before .before .before .good .1 .1 .1 .1 .0 .0))
 
 same-length : tie.Need-same-length Inv-loop μ-loop
-same-length c = placed-long _ _ _ _ _ (c .before .before .before .before .loop .inv .bytes)
+same-length c =
+    let c₁ = c .before .before .before .before .before in
+    c₁ .bind-step .kept .1 .1 .1 .1 .1 .1 .0 ∙ placed-long _ _ _ _ _ (c₁ .before .before .loop .inv .bytes)
 
 returns : tie.Need-returns Inv-loop μ-loop
 returns c =
     let c₁ = c .before .before .before .before .before in
-    let at = c .before .before .before .before .loop .inv in
-    let turn = sym (c .before .before .before .next-item .ensures) ∙ c .before .b .given .1 in
-    list-refused _ _ _ _ _ _ _ (c₁ .move-by .ensures) _ (omega (arith, c₁ .before .before .before .good .1 .1 .1 .1 .0 .0)) _ _ _ _ at _ turn
+    let c₂ = c₁ .before .before .before .before .before .before in
+    step-stopped _ _ _ _ _ _ _ (c₁ .before .before .before .move-by .ensures) _ (omega (arith, c₂ .good .1 .1 .1 .1 .0 .0)) _ _ _ _ (c₁ .before .before .loop .inv) _ _ _ (c₁ .bind-step .ensures) (c .before .c .given .1)
 
 same-length-2 : tie.Need-same-length-2 Inv-loop μ-loop
-same-length-2 c = placed-long _ _ _ _ _ (c .before .before .before .before .before .loop .inv .bytes)
+same-length-2 c =
+    let c₁ = c .before .before .before .before .before .before in
+    c₁ .bind-step .kept .1 .1 .1 .1 .1 .1 .0 ∙ placed-long _ _ _ _ _ (c₁ .before .before .loop .inv .bytes)
 
 returns-2 : tie.Need-returns-2 Inv-loop μ-loop
 returns-2 c =
-    let c₁ = c .before .before .before .before .before in
-    let at = c₁ .loop .inv in
-    let turn = sym (c .before .before .before .before .next-item .ensures) ∙ c .before .before .b2 .given .1 in
-    list-closes _ _ _ _ _ _ _ (c₁ .before .move-by .ensures) _ (omega (arith, c₁ .before .before .before .before .good .1 .1 .1 .1 .0 .0)) _ _ _ _ at _ _ turn (c .close-list .ensures)
+    let c₁ = c .before .before .before .before .before .before in
+    let c₂ = c₁ .before .before .before .before .before .before in
+    step-closes _ _ _ _ _ _ _ (c₁ .before .before .before .move-by .ensures) _ (omega (arith, c₂ .good .1 .1 .1 .1 .0 .0)) _ _ _ _ (c₁ .before .before .loop .inv) _ _ _ _ (c₁ .bind-step .ensures)
+    (c .before .before .c2 .given .1) (c .close-list .ensures)
 
 same-length-3 : tie.Need-same-length-3 Inv-loop μ-loop
 same-length-3 c =
-    let c₁ = c .before .before .before .before .before .before in
-    let c₂ = c₁ .before .before .before .before .before .before .before .before .before .before in
-    c₁ .parse-bind .kept .1 .1 .1 .0 ∙ c₁ .before .before .before .before .put-between .kept .1 .1 .0 ∙ placed-long _ _ _ _ _ (c₂ .loop .inv .bytes)
+    let c₁ = c .before .before .before .before .before .before .before in
+    c₁ .bind-step .kept .1 .1 .1 .1 .1 .1 .0 ∙ placed-long _ _ _ _ _ (c₁ .before .before .loop .inv .bytes)
 
 returns-3 : tie.Need-returns-3 Inv-loop μ-loop
 returns-3 c =
-    let c₁ = c .before .before .before .before .before .before in
-    let c₂ = c₁ .before .before .before .before .before .before .before in
-    let c₃ = c₂ .before .before .before .before .before .before .before in
-    let at = c₂ .before .before .before .loop .inv in
-    let turn = sym (c₂ .before .before .next-item .ensures) ∙ c₂ .b3 .given .1 in
-    let step = sym (c .before .before .before .after-item .ensures) ∙ c .before .c .given .1 in
-    list-stopped _ _ _ _ _ _ _ (c₂ .before .before .before .before .move-by .ensures) _ (omega (arith, c₃ .good .1 .1 .1 .1 .0 .0)) _ _ _ _ at _ turn _ _ (c₁ .before .before .before .before .put-between .ensures) _ _
-    (c₁ .parse-bind .ensures) _ step
-
-same-length-4 : tie.Need-same-length-4 Inv-loop μ-loop
-same-length-4 c =
-    let c₁ = c .before .before .before .before .before .before .before .before in
-    let c₂ = c₁ .before .before .before .before .before .before .before .before .before .before in
-    c₁ .parse-bind .kept .1 .1 .1 .0 ∙ c₁ .before .before .before .before .put-between .kept .1 .1 .0 ∙ placed-long _ _ _ _ _ (c₂ .loop .inv .bytes)
-
-returns-4 : tie.Need-returns-4 Inv-loop μ-loop
-returns-4 c =
-    let c₁ = c .before .before .before .before .before in
-    let c₂ = c₁ .before .before .before .before .before .before .before in
-    let c₃ = c₂ .before .before .before .before .before in
-    let c₄ = c₃ .before .before .before .before .before in
-    let at = c₃ .before .loop .inv in
-    let turn = sym (c₃ .next-item .ensures) ∙ c₂ .before .before .before .b3 .given .1 in
-    let step = sym (c₁ .after-item .ensures) ∙ c .before .before .before .c2 .given .1 in
-    list-last _ _ _ _ _ _ _ (c₃ .before .before .move-by .ensures) _ (omega (arith, c₄ .good .1 .1 .1 .1 .0 .0)) _ _ _ _ at _ turn _ _ (c₂ .put-between .ensures) _ _
-    (c₁ .before .before .before .parse-bind .ensures) _ _ _ (c .before .count-more .ensures) _ step (c .close-list2 .ensures)
+    let c₁ = c .before .before .before .before .before .before .before in
+    let c₂ = c₁ .before .before .before .before .before .before in
+    step-last _ _ _ _ _ _ _ (c₁ .before .before .before .move-by .ensures) _ (omega (arith, c₂ .good .1 .1 .1 .1 .0 .0)) _ _ _ _ (c₁ .before .before .loop .inv) _ _ _ _ _ (c .before .count-more .ensures)
+    (c₁ .bind-step .ensures) _ (c .before .before .before .c3 .given .1) (c .close-list2 .ensures)
 
 loop-less : tie.Need-loop-less Inv-loop μ-loop
 loop-less c =
-    let c₁ = c .before .before .before .before .before .before .before in
-    let c₂ = c₁ .before .before .before .before .before .before .before in
-    let c₃ = c₂ .before .before .before .before .before .before .before in
-    let at = c₂ .before .before .before .loop .inv in
-    let turn = sym (c₂ .before .before .next-item .ensures) ∙ c₂ .b3 .given .1 in
-    let step = sym (c .before .before .before .before .after-item .ensures) ∙ c .before .before .c3 .given .1 in
-    let d = list-on _ _ _ _ _ _ _ (c₂ .before .before .before .before .move-by .ensures) _ (omega (arith, c₃ .good .1 .1 .1 .1 .0 .0)) _ _ _ _ at _ turn _ _ (c₁ .before .before .before .before .put-between .ensures) _ _
-    (c₁ .parse-bind .ensures) _ _ _ (c .count-more2 .ensures) step in
+    let c₁ = c .before .before .before .before .before .before in
+    let c₂ = c₁ .before .before .before .before .before .before in
+    let d = step-on _ _ _ _ _ _ _ (c₁ .before .before .before .move-by .ensures) _ (omega (arith, c₂ .good .1 .1 .1 .1 .0 .0)) _ _ _ _ (c₁ .before .before .loop .inv) _ _ _ _ _ (c .count-more2 .ensures)
+    (c₁ .bind-step .ensures) (c .before .before .c4 .given .1) in
     omega (arith, d .0, d .1)
 
 loop-again : tie.Need-loop-again Inv-loop μ-loop
 loop-again c =
-    let c₁ = c .before .before .before .before .before .before .before in
-    let c₂ = c₁ .before .before .before .before .before .before .before in
-    let c₃ = c₂ .before .before .before .before .before .before .before in
-    let at = c₂ .before .before .before .loop .inv in
-    let turn = sym (c₂ .before .before .next-item .ensures) ∙ c₂ .b3 .given .1 in
-    let step = sym (c .before .before .before .before .after-item .ensures) ∙ c .before .before .c3 .given .1 in
-    list-goes _ _ _ _ _ _ _ (c₂ .before .before .before .before .move-by .ensures) _ (omega (arith, c₃ .good .1 .1 .1 .1 .0 .0)) _ _ _ _ at _ turn _ _ (c₁ .before .before .before .before .put-between .ensures) _ _
-    (c₁ .parse-bind .ensures) _ _ _ (c .count-more2 .ensures) step
+    let c₁ = c .before .before .before .before .before .before in
+    let c₂ = c₁ .before .before .before .before .before .before in
+    step-goes _ _ _ _ _ _ _ (c₁ .before .before .before .move-by .ensures) _ (omega (arith, c₂ .good .1 .1 .1 .1 .0 .0)) _ _ _ _ (c₁ .before .before .loop .inv) _ _ _ _ _ (c .count-more2 .ensures)
+    (c₁ .bind-step .ensures) (c .before .before .c4 .given .1)
 
 pub bind-list-spec : {M : Type 1} → statement M
 bind-list-spec =
     tie.close
     (tie.spec
-    Inv-loop μ-loop
-    (λ c κs. search needs) loop-holds (λ c κs. search needs) (λ c. search needs) same-length returns (λ c. search needs) (λ c κs. search needs) same-length-2 returns-2
-    (λ c. search needs) (λ c κs. search needs) (λ c κs. search needs) (λ c κs. search needs) (λ c. search needs) same-length-3 returns-3 (λ c. search needs)
-    (λ c κs. search needs) (λ c κs. search needs) same-length-4 returns-4 (λ c. search needs) (λ c κs. search needs) loop-less loop-again)
+    Inv-loop μ-loop (λ c κs. search needs) loop-holds (λ c κs. search needs) (λ c. search needs) same-length returns (λ c. search needs)
+    (λ c κs. search needs) same-length-2 returns-2 (λ c. search needs) (λ c κs. search needs) (λ c κs. search needs) same-length-3 returns-3
+    (λ c. search needs) (λ c κs. search needs) loop-less loop-again)

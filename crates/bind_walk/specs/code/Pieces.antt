@@ -1,20 +1,19 @@
 -- Pieces of bindings as they are laid down, and what a function answers that reads a part of a binding.
 use Prim.Native.Nat.{ℕ}
 use mathlib.Core.Path.{_≡_}
-use mathlib.Core.Bool.{Bool, cond, _||_}
+use mathlib.Core.Bool.{Bool, false, cond, not, _||_}
 use mathlib.Core.List.{List, [], _∷_, _++_}
 use lib.Dec.{eqb}
 use lib.ListN.{length}
 use lib.Seq.{sets}
 use Rattle.classes.specs.Bytes.{bytes}
-use Rattle.words.specs.Kinds.{Identifier, ColonColon, Less, LBrace}
+use Rattle.words.specs.Kinds.{Identifier, Colon, ColonColon, Less, Greater, LBrace}
 use Rattle.tokens.specs.declared.Token.{Token}
-use Rattle.tokens.specs.declared.Lexed.{Lexed}
-use Rattle.tokens.specs.declared.Lexed.the-variants.{Found, Refused as Bad}
-use Rattle.records.specs.Kinds.{RecName, RecVariable, RecField}
-use Rattle.records.specs.Tree.{Tree, node, Trees, none, more}
-use Rattle.sources.specs.Source.{opened}
-use Rattle.answers.specs.Reading.{Ans, ok, Reader}
+use Rattle.records.specs.Kinds.{RecName, RecVariable}
+use Rattle.records.specs.Tree.{Tree, Trees}
+use Rattle.sources.specs.Source.{opened, Token as Lexeme, after, lex}
+use Rattle.answers.specs.Reading.{Ans, ok, look, when, leafOf, Reader, listBehind}
+use Rattle.grammar.specs.Types.{readType}
 use Rattle.grammar.specs.Binds.{readField, readBind}
 use Rattle.forms.specs.Forms.{markIn, laid, laidItems}
 use Rattle.forms.specs.code.Spots.{movedBy, sealed, Placed}
@@ -22,32 +21,26 @@ use Rattle.forms.specs.declared.Spot.{Spot}
 use Rattle.parts.specs.declared.Part.{Part}
 use Rattle.parts.specs.declared.Parsed.{Parsed}
 use Rattle.parts.specs.declared.Parsed.the-variants.{Read, Refused}
-use Rattle.parts.specs.code.Meets.{Refuses, Follows}
-use Rattle.chains.specs.code.Parts.{leafAt}
+use Rattle.parts.specs.code.Meets.{Fits, held, Refuses, Follows}
+use Rattle.chains.specs.code.Parts.{leafAt, Past}
 use Rattle.lists.specs.declared.Listed.{Listed}
 use Rattle.lists.specs.declared.Listed.the-variants.{All, Refused as Broken}
-use Rattle.bind_walk.specs.declared.Start.{Start}
-use Rattle.bind_walk.specs.declared.Start.the-variants.{Variable, Struct, Refused as Faulty}
 
 -- the kind of the token behind an identifier: the binding is no variable
 abbrev pub structKind : ℕ → Bool
 structKind k = eqb k LBrace || eqb k Less || eqb k ColonColon
 
--- what a binding is, by the token behind an identifier, and by its first token's kind
-unfoldable pub startBy : Lexed → Start
-startBy (Found n) = cond (structKind (n .kind)) Struct (Variable n)
-startBy (Bad r) = Faulty r
-
-abbrev pub openingOf : ℕ → Lexed → Start
-openingOf k l = cond (eqb k Identifier) (startBy l) Struct
+-- a binding is a variable, by the kinds of its first token and of the one behind it
+abbrev pub variableKinds : ℕ → ℕ → Bool
+variableKinds a n = cond (eqb a Identifier) (not (structKind n)) false
 
 -- the reader of a field where n levels are left
 abbrev pub fieldAt : ℕ → Reader
 fieldAt n = readField n (readBind n)
 
--- a field that binds its own name a
-abbrev pub shortAt : List ℕ → Token → Tree
-shortAt text a = node RecField (a .start) (a .end) (more (leafAt RecName text a) (more (leafAt RecVariable text a) none))
+-- what a field named a binds, by the token t behind its name: behind `:` a binding, else a variable of the same name
+unfoldable pub boundBy : ℕ → Lexeme → Lexeme → Ans Tree
+boundBy n a t = when (eqb (t .kind) Colon) (λ _. look (lex (after t)) (readBind n)) λ _. ok (leafOf RecVariable a) (after a)
 
 -- the name of a field, and what stands behind it
 abbrev pub fieldName : ℕ → List ℕ → Token → List ℕ
@@ -95,3 +88,9 @@ MeetsBy lay text x s l (Refused r) m = Refuses x r
 pub record ReadsBy {A : Type 0} (lay : A → List ℕ) (text : List ℕ) (fits : Type 0) (x : Ans A) (from : ℕ) (s : Spot) (l : List ℕ) (r : Parsed) (m : List ℕ) : Type 0 where
   pub meets : (fits → MeetsBy lay text x s l r m)
   pub goes : Follows text from r
+
+-- the types of a struct behind its name p: none where no `<` stands there; and, whatever stands there, reading does not go on before it
+pub record TypesBehind (f : ℕ) (text : List ℕ) (n : ℕ) (p : Part) (l : List ℕ) (r : Parsed) (m : List ℕ) : Type 0 where
+  pub plain : ((p .next .kind ≡ Less → ⊥) → (r ≡ Read p) × (m ≡ l))
+  pub typed : (p .next .kind ≡ Less → ReadsBy (angled f) text (Fits text (p .next)) (listBehind (readType n) Greater (held text (p .next))) (p .next .end) (p .to) l r m)
+  pub past : Past (p .next .end) r

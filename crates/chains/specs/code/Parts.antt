@@ -1,19 +1,25 @@
 -- The parts of a name by their tokens, and what they make.
-use Prim.Native.Nat.{ℕ}
-use mathlib.Core.Bool.{cond}
+use Prim.Native.Nat.{ℕ, _≤_}
+use mathlib.Core.Path.{_≡_}
+use mathlib.Core.Bool.{Bool, true, cond, _||_}
 use mathlib.Core.List.{List, _++_}
 use lib.Dec.{eqb}
 use Rattle.classes.specs.Bytes.{bytes}
-use Rattle.words.specs.Kinds.{Identifier}
+use Rattle.words.specs.Kinds.{Identifier, NumValue}
 use Rattle.tokens.specs.Refusals.{UnexpectedToken}
 use Rattle.tokens.specs.Answers.{place}
+use Rattle.tokens.specs.Calls.{nextToken}
 use Rattle.tokens.specs.declared.Token.{Token}
+use Rattle.tokens.specs.declared.Lexed.the-variants.{Found}
 use Rattle.records.specs.Kinds.{RecName, RecAddress, RecThreePart, RecPair, RecAddressValue}
 use Rattle.records.specs.Tree.{Tree, leaf, node, none, more}
+use Rattle.answers.specs.Reading.{Ans}
 use Rattle.forms.specs.Forms.{markIn, laid, headed}
 use Rattle.forms.specs.code.Spots.{wordOf}
+use Rattle.forms.specs.declared.Spot.{Spot}
 use Rattle.parts.specs.declared.Parsed.{Parsed}
-use Rattle.parts.specs.declared.Parsed.the-variants.{Refused}
+use Rattle.parts.specs.declared.Parsed.the-variants.{Read, Refused}
+use Rattle.parts.specs.code.Meets.{Fits, Reads}
 
 abbrev pub leafAt : ℕ → List ℕ → Token → Tree
 leafAt c text a = leaf c (a .start) (a .end) (wordOf text a)
@@ -37,3 +43,18 @@ pairBytes f k text a b = headed f k (a .start) (b .end) (laid f (firstAt text a)
 -- `::` was due at n, behind the number a
 abbrev pub dueAt : Token → Token → Parsed
 dueAt n a = Refused (record { number = UnexpectedToken; place = place (n .start) (n .end); second = place (a .start) (a .end) })
+
+-- whether a name may begin with this token
+abbrev pub begins : Token → Bool
+begins a = eqb (a .kind) Identifier || eqb (a .kind) NumValue
+
+-- the token behind what was read ends at e or later
+unfoldable pub Past : ℕ → Parsed → Type 0
+Past e (Read p) = e ≤ p .next .end
+Past e (Refused r) = Unit {0}
+
+-- a contract, as `Reads`, of a function that is given the token d behind its first one: where d is that token and a name may begin with
+-- a the answer is what x says; and, whatever they are, reading does not go on before the end of d
+pub record ReadsBehind (form : ℕ) (text : List ℕ) (a d : Token) (x : Ans Tree) (s : Spot) (l : List ℕ) (r : Parsed) (m : List ℕ) : Type 0 where
+  pub reads : (nextToken text (a .end) ≡ Found d → begins a ≡ true → Reads form text (Fits text a) x (a .end) s l r m)
+  pub past : Past (d .end) r

@@ -1,9 +1,10 @@
 -- What the functions of lists answer; and what a function that reads a list answers for what `list` says, and what it lays down.
 use Prim.Native.Nat.{ℕ, _+_, _≤_, min}
 use mathlib.Core.Path.{_≡_}
-use mathlib.Core.Bool.{cond, _&&_}
-use mathlib.Core.List.{List}
+use mathlib.Core.Bool.{Bool, cond, _&&_}
+use mathlib.Core.List.{List, []}
 use lib.Dec.{eqb}
+use Rattle.classes.specs.Bytes.{bytes}
 use Rattle.words.specs.Kinds.{Comma, Greater, GreaterGreater}
 use Rattle.tokens.specs.Refusals.{CommaForItem, ListNotClosed}
 use Rattle.tokens.specs.Answers.{place, refusal}
@@ -14,11 +15,11 @@ use Rattle.tokens.specs.declared.Lexed.{Lexed}
 use Rattle.tokens.specs.declared.Lexed.the-variants.{Found, Refused as Bad}
 use Rattle.records.specs.Tree.{Trees, none, more}
 use Rattle.sources.specs.Source.{opened}
-use Rattle.answers.specs.Reading.{Ans, ok}
-use Rattle.forms.specs.Forms.{laidItems}
+use Rattle.answers.specs.Reading.{Ans, ok, Reader}
+use Rattle.forms.specs.Forms.{markIn, laidItems}
 use Rattle.forms.specs.code.Spots.{Placed}
 use Rattle.forms.specs.declared.Spot.{Spot}
-use Rattle.parts.specs.code.Meets.{Refuses}
+use Rattle.parts.specs.code.Meets.{Fits, held, Refuses, Reads}
 use Rattle.parts.specs.declared.Parsed.{Parsed}
 use Rattle.parts.specs.declared.Parsed.the-variants.{Read, Refused as Wrong}
 use Rattle.lists.specs.declared.Items.{Items}
@@ -29,7 +30,7 @@ use Rattle.lists.specs.declared.Ending.the-variants.{At, Not}
 use Rattle.lists.specs.declared.Turn.{Turn}
 use Rattle.lists.specs.declared.Turn.the-variants.{Item, Closes, Refused as Faulty}
 use Rattle.lists.specs.declared.Step.{Step}
-use Rattle.lists.specs.declared.Step.the-variants.{Goes, Last, Refused as Stopped}
+use Rattle.lists.specs.declared.Step.the-variants.{Goes, Last, Closes as Shut, Refused as Stopped}
 
 -- whether a token closes a list, and where reading goes on: behind it, or behind the first byte of `>>`
 unfoldable pub endingAt : ℕ → Answer → Ending
@@ -55,6 +56,23 @@ behindItem o s t Not = cond (eqb (t .kind) Comma) (Goes s (t .end)) (Stopped (no
 unfoldable pub afterItem : ℕ → Answer → Parsed → Step
 afterItem close o (Read p) = behindItem o (p .to) (p .next) (endingAt close (p .next))
 afterItem close o (Wrong r) = Stopped r
+
+-- a step of the list of such items that o opens, in the buffer l from the place s on
+module _ (form : ℕ) (text : List ℕ) (item : Reader) (close : ℕ) (o : Answer) (first : Bool) (s : Spot) (l : List ℕ) where
+  -- the item a, laid down behind what parts it from the one before it; the step is what the token behind it says
+  pub record Itemed (a : Answer) (r : Step) (m : List ℕ) : Type 0 where
+    pub from : Spot
+    pub parted : List ℕ
+    pub between : Placed l s (cond first [] (markIn form (bytes ", "))) from parted
+    pub part : Parsed
+    pub reads : Reads form text (Fits text a) (item (held text a)) (a .end) from parted part m
+    pub is : r ≡ afterItem close o part
+
+  -- by what stands before the item
+  unfoldable pub Steps : Turn → Step → List ℕ → Type 0
+  Steps (Item a) r m = Itemed a r m
+  Steps (Closes q) r m = (r ≡ Shut q) × (m ≡ l)
+  Steps (Faulty x) r m = (r ≡ Stopped x) × (m ≡ l)
 
 -- how many items: none, one, or more, which is 2; and one more of them
 unfoldable pub countOf : Trees → ℕ

@@ -7,14 +7,14 @@ use Rattle.type_walk.proofs.Types.{function-refused, result-refused, fu
 use borrow.Author.Needs.{needs}
 use Prim.Native.Nat.{ℕ}
 use Rattle.type_walk.proofs.function_at.Reads as function-at
-use Rattle.type_walk.proofs.+brackets_at+function_at+named_at+parse_type+reference_at+type_list.Lts-function_at as lts
+use Rattle.type_walk.proofs.+brackets_at+function_at+marked_at+named_at+parse_type+reference_at+type_item+type_list+type_step.Lts-function_at as lts
 use Rattle.type_walk.proofs.parse_type.Reads as parse-type
 use Rattle.type_walk.proofs.type_list.Reads as type-list
 use Rattle.forms.proofs.close_bars.Reads as close-bars-reads
 use Rattle.forms.proofs.put_mark.Reads as put-mark-reads
 use Rattle.forms.proofs.seal.Reads as seal-reads
 use Rattle.forms.proofs.step_inside.Reads as step-inside-reads
-use Rattle.type_walk.proofs.+brackets_at+function_at+named_at+parse_type+reference_at+type_list.Proof.Common.{function-at-at, parse-type-below, type-list-below}
+use Rattle.type_walk.proofs.+brackets_at+function_at+marked_at+named_at+parse_type+reference_at+type_item+type_list+type_step.Proof.Common.{function-at-at, parse-type-below, type-list-below}
 
 abbrev pub claims : ℕ → lts.Claims
 claims t = (step-inside-reads.Asked, step-inside-reads.Learnt, put-mark-reads.Asked, put-mark-reads.Learnt, type-list-below t, type-list.Post, close-bars-reads.Asked, close-bars-reads.Learnt, parse-type-below t, parse-type.Post, seal-reads.Asked, seal-reads.Learnt)

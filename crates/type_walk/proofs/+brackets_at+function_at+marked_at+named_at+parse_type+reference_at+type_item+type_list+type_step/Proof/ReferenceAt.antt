@@ -6,14 +6,14 @@ use Rattle.type_walk.proofs.Types.{reference-bad, reference-refused, re
 use borrow.Author.Needs.{needs}
 use Prim.Native.Nat.{ℕ}
 use Rattle.type_walk.proofs.reference_at.Reads as reference-at
-use Rattle.type_walk.proofs.+brackets_at+function_at+named_at+parse_type+reference_at+type_list.Lts-reference_at as lts
+use Rattle.type_walk.proofs.+brackets_at+function_at+marked_at+named_at+parse_type+reference_at+type_item+type_list+type_step.Lts-reference_at as lts
 use Rattle.type_walk.proofs.parse_type.Reads as parse-type
 use Rattle.forms.proofs.put_reference.Reads as put-reference-reads
 use Rattle.forms.proofs.seal.Reads as seal-reads
 use Rattle.forms.proofs.step_inside.Reads as step-inside-reads
 use Rattle.tokens.proofs.next_token.Reads as next-token-reads
 use Rattle.type_walk.proofs.reference_kind.Reads as reference-kind-reads
-use Rattle.type_walk.proofs.+brackets_at+function_at+named_at+parse_type+reference_at+type_list.Proof.Common.{reference-at-at, parse-type-below}
+use Rattle.type_walk.proofs.+brackets_at+function_at+marked_at+named_at+parse_type+reference_at+type_item+type_list+type_step.Proof.Common.{reference-at-at, parse-type-below}
 
 abbrev pub claims : ℕ → lts.Claims
 claims t = (next-token-reads.Asked, next-token-reads.Learnt, step-inside-reads.Asked, step-inside-reads.Learnt, put-reference-reads.Asked, put-reference-reads.Learnt, parse-type-below t, parse-type.Post, reference-kind-reads.Asked, reference-kind-reads.Learnt, seal-reads.Asked, seal-reads.Learnt)

@@ -5,13 +5,13 @@ use Rattle.bind_walk.proofs.Structs.{fields-other, fields-enclosed}
 use borrow.Author.Needs.{needs}
 use Prim.Native.Nat.{ℕ}
 use Rattle.bind_walk.proofs.fields_at.Reads as fields-at
-use Rattle.bind_walk.proofs.+field_list+fields_at+parse_bind+parse_bind_field+unpack_at.Lts-fields_at as lts
+use Rattle.bind_walk.proofs.+field_bind+field_list+field_step+fields_at+parse_bind+parse_bind_field+unpack_at.Lts-fields_at as lts
 use Rattle.bind_walk.proofs.field_list.Reads as field-list
 use Rattle.bind_walk.proofs.end_part.Reads as end-part-reads
 use Rattle.bind_walk.proofs.part_of.Reads as part-of-reads
 use Rattle.forms.proofs.put_marks.Reads as put-marks-reads
 use Rattle.parts.proofs.unexpected.Reads as unexpected-reads
-use Rattle.bind_walk.proofs.+field_list+fields_at+parse_bind+parse_bind_field+unpack_at.Proof.Common.{fields-at-at, field-list-below}
+use Rattle.bind_walk.proofs.+field_bind+field_list+field_step+fields_at+parse_bind+parse_bind_field+unpack_at.Proof.Common.{fields-at-at, field-list-below}
 
 abbrev pub claims : ℕ → lts.Claims
 claims t = (unexpected-reads.Asked, unexpected-reads.Learnt, put-marks-reads.Asked, put-marks-reads.Learnt, field-list-below t, field-list.Post, part-of-reads.Asked, part-of-reads.Learnt, end-part-reads.Asked, end-part-reads.Learnt)

@@ -4,13 +4,13 @@ use Rattle.type_walk.proofs.Types.{brackets-refused, brackets-read}
 use borrow.Author.Needs.{needs}
 use Prim.Native.Nat.{ℕ}
 use Rattle.type_walk.proofs.brackets_at.Reads as brackets-at
-use Rattle.type_walk.proofs.+brackets_at+function_at+named_at+parse_type+reference_at+type_list.Lts-brackets_at as lts
+use Rattle.type_walk.proofs.+brackets_at+function_at+marked_at+named_at+parse_type+reference_at+type_item+type_list+type_step.Lts-brackets_at as lts
 use Rattle.type_walk.proofs.type_list.Reads as type-list
 use Rattle.forms.proofs.put_mark.Reads as put-mark-reads
 use Rattle.forms.proofs.seal.Reads as seal-reads
 use Rattle.forms.proofs.step_inside.Reads as step-inside-reads
 use Rattle.type_walk.proofs.brackets_kind.Reads as brackets-kind-reads
-use Rattle.type_walk.proofs.+brackets_at+function_at+named_at+parse_type+reference_at+type_list.Proof.Common.{brackets-at-at, type-list-below}
+use Rattle.type_walk.proofs.+brackets_at+function_at+marked_at+named_at+parse_type+reference_at+type_item+type_list+type_step.Proof.Common.{brackets-at-at, type-list-below}
 
 abbrev pub claims : ℕ → lts.Claims
 claims t = (step-inside-reads.Asked, step-inside-reads.Learnt, put-mark-reads.Asked, put-mark-reads.Learnt, type-list-below t, type-list.Post, brackets-kind-reads.Asked, brackets-kind-reads.Learnt, seal-reads.Asked, seal-reads.Learnt)
