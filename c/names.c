@@ -40,6 +40,8 @@ const char *movesig_reason(uint32_t refusal)
         return "no value here";
     case MOVESIG_TOO_DEEP:
         return "more than 64 levels";
+    case MOVESIG_LINE_SPOILED:
+        return "the line would hold a control byte";
     default:
         return "unknown";
     }

@@ -59,8 +59,10 @@
  *         of a list                                             second: (o, o) at the list's first byte
  *  13     no value (a number before `::` is none either)        the token
  *  14     more than 64 levels                                   the first token of the item at level 65
+ *   By the text, for movesig_display alone:
+ *  18     a string holds a byte below 32 or the byte 127        the first such byte
  *
- * They are tried in this order: 1, 2, 3; then 5 to 14, whichever is met first in reading; 4 last.
+ * They are tried in this order: 1, 2, 3; then 5 to 14, whichever is met first in reading; then 18; 4 last.
  */
 #ifndef MOVESIG_H
 #define MOVESIG_H
@@ -87,7 +89,7 @@ extern "C" {
 /* The version of this header, by semantic versioning: before 1.0 another MINOR may change answers or
  * calls, from then on only another MAJOR. CHANGELOG.md says what changed for a station. */
 #define MOVESIG_VERSION_MAJOR 0
-#define MOVESIG_VERSION_MINOR 3
+#define MOVESIG_VERSION_MINOR 4
 #define MOVESIG_VERSION (MOVESIG_VERSION_MAJOR * 65536 + MOVESIG_VERSION_MINOR)
 
 /* What a call returns. */
@@ -106,7 +108,8 @@ enum movesig_result {
     MOVESIG_COMMA_FOR_ITEM = 11,
     MOVESIG_LIST_NOT_CLOSED = 12,
     MOVESIG_NO_VALUE = 13,
-    MOVESIG_TOO_DEEP = 14
+    MOVESIG_TOO_DEEP = 14,
+    MOVESIG_LINE_SPOILED = 18
 };
 
 /* The kinds of items, for movesig_read and movesig_display. */
@@ -147,9 +150,9 @@ uint32_t movesig_read(uint64_t kind, const uint8_t *text, size_t len, size_t at,
 /* Writes the item of the kind (enum movesig_item) from `at` on as one line, without a line end, into the
  * first bytes of the `room` bytes at `line`. Accepted: { length of the line, 0, 0, 0, 0, 0 }. Bytes of
  * `line` past the line stay as they are. Refused as movesig_read is, but with 4 by the line's length
- * alone, not the tree's. The line is of ASCII bytes; a control byte can stand in it only inside a string,
- * and a line feed nowhere. Where the item's tree is accepted too, the line read from 0 as the same kind
- * gives the same tree but for the spans, and itself as its line.
+ * alone, not the tree's, and before it with 18. Every byte of a line is from 32 to 126. Where the item's
+ * tree is accepted too, the line read from 0 as the same kind gives the same tree but for the spans, and
+ * itself as its line.
  *
  * Leaves stand as spelled; then `@0x1`, `a::b`, `T<a, b>`, `& T`, `&mut T`, `()`, `(a, b)`, `|a, b| r`,
  * `| | r` without arguments, and `(T)` where brackets are written round one type, and only there;

@@ -3,13 +3,16 @@
 
 use crate::{
     reads::BRACKETS,
-    runs::{each_length, flat_lists, nested_list, times, Items, Run},
+    runs::{each_length, flat_lists, nested_list, strings, times, Items, Run},
     GROWTH,
 };
 use oracle::answer::ItemCall;
 
 /// How much longer than a read a display may take.
 const LONGER: f64 = 1.1;
+
+/// The same for a string, each byte of which is looked at once more.
+const LONGER_FOR_A_STRING: f64 = 1.5;
 
 const ALL: [Run; 3] = [
     Items::run_of_the_rust,
@@ -22,6 +25,7 @@ pub fn measure_all() -> bool {
     let mut failed = against_reads();
     failed |= growth();
     failed |= nests();
+    failed |= of_strings();
     failed
 }
 
@@ -68,6 +72,29 @@ fn growth() -> bool {
             100.0 * growth
         );
         failed |= growth > GROWTH || ratio > LONGER;
+    }
+    failed
+}
+
+/// Strings of 20, 200 and 60,000 bytes.
+fn of_strings() -> bool {
+    println!("\n| string | items | bytes | port reads | port displays | display/read |");
+    println!("|---|---:|---:|---:|---:|---:|");
+    let mut failed = false;
+    for row in strings() {
+        row.agree(ItemCall::Display);
+        let two = [Items::run_of_reads as Run, Items::run_of_displays];
+        let [read, display] = times(&[&row], two)[0];
+        let ratio = display.fastest / read.fastest;
+        println!(
+            "| {} | {} | {} | {} | {} | {ratio:.2} |",
+            row.name,
+            row.texts.len(),
+            row.bytes(),
+            read.cell(),
+            display.cell()
+        );
+        failed |= ratio > LONGER_FOR_A_STRING;
     }
     failed
 }

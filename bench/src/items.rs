@@ -131,6 +131,20 @@ pub fn nested_binding(random: &mut Random) -> String {
     text
 }
 
+/// A byte string or a hex string of just `length` bytes, all of which a line can hold.
+pub fn string_of(random: &mut Random, length: usize) -> String {
+    let mut text = random.pick(&["b\"", "x\""]).to_string();
+    while text.len() + 1 < length {
+        let byte = 32 + random.byte() % 95;
+        text.push(if matches!(byte, b'"' | b'\\') {
+            'a'
+        } else {
+            byte as char
+        });
+    }
+    text + "\""
+}
+
 /// A flat list of types: names of such a length that its tree is not too long.
 pub fn flat_types(random: &mut Random, length: usize) -> String {
     flat(random, length, |random, name| {

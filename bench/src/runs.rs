@@ -75,6 +75,17 @@ pub fn each_length() -> Vec<Items> {
     rows
 }
 
+/// Strings, which a display looks over.
+pub fn strings() -> Vec<Items> {
+    let of_length = |length: usize| {
+        let name = format!("string, {length} bytes");
+        items_of(&name, ItemKind::Value, length, |random| {
+            items::string_of(random, length)
+        })
+    };
+    [20, 200, BYTES].map(of_length).into()
+}
+
 /// Flat lists of types and of bindings: the name, then 2 KB and 60 KB.
 pub fn flat_lists() -> [(&'static str, Items, Items); 2] {
     FLAT.map(|(name, kind, make)| {

@@ -3,7 +3,7 @@
 //! includes this file as a module.
 
 use crate::{
-    grouped,
+    every_text, grouped,
     item_sets::{self, random_item, Size, Visitor, TAILS},
     read_comparison::{print_listed, print_text},
     shrunk, station_items,
@@ -15,6 +15,7 @@ use oracle::{
     parsing::{on_a_deep_stack, ItemKind},
     properties::{pairs_of, Fault, Properties, Property},
     random::Random,
+    texts,
     variants::{every_sentence, variants},
 };
 use std::time::{Duration, Instant};
@@ -34,6 +35,7 @@ pub fn run(size: Size) -> u64 {
         println!("\nDisplays, by items:");
         let mut displays = Displays::new(size.random(50));
         item_sets::run(&mut displays, &size);
+        strings(&mut displays, &size);
         sentences(&mut displays, &size);
         families(&mut displays, &size);
         lengths(&mut displays, &size);
@@ -41,6 +43,26 @@ pub fn run(size: Size) -> u64 {
         println!("\n{:.1} s", start.elapsed().as_secs_f64());
         displays.faults
     })
+}
+
+/// Strings with bytes that spoil a line, each with every room.
+fn strings(displays: &mut Displays, size: &Size) {
+    let longest = size.of(6, 5);
+    let name = format!("every text up to {longest} bytes, strings");
+    displays.set(&name, |to| {
+        every_text(b"bx\"\\\r\n\t\x7fa\x1f\x80", longest, |text| {
+            to.with_a_tail(text, |to, text| {
+                to.each_room(ItemKind::Value as u64, &Text::new(text), 0)
+            })
+        })
+    });
+    displays.set("strings of all 256 bytes", |to| {
+        let mut random = size.random(53);
+        for _ in 0..size.of(1_500_000, 10_000) {
+            let (text, at) = texts::string_value(&mut random);
+            to.each_room(ItemKind::Value as u64, &Text::new(&text), at);
+        }
+    });
 }
 
 /// All items of few tokens: the same tokens in every nesting.
@@ -199,6 +221,7 @@ impl Displays {
             grouped(tally.answers)
         );
         for (name, count) in [
+            ("  refused with 18", tally.spoiled.into()),
             ("items displayed", tally.displayed.into()),
             ("items accepted (displayed and read)", tally.accepted.into()),
             ("different lines", self.properties.lines() as u128),

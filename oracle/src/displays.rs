@@ -1,7 +1,14 @@
 //! What a display must answer and leave in the buffer: the line of what the Rust read,
-//! or the refusal of the read of the same item. Only refusal 4 looks at the line.
+//! or the refusal of the read of the same item. Refusal 18 looks at the strings that the Rust
+//! read, refusal 4 at the line.
 
-use crate::{answer::Answer, expected::Text, parsing::Item, reads::Expected};
+use crate::{
+    answer::Answer,
+    expected::Text,
+    parser::ast::Value_,
+    parsing::{Item, Parsed},
+    reads::{Cause, Expected},
+};
 
 /// How an item's line is written from the Rust's tree of it and the text.
 pub type Show = fn(&Item, &[u8]) -> Vec<u8>;
@@ -11,6 +18,14 @@ pub fn expected(read: &Expected, text: &Text, at: usize, show: Show) -> Expected
     let Some(item) = &read.item else {
         return read.clone();
     };
+    if let Some(byte) = spoiled(item, &text.bytes[at..]) {
+        return Expected {
+            answer: Some(Answer::refused(18, at + byte, at + byte + 1)),
+            written: vec![],
+            item: None,
+            cause: Some(Cause::SpoiledLine),
+        };
+    }
     let line = show(item, &text.bytes[at..]);
     Expected {
         answer: Some(Answer::display(line.len())),
@@ -18,6 +33,19 @@ pub fn expected(read: &Expected, text: &Text, at: usize, show: Show) -> Expected
         item: None,
         cause: read.cause,
     }
+}
+
+/// The first byte under 32, or of 127, of a string that the Rust read. The bytes are those of
+/// the Rust's own span.
+fn spoiled(item: &Item, text: &[u8]) -> Option<usize> {
+    let Parsed::Value(value) = &item.parsed else {
+        return None;
+    };
+    let (Value_::HexString(_) | Value_::ByteString(_)) = value.value else {
+        return None;
+    };
+    let (start, end) = (value.loc.start() as usize, value.loc.end() as usize);
+    (start..end).find(|place| text[*place] < 32 || text[*place] == 127)
 }
 
 #[cfg(test)]
@@ -46,6 +74,34 @@ mod tests {
         let unclosed = Answer::refused_at_two(12, (3, 3), (0, 0));
         assert_eq!(display(3, "(u8", 0).answer, Some(unclosed));
         assert_eq!(display(0, "$", 0).answer, Some(Answer::refused(3, 0, 0)));
+    }
+
+    #[test]
+    fn refusal_18_looks_at_strings_alone() {
+        for (text, at, byte) in [
+            ("b\"a\rb\"", 0, 3),
+            ("x\"\x7f\"", 0, 2),
+            ("b\"\\\t\"", 0, 3),
+            (" b\"\x1f\x1e\"", 1, 3),
+            ("\t/*\r*/b\"\t\" \r\n", 0, 8),
+        ] {
+            let given = display(2, text, at);
+            let refused = Some(Answer::refused(18, byte, byte + 1));
+            for room in [0, 1, 1 << 20] {
+                assert_eq!(given.within(room).answer, refused, "{text:?}");
+            }
+        }
+        for (text, number, place) in [
+            ("b\"\t\" $", 5, (5, 5)),
+            ("b\"\t", 8, (0, 3)),
+            ("b\"\t\u{e9}\"", 9, (3, 4)),
+        ] {
+            let refused = Answer::refused(number, place.0, place.1);
+            assert_eq!(display(2, text, 0).answer, Some(refused), "{text:?}");
+        }
+        for text in ["b\" ~\"", "x\"\"\t", "\r\n\ttrue", "@\t0x1"] {
+            assert_eq!(display(2, text, 0).cause, None, "{text:?}");
+        }
     }
 
     #[test]

@@ -1,7 +1,7 @@
 //! Points: calls from 0 on short texts, each with the answer that the specification gives.
 //! P1 to P15 are those that are proved of the definitions (crates/roundtrip/specs/Examples.antt);
 //! behind them the dense points of the grammar, where a list is blamed, where `>>` splits, each
-//! edge of the levels, and those of the display line. Every point is held to the Rust where
+//! edge of the levels, those of the display line and strings that spoil it. Every point is held to the Rust where
 //! the Rust has an answer, and the port to both.
 
 use crate::{
@@ -130,6 +130,7 @@ pub fn points() -> Vec<Point> {
             ..read("", *kind, text, *result, *numbers)
         });
     }
+    all.extend(strings());
     all
 }
 
@@ -284,6 +285,42 @@ const LINES: &[(u64, &str, &str)] = &[
     (5, "|x,y|", "|x, y|"),
 ];
 
+/// Strings that spoil a line, and some that do not: the text, the room lent, the result and the
+/// first four numbers. The byte 0x80 stands for one that is no UTF-8 alone.
+const STRINGS: &[(&[u8], usize, u32, [u64; 4])] = &[
+    (b"b\"a\rb\"", ENOUGH, 18, [3, 4, 3, 4]),
+    (b"b\"a\rb\"", 6, 18, [3, 4, 3, 4]),
+    (b"b\"a\rb\"", 0, 18, [3, 4, 3, 4]),
+    (b"x\"\x7f\"", ENOUGH, 18, [2, 3, 2, 3]),
+    (b"b\"\\\t\"", ENOUGH, 18, [3, 4, 3, 4]),
+    (b"b\"\x1f\"", ENOUGH, 18, [2, 3, 2, 3]),
+    (b"b\"\0\x1b\"", ENOUGH, 18, [2, 3, 2, 3]),
+    (b" /*\r*/\tb\"a\x1b\"\r\n", ENOUGH, 18, [10, 11, 10, 11]),
+    (b"b\"\t\" $", ENOUGH, 5, [5, 5, 5, 5]),
+    (b"b\"\t", ENOUGH, 8, [0, 3, 0, 3]),
+    (b"b\"\t\x80\"", ENOUGH, 9, [3, 4, 3, 4]),
+    (b"b\" ~\"", ENOUGH, 0, [5, 0, 0, 0]),
+    (b"b\" ~\"", 4, 4, [0, 0, 0, 0]),
+    (b"\t\r\n/*\r*/b\"\"\t", ENOUGH, 0, [3, 0, 0, 0]),
+];
+
+/// Their displays, and the read of the first.
+fn strings() -> Vec<Point> {
+    let shown = |(text, room, result, numbers): &(&[u8], usize, u32, [u64; 4])| Point {
+        asked: Asked::Item(ItemCall::Display, 2, *room),
+        text: text.to_vec(),
+        ..token("", "", *result, *numbers)
+    };
+    let mut all: Vec<_> = STRINGS.iter().map(shown).collect();
+    let tree = vec![8, 0, 35, 0, 0, 0, 6, 0];
+    all.push(Point {
+        asked: Asked::Item(ItemCall::Read, 2, tree.len()),
+        written: Some(tree),
+        ..read("", 2, "b\"a\rb\"", 0, [8, 0, 6, 6])
+    });
+    all
+}
+
 /// Displays: the item kind, the text, the room lent, the result and the first four numbers.
 const ROOMS: &[(u64, &str, usize, u32, [u64; 4])] = &[
     (3, "u8", ENOUGH, 0, [2, 0, 0, 0]),
@@ -312,7 +349,7 @@ mod tests {
     fn none_is_lost() {
         let names: Vec<_> = points().iter().map(|point| point.name).collect();
         let proved = names.iter().filter(|name| !name.is_empty()).count();
-        assert_eq!((proved, names.len() - proved), (15, 83));
+        assert_eq!((proved, names.len() - proved), (15, 110));
     }
 
     #[test]
@@ -323,6 +360,7 @@ mod tests {
                 read("", 3, "u8", 0, [16, 0, 2, 3]),
                 line("", 3, "& mut", "&mut "),
                 token("", "0x", 0, [1, 0, 2, 0]),
+                line("", 2, "b\"a\rb\"", "b\"a\rb\""),
             ];
             for point in wrong {
                 assert!(!point.agrees(&point.due()), "{point:?}");

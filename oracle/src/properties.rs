@@ -19,6 +19,10 @@ use std::{collections::HashMap, rc::Rc};
 pub enum Property {
     /// The display answers and writes what it must.
     Displayed,
+    /// Every byte of a line is from 32 to 126.
+    Printable,
+    /// What is refused a line for a byte of a string can be read.
+    SpoiledButRead,
     /// So does the read: where it is refused, the display is refused alike.
     Read,
     /// The Rust reads the line to its last byte, as the same build.
@@ -35,6 +39,8 @@ impl Property {
     pub fn words(self) -> &'static str {
         match self {
             Property::Displayed => "the display is another one",
+            Property::Printable => "the line holds a byte under 32 or over 126",
+            Property::SpoiledButRead => "refused with 18, and its read is refused too",
             Property::Read => "the read is another one",
             Property::ReadByTheRust => "the Rust does not read the line as this build",
             Property::ReadByThePort => "the port does not read the line as the Rust does",
@@ -60,6 +66,8 @@ pub struct Fault {
 pub struct Tally {
     pub items: u64,
     pub answers: u64,
+    /// Displays that are refused with 18.
+    pub spoiled: u64,
     /// Items whose line has at most 65,535 bytes, and those that can be read too.
     pub displayed: u64,
     pub accepted: u64,
@@ -117,7 +125,9 @@ impl Properties {
     /// An item with every room up to more than is needed.
     pub fn check_each_room(&mut self, kind: u64, text: &Text, at: usize) -> Option<Fault> {
         let read = reads::expected(kind, text, at);
-        let needed = displays::expected(&read, text, at, self.show).written.len();
+        // A spoiled line too would need that much.
+        let line = |item| (self.show)(item, &text.bytes[at..]);
+        let needed = read.item.as_ref().map_or(0, |item| line(item).len());
         self.checked(kind, text, at, |_, _| {
             (0..needed + 2).map(Room::Bytes).collect()
         })
@@ -137,6 +147,7 @@ impl Properties {
         let broken = self
             .display_broken((kind, text.bytes, at), &due, &rooms)
             .or_else(|| self.read_broken((kind, text.bytes, at), &read))
+            .or_else(|| spoiled_broken(&read, &due))
             .or_else(|| self.line_broken(kind, text, &read, &due));
         broken.map(|(property, told)| Fault {
             property,
@@ -155,6 +166,7 @@ impl Properties {
             self.tally.answers += 1;
             if let Some(cause) = lent.cause {
                 self.tally.listed[cause as usize] += 1;
+                self.tally.spoiled += u64::from(cause == Cause::SpoiledLine);
             }
             if let Some(wrong) = self.buffer.wrong(ItemCall::Display, item, room, lent) {
                 return Some((Property::Displayed, told(room, lent, &wrong)));
@@ -184,6 +196,10 @@ impl Properties {
             return None;
         }
         self.tally.displayed += 1;
+        if !line.iter().all(|byte| (32..=126).contains(byte)) {
+            let told = vec![format!("line     '{}'", cut(line))];
+            return Some((Property::Printable, told));
+        }
         if read.written.len() > LONGEST_WRITTEN {
             // It has a line and no stored tree, so no build to compare.
             return self.back_broken(kind, line, read.written.len(), None);
@@ -245,6 +261,12 @@ impl Properties {
     pub fn lines(&self) -> usize {
         self.groups.iter().map(|group| group.lines.len()).sum()
     }
+}
+
+/// What is refused with 18 was read.
+fn spoiled_broken(read: &Expected, due: &Expected) -> Option<Broken> {
+    let accepted = read.answer.is_some_and(|answer| answer.result == 0);
+    (due.cause == Some(Cause::SpoiledLine) && !accepted).then(|| (Property::SpoiledButRead, vec![]))
 }
 
 fn told(room: usize, due: Lent, wrong: &Wrong) -> Vec<String> {
@@ -457,6 +479,37 @@ mod tests {
             shown_by!(|_, _| b"a".to_vec()),
         ] {
             assert_eq!(broken(wrong), not_read);
+        }
+    }
+
+    /// Lines that are read back, and hold a byte that does not show.
+    #[test]
+    fn a_line_that_does_not_show_is_found() {
+        let tabs = shown_by!(|item, text| replaced(item, text, ", ", ",\t"));
+        assert_eq!(broken(tabs), Some(Property::Printable));
+    }
+
+    /// A port that accepts a spoiled line, and one that refuses it at another place.
+    #[test]
+    fn a_spoiled_line_that_is_shown_is_found() {
+        let shown: Ask = |call, kind, text, at, room, answer| match call {
+            ItemCall::Read => port(call, (kind, text, at), room, answer, line_of),
+            ItemCall::Display => {
+                let length = text.len().min(room.len());
+                room[..length].copy_from_slice(&text[..length]);
+                *answer = Answer::display(length).numbers;
+                0
+            }
+        };
+        let moved: Ask = |call, kind, text, at, room, answer| {
+            let result = port(call, (kind, text, at), room, answer, line_of);
+            answer[0] += u64::from(result == 18);
+            result
+        };
+        for ask in [shown, moved] {
+            let mut properties = Properties::new(ask, line_of, Random::new(1));
+            let fault = properties.check(2, &Text::new(b"b\"a\rb\""), 0);
+            assert_eq!(fault.unwrap().property, Property::Displayed);
         }
     }
 

@@ -23,12 +23,13 @@ pub enum Cause {
     HighByteInString,
     LastCarriageReturn,
     TooManyLevels,
+    SpoiledLine,
     WrittenTooLong,
     RoomTooSmall,
 }
 
 impl Cause {
-    pub const ALL: [Cause; 9] = [
+    pub const ALL: [Cause; 10] = [
         Cause::TextTooLong,
         Cause::StartPastEnd,
         Cause::UnknownKind,
@@ -36,6 +37,7 @@ impl Cause {
         Cause::HighByteInString,
         Cause::LastCarriageReturn,
         Cause::TooManyLevels,
+        Cause::SpoiledLine,
         Cause::WrittenTooLong,
         Cause::RoomTooSmall,
     ];
@@ -49,6 +51,7 @@ impl Cause {
             Cause::HighByteInString => expected::Cause::HighByteInString.words(),
             Cause::LastCarriageReturn => expected::Cause::LastCarriageReturn.words(),
             Cause::TooManyLevels => "more than 64 levels (here refusal 14)",
+            Cause::SpoiledLine => "a byte under 32 or 127 in a displayed string (refusal 18)",
             Cause::WrittenTooLong => "tree or line over 65,535 bytes (here refusal 4)",
             Cause::RoomTooSmall => "tree or line longer than the room lent (here refusal 4)",
         }

@@ -267,6 +267,30 @@ pub fn make_not_utf8(random: &mut Random, text: &mut [u8]) {
     }
 }
 
+/// A string with bytes of every sort inside, and where it is read from: now and then not closed,
+/// or with something before it and behind.
+pub fn string_value(random: &mut Random) -> (Vec<u8>, usize) {
+    let before = random.pick(&["", "", "", " ", "\t", "/*\r*/", "\r\n", "//\x7f\n"]);
+    let at = random.pick(&[0, before.len()]);
+    let mut text = [before, random.pick(&["b\"", "x\""])].concat().into_bytes();
+    let sort = random.below(4);
+    for _ in 0..random.below(13) {
+        let any = random.byte();
+        text.push(match sort {
+            0 => any,
+            1 => any % 128,
+            2 if any < 40 => any % 32,
+            3 if any < 10 => 127,
+            _ => 32 + any % 95,
+        });
+    }
+    let closing = random.pick(&[
+        "\"", "\"", "\"", "\"", "\"", "\"", "\" ", "\"\t", "\" $", "\"::a", "",
+    ]);
+    text.extend_from_slice(closing.as_bytes());
+    (text, at)
+}
+
 /// One thing that fills a whole text of `length` bytes, for each kind of thing.
 pub fn one_long_thing(length: usize) -> Vec<Vec<u8>> {
     [

@@ -2,14 +2,15 @@
 use mathlib.Core.Path.{_≡_, refl, ap, sym, _∙_, subst}
 use mathlib.Core.Bool.{Bool, true, false, cond, _||_}
 use mathlib.Core.List.{List, [], _∷_, _++_}
-use Prim.Native.Nat.{ℕ, _<_, _≤_}
+use Prim.Native.Nat.{ℕ, _+_, _<_, _≤_}
 use native.Mathlib.Omega.{arith}
 use native.Mathlib.Nat.{not-suc-le-zero, le-of-suc-le-suc}
-use borrow.Author.Tests.{lt-ltb, le-ltb, eq-eqb, ne-eqb, ltb-true, ltb-false}
-use lib.Dec.{ltb}
+use borrow.Author.Tests.{lt-ltb, le-ltb, eq-eqb, ne-eqb, eqb-true, ltb-true, ltb-false}
+use lib.Dec.{ltb, eqb}
 use lib.ListN.{length, take, drop}
 use lib.Seq.{sets, take-append-le, take-all}
-use Rattle.classes.proofs.Bools.{or-left, or-right}
+use Rattle.classes.proofs.Bools.{false-true, or-left, or-right}
+use Rattle.tokens.specs.Refusals.{NoRoom, LineSpoiled, among}
 use Rattle.tokens.specs.Answers.{refusal, token}
 use Rattle.tokens.specs.Calls.{textLimit, nextToken}
 use Rattle.tokens.specs.declared.Refusal.{Refusal}
@@ -26,6 +27,7 @@ use Rattle.grammar.specs.Types.{levels, readType}
 use Rattle.grammar.specs.Binds.{readBindList, readLambdaList}
 use Rattle.grammar.specs.Items.{Item, item, refused, readKind, followed, finished, readItem}
 use Rattle.forms.specs.Forms.{FormStored, FormLine, isLine, laid}
+use Rattle.frames.proofs.Faithful.{readRefusals, item-refusals}
 use Rattle.forms.specs.code.Spots.{last, cap, movedBy, Placed}
 use Rattle.forms.specs.declared.Spot.{Spot}
 use Rattle.parts.specs.declared.Part.{Part}
@@ -37,8 +39,9 @@ use Rattle.calls.specs.declared.Answer.{Answer}
 use Rattle.calls.specs.declared.Answer.the-variants.{Item as Accepted, Refused as Rejected}
 use Rattle.calls.specs.declared.Displayed.{Displayed}
 use Rattle.calls.specs.declared.Displayed.the-variants.{Line, Refused as Undisplayed}
-use Rattle.calls.specs.Calls.{noKind, treeLimit, lineLimit, limitOf, tooLong, roomed, written, called, calledBuffer, answeredIn, read, readBuffer, answered, display, displayBuffer, displayed}
-use Rattle.calls.specs.code.Given.{refusedWith, atStart, itemFrom, Writes, Gives, Lays, Calls, Displays}
+use Rattle.calls.specs.Calls.{noKind, treeLimit, lineLimit, limitOf, tooLong, roomed, written, unspoiled, answeredIn, read, readBuffer, answered, display, displayBuffer, displayed}
+use Rattle.calls.specs.code.Given.{refusedWith, atStart, itemFrom, spoiledAt, replacedBy, inPlace, SpoiledFrom, Writes, Gives, Lays, Calls, Displays}
+use Rattle.calls.proofs.Spoiling.{item-only, not-item, read-clean, read-spoiled}
 
 -- an item by its kind: which reader reads it
 module _ (kind : ℕ) (a : Token) where
@@ -110,20 +113,6 @@ made-in xs z made n w e f h =
     rw (w, e, sets-whole xs z (omega arith)) (take-append-le (length xs) xs (drop (length xs) z) (omega arith) ∙ take-all (length xs) xs (omega arith))
 
 -- writing an item that is accepted
-item-only : (x y : Tree) (t u : Token) → item x t ≡ item y u → x ≡ y
-item-only x y t u e = ap of e
-  where
-    of : Item → Tree
-    of (item z v) = z
-    of (refused r) = x
-
-not-item : (x : Tree) (t : Token) (r : Refusal) → refused r ≡ item x t → ⊥
-not-item x t r e = subst IsRefused e tt
-  where
-    IsRefused : Item → Type 0
-    IsRefused (item z v) = ⊥
-    IsRefused (refused r₂) = Unit {0}
-
 module _ (form kind : ℕ) (text : List ℕ) (a : First) (l m : List ℕ) where
   pub write-copied : (n : ℕ) (made : List ℕ) → n ≤ length made → m ≡ sets l 0 (take n made) → Writes form kind text a n made l m
   write-copied n made h e f x t i g = e ∙ ap (sets l 0) (g h)
@@ -269,7 +258,7 @@ lineOf (Rejected r) = Undisplayed r
 -- the two calls
 module _ (kind : ℕ) (text : List ℕ) (at : ℕ) (first : Lexed) (l m : List ℕ) where
   pub read-given : (r : Answer) → first ≡ nextToken text at → Calls FormStored kind text at first l r m → (r ≡ answered (read kind text at (length l))) × (m ≡ readBuffer kind text at l)
-  unfolding read readBuffer answered called calledBuffer
+  unfolding read readBuffer answered
   read-given r f d = (d f .answer, d f .buffer)
 
   line-displayed : (i : Item) → lineOf (answeredIn FormLine i) ≡ displayed i
@@ -277,10 +266,55 @@ module _ (kind : ℕ) (text : List ℕ) (at : ℕ) (first : Lexed) (l m : List �
   line-displayed (item x t) = refl
   line-displayed (refused r) = refl
 
-  pub display-given : (d : Answer) (r : Displayed) → Calls FormLine kind text at first l d m → r ≡ lineOf d → Displays kind text at first l r m
-  unfolding display displayBuffer called calledBuffer
-  display-given d r w e =
+  -- where nothing spoils the line, the display is the call
+  pub display-given : (b : ℕ) → b ≡ spoiledAt kind text first → length text ≤ b → (d : Answer) (r : Displayed) → Calls FormLine kind text at first l d m → r ≡ lineOf d → Displays kind text at first l r m
+  unfolding display displayBuffer
+  display-given b g h d r w e =
+      let z : first ≡ nextToken text at → readItem kind text at ≡ unspoiled (readItem kind text at) = λ f. sym (read-clean kind text at first f b g h) in
       record {
-        answer = λ f. e ∙ ap lineOf (w f .answer) ∙ line-displayed (roomed FormLine (length l) (readItem kind text at));
-        buffer = λ f. w f .buffer;
+        answer = λ f. e ∙ ap lineOf (w f .answer) ∙ line-displayed (roomed FormLine (length l) (readItem kind text at)) ∙ ap (λ (i : Item). displayed (roomed FormLine (length l) i)) (z f);
+        buffer = λ f. w f .buffer ∙ ap (λ (i : Item). written FormLine (roomed FormLine (length l) i) l) (z f);
       }
+
+-- what is said of an answer where no room matters, and of an item
+abbrev pub saidOf : Refusal → Answer → Displayed
+saidOf q (Accepted n t) = Undisplayed q
+saidOf q (Rejected r) = replacedBy q r
+
+module _ (kind : ℕ) (text : List ℕ) (at : ℕ) (first : Lexed) (q : Refusal) (l m : List ℕ) where
+  said : (i : Item) → readItem kind text at ≡ i → saidOf q (answeredIn FormLine (roomed FormLine (length l) i)) ≡ displayed (inPlace q i)
+  unfolding roomed answeredIn displayed inPlace when among
+  said (item x t) e = go (tooLong FormLine (length l) (length (laid FormLine x)))
+    where
+      go : (b : Bool) → saidOf q (answeredIn FormLine (when b (λ _. refused (refusal NoRoom 0 0)) λ _. item x t)) ≡ Undisplayed q
+      go true = refl
+      go false = refl
+  said (refused r) e = go (eqb (r .number) NoRoom) refl
+    where
+      go : (b : Bool) → eqb (r .number) NoRoom ≡ b → Undisplayed (cond b q r) ≡ Undisplayed r
+      go true h = false-true _ (subst (λ (n : ℕ). among readRefusals n ≡ true) (eqb-true (r .number) NoRoom h) (item-refusals kind text at r e))
+      go false h = refl
+
+  pub spoiled-given : (d : Answer) (r : Displayed) → Calls FormLine kind text at first l d m → r ≡ saidOf q d → SpoiledFrom kind text at first q r
+  spoiled-given d r w e f = e ∙ ap (saidOf q) (w f .answer) ∙ said (readItem kind text at) refl
+
+-- where a byte spoils the line, it is refused there
+pub display-spoiled : (kind : ℕ) (text : List ℕ) (at : ℕ) (first : Lexed) (l : List ℕ) (b : ℕ) → b ≡ spoiledAt kind text first → b < length text
+    → (q : Refusal) → q ≡ refusal LineSpoiled b (b + 1) → (r : Displayed) → SpoiledFrom kind text at first q r → Displays kind text at first l r l
+unfolding display displayBuffer roomed written inPlace
+display-spoiled kind text at first l b g h q e r w =
+    let z : first ≡ nextToken text at → unspoiled (readItem kind text at) ≡ inPlace q (readItem kind text at) = λ f. read-spoiled kind text at first f b g h q e in
+    let y : (i : Item) → roomed FormLine (length l) (inPlace q i) ≡ inPlace q i = roomed-in-place q in
+    let x : (i : Item) → written FormLine (inPlace q i) l ≡ l = written-in-place q in
+    record {
+      answer = λ f. w f ∙ ap displayed (sym (ap (roomed FormLine (length l)) (z f) ∙ y (readItem kind text at)));
+      buffer = λ f. sym (ap (λ (i : Item). written FormLine (roomed FormLine (length l) i) l) (z f) ∙ ap (λ (i : Item). written FormLine i l) (y (readItem kind text at)) ∙ x (readItem kind text at));
+    }
+  where
+    roomed-in-place : (q : Refusal) (i : Item) → roomed FormLine (length l) (inPlace q i) ≡ inPlace q i
+    roomed-in-place q (item x t) = refl
+    roomed-in-place q (refused r) = refl
+
+    written-in-place : (q : Refusal) (i : Item) → written FormLine (inPlace q i) l ≡ l
+    written-in-place q (item x t) = refl
+    written-in-place q (refused r) = refl

@@ -11,13 +11,13 @@ use Rattle.grammar.specs.Items.{item, readItem}
 use Rattle.forms.specs.Forms.{FormStored, laid}
 use Rattle.forms.proofs.Constructs.{laid-stored}
 use Rattle.frames.proofs.Faithful.{item-faithful}
-use Rattle.calls.specs.Calls.{limitOf, called, read}
+use Rattle.calls.specs.Calls.{limitOf, read}
 use Rattle.calls.proofs.Room.{roomed-fits}
 
 -- reads of any texts, offsets and kinds that give the same bytes have the same records
 pub read-faithful : (kind kind₂ : ℕ) (text text₂ : List ℕ) (at at₂ room room₂ : ℕ) (x x₂ : Tree) (t t₂ : Token) → read kind text at room ≡ item x t → read kind₂ text₂ at₂ room₂ ≡ item x₂ t₂
     → stored x ≡ stored x₂ → unspelled x ≡ unspelled x₂
-unfolding read called limitOf
+unfolding read limitOf
 read-faithful kind kind₂ text text₂ at at₂ room room₂ x x₂ t t₂ e e₂ p =
     let f = roomed-fits FormStored room (readItem kind text at) x t e in
     let g = roomed-fits FormStored room₂ (readItem kind₂ text₂ at₂) x₂ t₂ e₂ in

@@ -1,3 +1,4 @@
+pub mod Spoiling
 pub mod Room
 pub mod RefusalSets
 pub mod Faithful

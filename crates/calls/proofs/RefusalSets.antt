@@ -1,36 +1,50 @@
--- A call is refused with 1 to 14.
+-- A read is refused with 1 to 14, a display with these and 18.
 use mathlib.Core.Path.{_≡_, refl, subst}
 use mathlib.Core.Bool.{true}
 use mathlib.Core.List.{List}
+use mathlib.Core.Option.{Option, some, none as clean}
 use Prim.Native.Nat.{ℕ}
 use lib.ListN.{length}
-use Rattle.tokens.specs.Refusals.{among}
+use Rattle.tokens.specs.Refusals.{NoRoom, among}
 use Rattle.tokens.specs.declared.Refusal.{Refusal}
 use Rattle.tokens.proofs.RefusalSets.{subset, among-subset}
 use Rattle.answers.proofs.Sure.{when-sure}
 use Rattle.grammar.specs.Items.{Item, item, refused, readItem}
 use Rattle.forms.specs.Forms.{FormStored, FormLine, laid}
+use Rattle.forms.specs.Spoiled.{spoiled}
 use Rattle.frames.proofs.Faithful.{readRefusals, Told, item-told}
-use Rattle.calls.specs.Calls.{itemRefusals, tooLong, roomed, called, read, display}
+use Rattle.calls.specs.Calls.{itemRefusals, displayRefusals, tooLong, roomed, unlessSpoiled, unspoiled, read, display}
 
-abbrev Met : Item → Type 0
-Met (item x t) = Unit {0}
-Met (refused r) = among itemRefusals (r .number) ≡ true
+abbrev Met : List ℕ → Item → Type 0
+Met set (item x t) = Unit {0}
+Met set (refused r) = among set (r .number) ≡ true
 
-roomed-met : (form room : ℕ) (text : List ℕ) (i : Item) → Told text i → Met (roomed form room i)
-unfolding roomed subset among
-roomed-met form room text (item x t) h = when-sure Met (tooLong form room (length (laid form x))) _ _ (λ _. refl) (λ _. tt)
-roomed-met form room text (refused r) h = among-subset readRefusals itemRefusals refl (r .number) h
+roomed-met : (set : List ℕ) (form room : ℕ) (i : Item) → among set NoRoom ≡ true → Met set i → Met set (roomed form room i)
+unfolding roomed
+roomed-met set form room (item x t) g h = when-sure (Met set) (tooLong form room (length (laid form x))) _ _ (λ _. g) (λ _. tt)
+roomed-met set form room (refused r) g h = h
 
-pub call-refusals : (form kind : ℕ) (text : List ℕ) (at room : ℕ) (r : Refusal) → called form kind text at room ≡ refused r → among itemRefusals (r .number) ≡ true
-unfolding called
-call-refusals form kind text at room r e = subst Met e (roomed-met form room text (readItem kind text at) (item-told kind text at))
+-- what an item is refused with is in every set that has those numbers
+told-met : (set : List ℕ) → subset readRefusals set ≡ true → (text : List ℕ) (i : Item) → Told text i → Met set i
+told-met set g text (item x t) h = tt
+told-met set g text (refused r) h = among-subset readRefusals set g (r .number) h
 
--- so are both calls
+unspoiled-met : (i : Item) → Met displayRefusals i → Met displayRefusals (unspoiled i)
+unfolding unspoiled unlessSpoiled among
+unspoiled-met (item x t) h = go (spoiled x)
+  where
+    go : (o : Option ℕ) → Met displayRefusals (unlessSpoiled o (item x t))
+    go clean = tt
+    go (some b) = refl
+unspoiled-met (refused r) h = h
+
 pub read-refusals : (kind : ℕ) (text : List ℕ) (at room : ℕ) (r : Refusal) → read kind text at room ≡ refused r → among itemRefusals (r .number) ≡ true
-unfolding read
-read-refusals kind text at room r e = call-refusals FormStored kind text at room r e
+unfolding read subset among
+read-refusals kind text at room r e =
+    subst (Met itemRefusals) e (roomed-met itemRefusals FormStored room (readItem kind text at) refl (told-met itemRefusals refl text (readItem kind text at) (item-told kind text at)))
 
-pub display-refusals : (kind : ℕ) (text : List ℕ) (at room : ℕ) (r : Refusal) → display kind text at room ≡ refused r → among itemRefusals (r .number) ≡ true
-unfolding display
-display-refusals kind text at room r e = call-refusals FormLine kind text at room r e
+pub display-refusals : (kind : ℕ) (text : List ℕ) (at room : ℕ) (r : Refusal) → display kind text at room ≡ refused r → among displayRefusals (r .number) ≡ true
+unfolding display subset among
+display-refusals kind text at room r e =
+    subst (Met displayRefusals) e
+    (roomed-met displayRefusals FormLine room (unspoiled (readItem kind text at)) refl (unspoiled-met (readItem kind text at) (told-met displayRefusals refl text (readItem kind text at) (item-told kind text at))))

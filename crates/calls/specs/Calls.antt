@@ -1,27 +1,32 @@
--- The read call and the display call, for every text, offset, kind number and buffer: one definition over the form in which an item
--- is laid down. What is left of a call is its form, its limit and its answer.
-use Prim.Native.Nat.{ℕ}
+-- The read call and the display call, for every text, offset, kind number and buffer, over the form in which an item is laid down. What
+-- is left of a call is its form, its limit and its answer, and of a display that nothing spoils the line.
+use Prim.Native.Nat.{ℕ, _+_}
 use mathlib.Core.Bool.{Bool, cond, _||_}
 use mathlib.Core.List.{List, [], _∷_, _++_}
+use mathlib.Core.Option.{Option, some, none as clean}
 use lib.Dec.{eqb, ltb}
 use lib.ListN.{length, drop}
-use Rattle.tokens.specs.Refusals.{TextTooLong, StartPastEnd, NoSuchKind, NoRoom, NoToken, CommentNotClosed, HexStringNotClosed, ByteStringNotClosed, StringNotAscii, UnexpectedToken, CommaForItem, ListNotClosed, NoValue, TooDeep}
+use Rattle.tokens.specs.Refusals.{TextTooLong, StartPastEnd, NoSuchKind, NoRoom, NoToken, CommentNotClosed, HexStringNotClosed, ByteStringNotClosed, StringNotAscii, UnexpectedToken, CommaForItem, ListNotClosed, NoValue, TooDeep, LineSpoiled}
 use Rattle.tokens.specs.Answers.{refusal, places}
 use Rattle.sources.specs.Source.{tokenOf}
 use Rattle.answers.specs.Reading.{when}
 use Rattle.grammar.specs.Items.{Item, item, refused, readItem}
 use Rattle.forms.specs.Forms.{FormStored, FormLine, isLine, laid}
+use Rattle.forms.specs.Spoiled.{spoiled}
 use Rattle.calls.specs.declared.Answer.{Answer}
 use Rattle.calls.specs.declared.Answer.the-variants.{Item as Accepted, Refused as Rejected}
 use Rattle.calls.specs.declared.Displayed.{Displayed}
 use Rattle.calls.specs.declared.Displayed.the-variants.{Line, Refused as Undisplayed}
 
--- all that a read or a display can meet
+-- all that a read can meet; a display meets one more
 abbrev pub itemRefusals : List ℕ
 itemRefusals =
     TextTooLong ∷ StartPastEnd ∷ NoSuchKind ∷ NoRoom
     ∷ NoToken ∷ CommentNotClosed ∷ HexStringNotClosed ∷ ByteStringNotClosed ∷ StringNotAscii
     ∷ UnexpectedToken ∷ CommaForItem ∷ ListNotClosed ∷ NoValue ∷ TooDeep ∷ []
+
+abbrev pub displayRefusals : List ℕ
+displayRefusals = LineSpoiled ∷ itemRefusals
 
 -- a number that is no kind of item
 abbrev pub noKind : ℕ → Bool
@@ -51,12 +56,14 @@ unfoldable pub written : ℕ → Item → List ℕ → List ℕ
 written form (item x t) out = laid form x ++ drop (length (laid form x)) out
 written form (refused r) out = out
 
--- the item of a call, and the buffer that it leaves
-unfoldable pub called : ℕ → ℕ → List ℕ → ℕ → ℕ → Item
-called form kind text at room = roomed form room (readItem kind text at)
+-- refusal 18, of an item that was read: at the first byte that spoils its line
+unfoldable pub unlessSpoiled : Option ℕ → Item → Item
+unlessSpoiled clean i = i
+unlessSpoiled (some b) i = refused (refusal LineSpoiled b (b + 1))
 
-unfoldable pub calledBuffer : ℕ → ℕ → List ℕ → ℕ → List ℕ → List ℕ
-calledBuffer form kind text at out = written form (called form kind text at (length out)) out
+unfoldable pub unspoiled : Item → Item
+unspoiled (item x t) = unlessSpoiled (spoiled x) (item x t)
+unspoiled (refused r) = refused r
 
 -- the length in a form and the token that follows, or the refusal
 unfoldable pub answeredIn : ℕ → Item → Answer
@@ -65,10 +72,10 @@ answeredIn form (refused r) = Rejected r
 
 -- the read call: the item's stored tree
 unfoldable pub read : ℕ → List ℕ → ℕ → ℕ → Item
-read kind text at room = called FormStored kind text at room
+read kind text at room = roomed FormStored room (readItem kind text at)
 
 unfoldable pub readBuffer : ℕ → List ℕ → ℕ → List ℕ → List ℕ
-readBuffer kind text at out = calledBuffer FormStored kind text at out
+readBuffer kind text at out = written FormStored (read kind text at (length out)) out
 
 unfoldable pub answered : Item → Answer
 answered i = answeredIn FormStored i
@@ -82,12 +89,12 @@ unfoldable pub readValues : Answer → List ℕ
 readValues (Accepted n t) = n ∷ t .kind ∷ t .start ∷ t .end ∷ 0 ∷ 0 ∷ []
 readValues (Rejected r) = places r
 
--- the display call: the item's line
+-- the display call: the item's line. So the order is 1, 2, 3, 5 to 14, 18, 4
 unfoldable pub display : ℕ → List ℕ → ℕ → ℕ → Item
-display kind text at room = called FormLine kind text at room
+display kind text at room = roomed FormLine room (unspoiled (readItem kind text at))
 
 unfoldable pub displayBuffer : ℕ → List ℕ → ℕ → List ℕ → List ℕ
-displayBuffer kind text at out = calledBuffer FormLine kind text at out
+displayBuffer kind text at out = written FormLine (display kind text at (length out)) out
 
 -- the line's length alone
 unfoldable pub displayed : Item → Displayed

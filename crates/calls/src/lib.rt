@@ -7,7 +7,8 @@ ghost use Rattle.tokens.specs.Calls.{nextToken};
 ghost use Rattle.grammar.specs.Items.{readKind};
 ghost use Rattle.parts.specs.code.Meets.{Fits, held, Reads};
 ghost use Rattle.calls.specs.Calls.{noKind, limitOf, tooLong, answered, readBuffer, displayed, displayBuffer};
-ghost use Rattle.calls.specs.code.Given.{refusedWith, atStart, Writes, Lays, Calls, Displays};
+ghost use Rattle.calls.specs.code.Given.{refusedWith, atStart, shownEnd, spoiledValue, spoiledAt, replacedBy, SpoiledFrom, Writes, Lays, Calls, Displays};
+use classes::SHOWN;
 use forms::FORM_LINE;
 use forms::FORM_STORED;
 use forms::Spot;
@@ -18,10 +19,12 @@ use tokens::Lexed;
 use tokens::Refusal;
 use tokens::TEXT_LIMIT;
 use tokens::Token;
+use tokens::refusals::LINE_SPOILED;
 use tokens::refusals::NO_ROOM;
 use tokens::refusals::NO_SUCH_KIND;
 use tokens::refusals::START_PAST_END;
 use tokens::refusals::TEXT_TOO_LONG;
+use words::kinds::BYTE_STRING_VALUE;
 
 // The kinds of items.
 pub const NAME: u64 = 1;
@@ -207,10 +210,80 @@ pub fn read(kind: u64, text: &[u8], at: usize, out: &mut [u8]) -> Answer
     call(FORM_STORED, kind, text, at, first, out)
 }
 
+// Where the bytes of the token that a line can hold end.
+fn shown_end(text: &[u8], a: Token) -> usize
+    ensures { λ r. ⌜ r ≡ shownEnd (now (text .entry)) a ⌝ }
+{
+    if a.end < text.len() {
+        return classes::run_end(SHOWN, &text[..a.end], a.start);
+    }
+    classes::run_end(SHOWN, text, a.start)
+}
+
+// Where the first byte stands that spoils the line of the value whose first token is a: of a string, which is
+// that token. The text's length where none does.
+fn spoiled_value(text: &[u8], a: Token) -> usize
+    ensures { λ r. ⌜ r ≡ spoiledValue (now (text .entry)) a ⌝ }
+{
+    if a.kind != BYTE_STRING_VALUE {
+        return text.len();
+    }
+    let b = shown_end(text, a);
+    if b < a.end {
+        return b;
+    }
+    text.len()
+}
+
+// The same of an item of any kind, with the token that was found where it begins: values alone have strings.
+fn spoiled_at(kind: u64, text: &[u8], first: Lexed) -> usize
+    ensures { λ r. ⌜ r ≡ spoiledAt kind (now (text .entry)) first ⌝ }
+{
+    if kind != VALUE {
+        return text.len();
+    }
+    match first {
+        Lexed::Refused(_) => text.len(),
+        Lexed::Found(a) => spoiled_value(text, a),
+    }
+}
+
+// The answer q where the item was read, whatever its room.
+fn replaced(q: Refusal, r: Refusal) -> Displayed
+    ensures { λ d. ⌜ d ≡ replacedBy q r ⌝ }
+{
+    if r.number == NO_ROOM {
+        return Displayed::Refused(q);
+    }
+    Displayed::Refused(r)
+}
+
+// The display of an item that has no line: refused with q where it is read. It is read without room.
+fn spoiled_from(kind: u64, text: &[u8], at: usize, first: Lexed, q: Refusal) -> Displayed
+    ensures { λ d. ⌜ SpoiledFrom kind (now (text .entry)) at first q d ⌝ }
+{
+    let mut none = [0u8; 1];
+    let d = call(FORM_LINE, kind, text, at, first, &mut none);
+    match d {
+        Answer::Refused(r) => replaced(q, r),
+        Answer::Item(_, _) => Displayed::Refused(q),
+    }
+}
+
 // The display call on a slice and an offset, with the token that the reader found there.
 fn display_from(kind: u64, text: &[u8], at: usize, first: Lexed, line: &mut [u8]) -> Displayed
     ensures { λ r. ⌜ Displays kind (now (text .entry)) at first (now (line .entry)) r (now (line .exit)) ⌝ }
 {
+    let b = spoiled_at(kind, text, first);
+    if b < text.len() {
+        return spoiled_from(
+            kind,
+            text,
+            at,
+            first,
+            tokens::refuse(LINE_SPOILED, b, b + 1),
+        );
+    }
     let d = call(FORM_LINE, kind, text, at, first, line);
     match d {
         Answer::Refused(r) => Displayed::Refused(r),

@@ -47,10 +47,15 @@ markOrLineFeed x = eqb x 47 || eqb x 42 || eqb x 10
 unfoldable pub spaceOrTab : ℕ → Bool
 spaceOrTab x = eqb x 32 || eqb x 9
 
+-- a byte that a line can hold: 32 to 126
+unfoldable pub shows : ℕ → Bool
+shows x = inRange 32 126 x
+
 -- the class of each number
 unfoldable pub inClass : ℕ → ℕ → Bool
 inClass k x =
     cond (eqb k 0) (isName x)
     (cond (eqb k 1) (isDigit x)
     (cond (eqb k 2) (isHex x)
-    (cond (eqb k 3) (isAscii x) (inLine x))))
+    (cond (eqb k 3) (isAscii x)
+    (cond (eqb k 4) (inLine x) (shows x)))))

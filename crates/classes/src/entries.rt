@@ -2,67 +2,71 @@
 // lib.rt numbers the properties; bytes that no property tells apart share a class.
 
 // 128 and more
-const HIGH: u16 = 0b00_0001_0000;
+const HIGH: u16 = 0b000_0001_0000;
 
-// any other byte
-const OTHER: u16 = 0b00_0001_1000;
+// any other byte that a line can hold
+const OTHER: u16 = 0b000_0011_1000;
+
+// any other byte under 32, and 127
+const CONTROL: u16 = 0b000_0001_1000;
 
 // 0 to 9
-const DIGIT: u16 = 0b00_0001_1111;
+const DIGIT: u16 = 0b000_0011_1111;
 
 // A to F, a to f
-const HEX_LETTER: u16 = 0b00_0011_1101;
+const HEX_LETTER: u16 = 0b000_0111_1101;
 
 // another letter or `_`
-const LETTER: u16 = 0b00_0011_1001;
+const LETTER: u16 = 0b000_0111_1001;
 
-// space, tab
-const BLANK: u16 = 0b10_0101_1000;
+const SPACE: u16 = 0b100_1011_1000;
 
-const LF: u16 = 0b01_0100_1000;
+const TAB: u16 = 0b100_1001_1000;
 
-const CR: u16 = 0b00_1001_1000;
+const LF: u16 = 0b010_1000_1000;
+
+const CR: u16 = 0b001_0001_1000;
 
 // `/`
-const SLASH: u16 = 0b01_1001_1000;
+const SLASH: u16 = 0b011_0011_1000;
 
 // `*`
-const STAR: u16 = 0b01_0001_1000;
+const STAR: u16 = 0b010_0011_1000;
 
 pub const CLASSES: [u16; 256] = [
-    OTHER, // 0
-    OTHER, // 1
-    OTHER, // 2
-    OTHER, // 3
-    OTHER, // 4
-    OTHER, // 5
-    OTHER, // 6
-    OTHER, // 7
-    OTHER, // 8
-    BLANK, // TAB
+    CONTROL, // 0
+    CONTROL, // 1
+    CONTROL, // 2
+    CONTROL, // 3
+    CONTROL, // 4
+    CONTROL, // 5
+    CONTROL, // 6
+    CONTROL, // 7
+    CONTROL, // 8
+    TAB, // TAB
     LF, // LF
-    OTHER, // 11
-    OTHER, // 12
+    CONTROL, // 11
+    CONTROL, // 12
     CR, // CR
-    OTHER, // 14
-    OTHER, // 15
-    OTHER, // 16
-    OTHER, // 17
-    OTHER, // 18
-    OTHER, // 19
-    OTHER, // 20
-    OTHER, // 21
-    OTHER, // 22
-    OTHER, // 23
-    OTHER, // 24
-    OTHER, // 25
-    OTHER, // 26
-    OTHER, // 27
-    OTHER, // 28
-    OTHER, // 29
-    OTHER, // 30
-    OTHER, // 31
-    BLANK, // space
+    CONTROL, // 14
+    CONTROL, // 15
+    CONTROL, // 16
+    CONTROL, // 17
+    CONTROL, // 18
+    CONTROL, // 19
+    CONTROL, // 20
+    CONTROL, // 21
+    CONTROL, // 22
+    CONTROL, // 23
+    CONTROL, // 24
+    CONTROL, // 25
+    CONTROL, // 26
+    CONTROL, // 27
+    CONTROL, // 28
+    CONTROL, // 29
+    CONTROL, // 30
+    CONTROL, // 31
+    SPACE, // space
     OTHER, // !
     OTHER, // "
     OTHER, // #
@@ -157,7 +161,7 @@ pub const CLASSES: [u16; 256] = [
     OTHER, // |
     OTHER, // }
     OTHER, // ~
-    OTHER, // 127
+    CONTROL, // 127
     HIGH, // 128
     HIGH, // 129
     HIGH, // 130

@@ -12,7 +12,7 @@ use entries::CLASSES;
 
 mod entries;
 
-// The properties of bytes, each by its bit in an entry of the table. The first five are the classes of which
+// The properties of bytes, each by its bit in an entry of the table. The first six are the classes of which
 // there are runs.
 pub const NAME: u8 = 0;
 
@@ -24,15 +24,18 @@ pub const ASCII: u8 = 3;
 
 pub const LINE: u8 = 4;
 
-const LETTER: u8 = 5;
+// 32 to 126: what a line can hold
+pub const SHOWN: u8 = 5;
 
-const SPACE: u8 = 6;
+const LETTER: u8 = 6;
 
-const PART_START: u8 = 7;
+const SPACE: u8 = 7;
 
-const MARK_OR_LINE_FEED: u8 = 8;
+const PART_START: u8 = 8;
 
-const SPACE_OR_TAB: u8 = 9;
+const MARK_OR_LINE_FEED: u8 = 9;
+
+const SPACE_OR_TAB: u8 = 10;
 
 // How many bytes of a run are told by a search, before the table is copied.
 const SHORT_RUN: usize = 12;
@@ -224,10 +227,10 @@ fn class_of(b: u8) -> u16
 fn property_of(k: u8) -> u8
     ensures { λ r. ⌜ r ≡ known k ⌝ }
 {
-    if k < LINE {
+    if k < SHOWN {
         return k;
     }
-    LINE
+    SHOWN
 }
 
 // Whether b is of the class k.

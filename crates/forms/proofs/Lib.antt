@@ -1,3 +1,4 @@
 pub mod Placing
 pub mod Copying
 pub mod Constructs
+pub mod Spoils

@@ -1,3 +1,4 @@
 pub mod Line
+pub mod Spoiled
 pub mod Forms
 pub mod code

@@ -12,14 +12,14 @@ use Rattle.records.specs.Tree.{Tree, Trees}
 use Rattle.records.specs.Stored.{Kinds, KindsAll}
 use Rattle.sources.specs.Source.{Source, Token, Scanned, tok, bad, scanned, lex}
 use Rattle.answers.specs.Reading.{Ans, ok, no, Reader}
-use Rattle.frames.specs.Related.{Frame, Alike, leaves, nodes, AllAlike, nones, mores, Step, Met, toks, bads, Rel, oks, nos, quit, Lawful, Obeys}
+use Rattle.frames.specs.Related.{Frame, Alike, leaves, nodes, AllAlike, nones, mores, Step, Met, toks, bads, Rel, oks, nos, quit, Lawful, Strings, Obeys}
 
 -- what the lexer refuses, and what readers do
 abbrev pub textRefusals : List ℕ
 textRefusals = lexRefusals ++ (UnexpectedToken ∷ CommaForItem ∷ ListNotClosed ∷ NoValue ∷ TooDeep ∷ [])
 
 abbrev frame : Frame
-frame = record { starts = λ a b. Unit {0}; ends = λ a b. Unit {0}; source = λ u v. u ≡ v; kind = λ c. c < 65536; number = λ n. among textRefusals n ≡ true; quits = λ _. ⊥ }
+frame = record { starts = λ a b. Unit {0}; ends = λ a b. Unit {0}; source = λ u v. u ≡ v; kind = λ c. c < 65536; word = λ k w. Unit {0}; number = λ n. among textRefusals n ≡ true; quits = λ _. ⊥ }
 
 abbrev pub TokenMet : Scanned → Type 0
 TokenMet (tok t) = Unit {0}
@@ -35,7 +35,7 @@ unfolding lex
 token-met u = scanned-met u (lexFrom (u .at) (u .rest)) (lex-met (u .at) (u .rest))
 
 token-itself : (t : Token) → Step frame t t
-token-itself t = record { kind = refl; spelled = refl; from = tt; to = tt; on = λ _. refl; half = λ _. refl }
+token-itself t = record { kind = refl; spelled = refl; good = tt; from = tt; to = tt; on = λ _. refl; half = λ _. refl }
 
 itself : (l : Scanned) → TokenMet l → Met frame l l
 itself (tok t) h = toks (token-itself t)
@@ -56,17 +56,21 @@ law =
       point = λ s s₂ h. tt;
       ended = λ u u₂ h. tt;
       next = λ u u₂ h. rw h (itself (lex u₂) (token-met u₂));
-      kinds = λ c h. omega arith;
+      kinds = λ c h s. omega arith;
+      wordless = tt;
       numbers = λ n h g.
           let z : UnexpectedToken + (n - UnexpectedToken) ≡ n = omega arith in
           subst (λ (m : ℕ). among textRefusals m ≡ true) z (reader-number (n - UnexpectedToken) (omega arith));
     }
 
+strings : Strings frame
+strings = record { hex = omega arith; byte = omega arith }
+
 mutual
   unfolding Kinds KindsAll
 
   tree-kinds : {t u : Tree} → Alike frame t u → Kinds t
-  tree-kinds (leaves c w x y) = c
+  tree-kinds (leaves c b g w x y) = c
   tree-kinds (nodes c x y xs) = (c, trees-kinds xs)
 
   trees-kinds : {ts us : Trees} → AllAlike frame ts us → KindsAll ts
@@ -84,4 +88,4 @@ checked (nos d) = d .good
 checked (quit d) = absurd d
 
 pub checked-reader : (item : Reader) → Obeys item → (t : Token) → Checked (item t)
-checked-reader item obeys t = checked (obeys frame law t t (token-itself t))
+checked-reader item obeys t = checked (obeys frame law strings t t (token-itself t))

@@ -20,10 +20,10 @@ pub data Deeper {A : Type 0} : (a b : Ans A) → Type 0 where
   deep : (r : Refusal) (b : Ans A) → r .number ≡ TooDeep → Deeper (no r) b
 
 abbrev frame : Frame
-frame = record { starts = λ a b. a ≡ b; ends = λ a b. a ≡ b; source = λ u v. u ≡ v; kind = λ c. Unit {0}; number = λ n. Unit {0}; quits = λ r. r .number ≡ TooDeep }
+frame = record { starts = λ a b. a ≡ b; ends = λ a b. a ≡ b; source = λ u v. u ≡ v; kind = λ c. Unit {0}; word = λ k w. Unit {0}; number = λ n. Unit {0}; quits = λ r. r .number ≡ TooDeep }
 
 token-itself : (t : Token) → Step frame t t
-token-itself t = record { kind = refl; spelled = refl; from = refl; to = refl; on = λ _. refl; half = λ _. refl }
+token-itself t = record { kind = refl; spelled = refl; good = tt; from = refl; to = refl; on = λ _. refl; half = λ _. refl }
 
 itself : (l : Scanned) → Met frame l l
 itself (tok t) = toks (token-itself t)
@@ -35,13 +35,14 @@ law =
       point = λ s s₂ h. h;
       ended = λ u u₂ h. ap (λ (v : Source). v .at) h;
       next = λ u u₂ h. rw h (itself (lex u₂));
-      kinds = λ c h. tt;
+      kinds = λ c h s. tt;
+      wordless = tt;
       numbers = λ n h g. tt;
     }
 
 mutual
   tree-is : {t u : Tree} → Alike frame t u → t ≡ u
-  tree-is (leaves c w x y) = rw (w, x, y)
+  tree-is (leaves c b g w x y) = rw (w, x, y)
   tree-is (nodes c x y xs) = rw (x, y, trees-are xs)
 
   trees-are : {ts us : Trees} → AllAlike frame ts us → ts ≡ us

@@ -6,3 +6,4 @@ pub mod Deeper
 pub mod Told
 pub mod Unbracketed
 pub mod Faithful
+pub mod Words

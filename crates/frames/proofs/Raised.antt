@@ -21,18 +21,19 @@ use Rattle.answers.specs.Reading.{Ans, ok, no, look, when, Reader}
 use Rattle.answers.specs.Raise.{raiseAns}
 use Rattle.grammar.specs.Items.{readKind, followed, finished, readItem}
 use Rattle.grammar.specs.Raise.{raiseItem}
-use Rattle.frames.specs.Related.{Frame, Alike, leaves, nodes, AllAlike, nones, mores, Refused, Step, Met, toks, bads, Rel, oks, nos, quit, Lawful, Obeys}
+use Rattle.frames.specs.Related.{Frame, Alike, leaves, nodes, AllAlike, nones, mores, Refused, Step, Met, toks, bads, Rel, oks, nos, quit, Lawful, Strings, Obeys}
 use Rattle.frames.proofs.Readers.{kind-obeys}
 
 module _ (k : ℕ) where
   abbrev frame : Frame
-  frame = record { starts = λ a b. a ≡ k + b; ends = λ a b. a ≡ k + b; source = λ u v. u ≡ raiseSource k v; kind = λ _. Unit {0}; number = λ _. Unit {0}; quits = λ _. ⊥ }
+  frame = record { starts = λ a b. a ≡ k + b; ends = λ a b. a ≡ k + b; source = λ u v. u ≡ raiseSource k v; kind = λ _. Unit {0}; word = λ k w. Unit {0}; number = λ _. Unit {0}; quits = λ _. ⊥ }
 
   token-raised : (t : Token) → Step frame (raiseToken k t) t
   token-raised t =
       record {
         kind = refl;
         spelled = refl;
+        good = tt;
         from = refl;
         to = add-assoc k (t .here .at) (t .len);
         on = λ _. past-raised k (t .len) (t .here);
@@ -49,15 +50,19 @@ module _ (k : ℕ) where
         point = λ s s₂ h. h;
         ended = λ u u₂ h. ap (λ (v : Source). v .at) h;
         next = λ u u₂ h. rw (h, lex-raised k u₂) (raised (lex u₂));
-        kinds = λ c h. tt;
+        kinds = λ c h s. tt;
+        wordless = tt;
         numbers = λ n h g. tt;
       }
+
+  strings : Strings frame
+  strings = record { hex = tt; byte = tt }
 
   mutual
     unfolding raiseTree raiseTrees
 
     tree-is : {t u : Tree} → Alike frame t u → t ≡ raiseTree k u
-    tree-is (leaves c w x y) = rw (w, x, y)
+    tree-is (leaves c b g w x y) = rw (w, x, y)
     tree-is (nodes c x y xs) = rw (x, y, trees-are xs)
 
     trees-are : {ts us : Trees} → AllAlike frame ts us → ts ≡ raiseTrees k us
@@ -74,7 +79,7 @@ module _ (k : ℕ) where
   answer-is (quit d) = absurd d
 
   pub raised-reader : (item : Reader) → Obeys item → (t : Token) → item (raiseToken k t) ≡ raiseAns raiseTree k (item t)
-  raised-reader item obeys t = answer-is (obeys frame law (raiseToken k t) t (token-raised t))
+  raised-reader item obeys t = answer-is (obeys frame law strings (raiseToken k t) t (token-raised t))
 
   looked-raised : (kind : ℕ) (l : Scanned) → look (raiseScanned k l) (readKind kind) ≡ raiseAns raiseTree k (look l (readKind kind))
   unfolding look raiseAns

@@ -26,7 +26,7 @@ abbrev pub AllTold : (ℕ → Bool) → Ans Trees → Type 0
 AllTold p (ok ts u) = Every p ts
 AllTold p (no r) = Unit {0}
 
-look-told : {B : Type 0} (P : Ans B → Type 0) (l : Scanned) (f : Token → Ans B) → ((r : Refusal) → P (no r)) → ((t : Token) → P (f t)) → P (look l f)
+pub look-told : {B : Type 0} (P : Ans B → Type 0) (l : Scanned) (f : Token → Ans B) → ((r : Refusal) → P (no r)) → ((t : Token) → P (f t)) → P (look l f)
 unfolding look
 look-told P (tok t) f n g = g t
 look-told P (bad r) f n g = n r

@@ -6,10 +6,11 @@ use native.Mathlib.Omega.{arith}
 use borrow.Author.Tests.{eqb-true}
 use lib.Dec.{eqb}
 use Rattle.classes.proofs.Bools.{and-right}
-use Rattle.words.specs.Kinds.{Comma, Greater, GreaterGreater}
+use Rattle.words.specs.Kinds.{ByteStringValue, Comma, Greater, GreaterGreater}
 use Rattle.sources.specs.Source.{Source, Token, start, after, split, Scanned, lex}
 use Rattle.answers.specs.Reading.{Ans, no, then, look, when, closed, leafOf, refusedAt, refusedBefore, Reader, list, listBehind}
 use Rattle.answers.proofs.Further.{left, Frugal, enough}
+use Rattle.forms.specs.Spoiled.{isString}
 use Rattle.frames.specs.Related.{Frame, Alike, leaves, AllAlike, nones, mores, Goes, Step, Met, toks, bads, Rel, oks, nos, quit, RelReader, Lawful}
 
 -- a kind that a test named
@@ -54,8 +55,8 @@ module _ (F : Frame) (L : Lawful F) where
       (λ _. i))
 
   -- leaves, and refusals at tokens
-  pub leaf-rel : (c : ℕ) {t t₂ : Token} → F .kind c → Step F t t₂ → Alike F (leafOf c t) (leafOf c t₂)
-  leaf-rel c k d = leaves k (d .spelled) (d .from) (d .to)
+  pub leaf-rel : (c : ℕ) {t t₂ : Token} → F .kind c → isString c ≡ eqb (t .kind) ByteStringValue → Step F t t₂ → Alike F (leafOf c t) (leafOf c t₂)
+  leaf-rel c k s d = leaves k s (d .good) (d .spelled) (d .from) (d .to)
 
   pub at-rel : {A B : Type 0} {Y : A → B → Type 0} (n : ℕ) {t t₂ : Token} → 10 ≤ n → n ≤ 14 → Step F t t₂ → Rel F Y (no (refusedAt n t)) (no (refusedAt n t₂))
   at-rel n h g d = nos (record { same = refl; good = L .numbers n h g; from = d .from; to = d .to; from₂ = d .from; to₂ = d .to })

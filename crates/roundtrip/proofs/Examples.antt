@@ -1,4 +1,4 @@
--- P1 to P15 hold of the definitions that the contracts of the calls cite, by computation.
+-- The examples hold of the definitions that the contracts of the calls cite, by computation.
 use mathlib.Core.Path.{_≡_, refl}
 use mathlib.Core.List.{map}
 use Rattle.classes.specs.Bytes.{begins}
@@ -25,10 +25,11 @@ use Rattle.grammar.specs.Binds.{fields, structOver, unpacked, bindOver, fieldOv
 use Rattle.grammar.specs.Items.{readKind, followed, finished, readItem}
 use Rattle.forms.specs.Line.{plain, others, commas, bars, angles, inBrackets, braces, first, later, initial, final, select, isField, isType, shape, kindOfBuild, line as lineOf, pieces, shown}
 use Rattle.forms.specs.Forms.{head, recorded, recordedAll, laid}
-use Rattle.calls.specs.Calls.{limitOf, roomed, written, called, calledBuffer, answeredIn, read as readCall, readBuffer, answered, readNumber, readValues, display as displayCall, displayBuffer, displayed, displayNumber, displayValues}
+use Rattle.forms.specs.Spoiled.{spoils, spoiledWord, firstOf, spoiled, spoiledAll}
+use Rattle.calls.specs.Calls.{limitOf, roomed, written, unlessSpoiled, unspoiled, answeredIn, read as readCall, readBuffer, answered, readNumber, readValues, display as displayCall, displayBuffer, displayed, displayNumber, displayValues}
 use Rattle.roundtrip.specs.Examples.{expected, given, examples}
 
--- the definitions by which a gap and a word are found; a token; an item; and its bytes and answer
+-- the definitions by which a gap and a word are found; a token; an item; its bytes and answer; and what spoils a line
 unfoldable scanning : Unit {0}
 unfolding begins inRange isDigit isHex isLetter isName isAscii inLine runLen isSpace isBlank slashes opens closes docLine docBlock inside lineText lineComment blockComment partAt gap holdsLineFeed lineFeed
 scanning = tt
@@ -42,9 +43,13 @@ unfolding then look when closed list listBehind lastPart thirdPart secondPart ch
 reading = tt
 
 unfoldable calling : Unit {0}
-unfolding build builds two span header plain others commas bars angles inBrackets braces first later initial final select isField isType shape kindOfBuild lineOf pieces shown head recorded recordedAll laid limitOf roomed written called calledBuffer answeredIn readCall readBuffer answered readNumber readValues displayCall displayBuffer displayed displayNumber displayValues
+unfolding build builds two span header plain others commas bars angles inBrackets braces first later initial final select isField isType shape kindOfBuild lineOf pieces shown head recorded recordedAll laid limitOf roomed written answeredIn readCall readBuffer answered readNumber readValues displayCall displayBuffer displayed displayNumber displayValues
 calling = tt
 
+unfoldable spoiling : Unit {0}
+unfolding spoils spoiledWord firstOf spoiled spoiledAll unlessSpoiled unspoiled
+spoiling = tt
+
 pub examples-hold : map given examples ≡ map expected examples
-unfolding given examples scanning lexing reading calling
+unfolding given examples scanning lexing reading calling spoiling
 examples-hold = refl

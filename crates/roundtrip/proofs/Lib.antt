@@ -8,4 +8,5 @@ pub mod Types
 pub mod Binds
 pub mod Round
 pub mod Theorem
+pub mod Clean
 pub mod Examples

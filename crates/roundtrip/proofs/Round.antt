@@ -36,11 +36,11 @@ use Rattle.roundtrip.proofs.Types.{Typed, type-sure}
 use Rattle.roundtrip.proofs.Binds.{ListBack, list-sure, LambdaBack, lambda-sure}
 
 -- what stands in a text, read as an item of a kind from 0 on
-abbrev reading : ℕ → List ℕ → Ans Tree
+abbrev pub reading : ℕ → List ℕ → Ans Tree
 reading kind text = look (lex (opened text 0)) (readKind kind)
 
 -- the line of x alone, so read, gives the build of x and leaves nothing
-abbrev Alone : ℕ → Tree → Type 0
+abbrev pub Alone : ℕ → Tree → Type 0
 Alone kind x = Gives (Same x) [] (reading kind (shown x))
 
 alone : (kind : ℕ) (x : Tree) (one : Reader) → ((u : Source) → Near u (shown x ++ []) → Met (λ (a : Token). Gives (Same x) [] (one a)) (lex u))
@@ -89,7 +89,7 @@ item-of P kind h text at =
     finished-of Q (look (lex (opened text at)) (readKind kind)) (look-every Q (opened text at) (readKind kind) λ a g. map-every P Q (readKind kind a) (λ x y. (c, y)) (h a g))
 
 module _ (kind : ℕ) (text : List ℕ) (at : ℕ) (x : Tree) (n : Token) (e : readItem kind text at ≡ item x n) where
-  item-alone : (noKind kind ≡ false) × Alone kind x
+  pub item-alone : (noKind kind ≡ false) × Alone kind x
   item-alone = subst (Of (λ (x : Tree). (noKind kind ≡ false) × Alone kind x)) e (item-of (Alone kind) kind (kind-alone kind) text at)
 
 -- in what is read as a type, anywhere and with any number of levels left, no function type stands directly among the arguments of

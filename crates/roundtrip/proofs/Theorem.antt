@@ -3,6 +3,7 @@ use mathlib.Core.Path.{_≡_, refl, subst, sym, ap, ap₂, _∙_}
 use mathlib.Core.Bool.{Bool, true, false}
 use mathlib.Core.Logic.{_↔_}
 use mathlib.Core.List.{List, [], _∷_, _++_}
+use mathlib.Core.Option.{Option, some, none as clean}
 use Prim.Native.Nat.{ℕ, _≤_}
 use native.Mathlib.Omega.{arith}
 use borrow.Author.Tests.{le-ltb}
@@ -21,14 +22,16 @@ use Rattle.answers.specs.Reading.{no, when}
 use Rattle.grammar.specs.Items.{Item, item, refused, readItem}
 use Rattle.forms.specs.Line.{shown}
 use Rattle.forms.specs.Forms.{FormStored, FormLine, laid}
+use Rattle.forms.specs.Spoiled.{spoiled}
 use Rattle.forms.proofs.Constructs.{laid-stored}
-use Rattle.calls.specs.Calls.{itemRefusals, limitOf, tooLong, roomed, written, called, calledBuffer, answeredIn, read, readBuffer, answered, readNumber, readValues, display, displayBuffer, displayed, displayNumber, displayValues}
+use Rattle.forms.proofs.Spoils.{build-spoiled}
+use Rattle.calls.specs.Calls.{itemRefusals, displayRefusals, limitOf, tooLong, roomed, written, unlessSpoiled, unspoiled, answeredIn, read, readBuffer, answered, readNumber, readValues, display, displayBuffer, displayed, displayNumber, displayValues}
 use Rattle.calls.proofs.Room.{roomed-fits}
 use Rattle.calls.proofs.RefusalSets.{read-refusals, display-refusals}
 use Rattle.roundtrip.specs.Demand.{Lent, readOf, displayOf, NotRefused, Accepted, treeLength, lineLength, lineOf, lineBack, eofAt, ReadBack, AnsweredBack}
 use Rattle.roundtrip.proofs.Round.{again, same-lines}
 
--- an item that is not refused for its room is the item; and there is room for what fits
+-- an item that is not refused for its room is the item; one that is shown is clean; and there is room for what fits
 module _ (form room : ℕ) (t : Tree) (n : Token) where
   not-refused : NotRefused (roomed form room (item t n)) → roomed form room (item t n) ≡ item t n
   unfolding roomed when
@@ -37,6 +40,11 @@ module _ (form room : ℕ) (t : Tree) (n : Token) where
       go : (b : Bool) → NotRefused (when b (λ _. refused (refusal 4 0 0)) λ _. item t n) → when b (λ _. refused (refusal 4 0 0)) (λ _. item t n) ≡ item t n
       go true h = absurd h
       go false h = refl
+
+  clean-shown : (o : Option ℕ) → NotRefused (roomed form room (unlessSpoiled o (item t n))) → o ≡ clean
+  unfolding roomed unlessSpoiled
+  clean-shown clean h = refl
+  clean-shown (some b) h = absurd h
 
   room-for : length (laid form t) ≤ room → length (laid form t) ≤ limitOf form → roomed form room (item t n) ≡ item t n
   unfolding roomed when
@@ -57,7 +65,7 @@ module _ (i : Lent) (t : Tree) (n : Token) where
   read-values e = rw e
 
   tree-written : readOf i ≡ item t n → readBuffer (i .kind) (i .text) (i .at) (i .forTree) ≡ stored t ++ drop (length (stored t)) (i .forTree)
-  unfolding read readBuffer calledBuffer written
+  unfolding read readBuffer written
   tree-written e = rw (e, laid-stored t)
 
   line-length : displayOf i ≡ item t n → lineLength i ≡ length (shown t)
@@ -69,7 +77,7 @@ module _ (i : Lent) (t : Tree) (n : Token) where
   display-values e = rw e
 
   line-written : displayOf i ≡ item t n → displayBuffer (i .kind) (i .text) (i .at) (i .forLine) ≡ shown t ++ drop (length (shown t)) (i .forLine)
-  unfolding display displayBuffer calledBuffer written laid
+  unfolding display displayBuffer written laid
   line-written e = rw e
 
   line-is : displayOf i ≡ item t n → lineOf i ≡ shown t
@@ -78,27 +86,37 @@ module _ (i : Lent) (t : Tree) (n : Token) where
 -- the item, its two answers, and that both fit
 record Known (i : Lent) (t : Tree) (n : Token) : Type 0 where
   isItem : readItem (i .kind) (i .text) (i .at) ≡ item t n
+  isClean : spoiled t ≡ clean
   isShown : displayOf i ≡ item t n
   treeFits : (length (stored t) ≤ length (i .forTree)) × (length (stored t) ≤ limitOf FormStored)
   lineFits : (length (shown t) ≤ length (i .forLine)) × (length (shown t) ≤ limitOf FormLine)
 
-known : (i : Lent) (t : Tree) (n : Token) → Accepted i t n → Known i t n
-unfolding read display called laid
-known i t n a =
-    let r = roomed-fits FormStored (length (i .forTree)) (readItem (i .kind) (i .text) (i .at)) t n (a .isRead) in
-    let d : displayOf i ≡ item t n = ap (roomed FormLine (length (i .forLine))) (r .0) ∙ not-refused FormLine (length (i .forLine)) t n (rw (r .0) at (a .isShown)) in
-    let l = roomed-fits FormLine (length (i .forLine)) (readItem (i .kind) (i .text) (i .at)) t n d in
-    let s : length (laid FormStored t) ≡ length (stored t) = ap length (laid-stored t) in
-    record { isItem = r .0; isShown = d; treeFits = (omega (arith, r .1), omega (arith, r .2)); lineFits = (l .1, l .2) }
+-- the display of a clean item looks at its room alone
+shown-clean : (room kind : ℕ) (text : List ℕ) (at : ℕ) (t : Tree) (n : Token) → readItem kind text at ≡ item t n → spoiled t ≡ clean → display kind text at room ≡ roomed FormLine room (item t n)
+unfolding display unspoiled unlessSpoiled
+shown-clean room kind text at t n e c = ap (λ (j : Item). roomed FormLine room (unspoiled j)) e ∙ ap (λ (o : Option ℕ). roomed FormLine room (unlessSpoiled o (item t n))) c
 
--- an item with room for its tree and its line
-accept : (i : Lent) (t : Tree) (n : Token) → readItem (i .kind) (i .text) (i .at) ≡ item t n → (length (stored t) ≤ length (i .forTree)) × (length (stored t) ≤ limitOf FormStored)
+known : (i : Lent) (t : Tree) (n : Token) → Accepted i t n → Known i t n
+unfolding read display unspoiled unlessSpoiled laid
+known i t n a =
+    let m : ℕ = length (i .forLine) in
+    let r = roomed-fits FormStored (length (i .forTree)) (readItem (i .kind) (i .text) (i .at)) t n (a .isRead) in
+    let h : NotRefused (roomed FormLine m (unlessSpoiled (spoiled t) (item t n))) = subst (λ (j : Item). NotRefused (roomed FormLine m (unspoiled j))) (r .0) (a .isShown) in
+    let c : spoiled t ≡ clean = clean-shown FormLine m t n (spoiled t) h in
+    let g : NotRefused (roomed FormLine m (item t n)) = subst (λ (o : Option ℕ). NotRefused (roomed FormLine m (unlessSpoiled o (item t n)))) c h in
+    let d : displayOf i ≡ item t n = shown-clean m (i .kind) (i .text) (i .at) t n (r .0) c ∙ not-refused FormLine m t n g in
+    let l = roomed-fits FormLine m (unspoiled (readItem (i .kind) (i .text) (i .at))) t n d in
+    let s : length (laid FormStored t) ≡ length (stored t) = ap length (laid-stored t) in
+    record { isItem = r .0; isClean = c; isShown = d; treeFits = (omega (arith, r .1), omega (arith, r .2)); lineFits = (l .1, l .2) }
+
+-- a clean item with room for its tree and its line
+accept : (i : Lent) (t : Tree) (n : Token) → readItem (i .kind) (i .text) (i .at) ≡ item t n → spoiled t ≡ clean → (length (stored t) ≤ length (i .forTree)) × (length (stored t) ≤ limitOf FormStored)
     → (length (shown t) ≤ length (i .forLine)) × (length (shown t) ≤ limitOf FormLine) → (readOf i ≡ item t n) × (displayOf i ≡ item t n)
-unfolding read display called laid
-accept i t n e g h =
+unfolding read laid
+accept i t n e c g h =
     let s : length (laid FormStored t) ≡ length (stored t) = ap length (laid-stored t) in (
       ap (roomed FormStored (length (i .forTree))) e ∙ room-for FormStored (length (i .forTree)) t n (omega (arith, g .0)) (omega (arith, g .1)),
-      ap (roomed FormLine (length (i .forLine))) e ∙ room-for FormLine (length (i .forLine)) t n (h .0) (h .1),
+      shown-clean (length (i .forLine)) (i .kind) (i .text) (i .at) t n e c ∙ room-for FormLine (length (i .forLine)) t n (h .0) (h .1),
     )
 
 -- a line is never too long for a text
@@ -137,7 +155,7 @@ module _ (i : Lent) (t : Tree) (n : Token) (a : Accepted i t n) (out lineOut : L
       let s : length (stored (b .tree)) ≡ treeLength i = b .sameSize ∙ sym (tree-length i t n (a .isRead)) in
       let m : shown (b .tree) ≡ lineOf i = b .sameLine ∙ sym l in
       let v : length (shown (b .tree)) ≡ lineLength i = ap length m ∙ line-counted i t n a in
-      let c = accept j (b .tree) (b .next) (rw l (b .isItem)) (omega arith, omega (arith, k .treeFits .1, tree-length i t n (a .isRead))) (omega arith, omega (arith, k .lineFits .1, line-length i t n (k .isShown))) in
+      let c = accept j (b .tree) (b .next) (rw l (b .isItem)) (build-spoiled t (b .tree) (sym (b .sameBuild)) .0 (k .isClean)) (omega arith, omega (arith, k .treeFits .1, tree-length i t n (a .isRead))) (omega arith, omega (arith, k .lineFits .1, line-length i t n (k .isShown))) in
       record {
         tree = b .tree;
         next = b .next;
@@ -169,22 +187,21 @@ module _ (i : Lent) (t : Tree) (n : Token) (a : Accepted i t n) (out lineOut : L
       }
 
 -- no refusal has the number 0: an item is accepted where both numbers are 0
-abbrev Numbered : Item → Type 0
-Numbered x = (r : Refusal) → x ≡ refused r → among itemRefusals (r .number) ≡ true
+abbrev Numbered : List ℕ → Item → Type 0
+Numbered set x = (r : Refusal) → x ≡ refused r → among set (r .number) ≡ true
 
-never-0 : (A : Type 0) (n : ℕ) → n ≡ 0 → among itemRefusals n ≡ true → A
-unfolding among
-never-0 A n e h = false-true A (subst (λ (m : ℕ). among itemRefusals m ≡ true) e h)
+never-0 : (A : Type 0) (set : List ℕ) (n : ℕ) → among set 0 ≡ false → n ≡ 0 → among set n ≡ true → A
+never-0 A set n z e h = false-true A (sym z ∙ subst (λ (m : ℕ). among set m ≡ true) e h)
 
-read-item : (x : Item) → Numbered x → readNumber (answered x) ≡ 0 → (t : Tree) × (n : Token) × (x ≡ item t n)
-unfolding answered answeredIn readNumber
+read-item : (x : Item) → Numbered itemRefusals x → readNumber (answered x) ≡ 0 → (t : Tree) × (n : Token) × (x ≡ item t n)
+unfolding answered answeredIn readNumber among
 read-item (item t n) h e = (t, n, refl)
-read-item (refused r) h e = never-0 _ (r .number) e (h r refl)
+read-item (refused r) h e = never-0 _ itemRefusals (r .number) refl e (h r refl)
 
-shown-item : (x : Item) → Numbered x → displayNumber (displayed x) ≡ 0 → NotRefused x
-unfolding displayed displayNumber
+shown-item : (x : Item) → Numbered displayRefusals x → displayNumber (displayed x) ≡ 0 → NotRefused x
+unfolding displayed displayNumber among
 shown-item (item t n) h e = tt
-shown-item (refused r) h e = never-0 ⊥ (r .number) e (h r refl)
+shown-item (refused r) h e = never-0 ⊥ displayRefusals (r .number) refl e (h r refl)
 
 pub accepted-by-numbers : (i : Lent) → readNumber (answered (readOf i)) ≡ 0 → displayNumber (displayed (displayOf i)) ≡ 0 → (t : Tree) × (n : Token) × Accepted i t n
 accepted-by-numbers i g h =

@@ -13,6 +13,7 @@ use Rattle.tokens.specs.Calls.{admitted, lexed, nextToken}
 use Rattle.tokens.specs.declared.Lexed.the-variants.{Refused}
 use Rattle.tokens.proofs.Lexing as lexing
 use Rattle.tokens.proofs.Spelled.{markKind, spelling, SpeltToken, lex-spelt, shift-split}
+use Rattle.tokens.proofs.Legible.{legible, LegibleToken, lex-legible}
 use Rattle.tokens.proofs.Again.{lex-again}
 use Rattle.sources.specs.Source.{Source, opened, past, Token, word, after, split, Scanned, tok, bad, scanned, lex, answerOf}
 
@@ -32,7 +33,8 @@ pad-length zero r = omega arith
 pad-length (suc n) r = omega (arith, pad-length n r)
 
 -- a token of a source: it stands behind a gap; every token but EOF takes a byte, and EOF stands at the end; a mark is spelled as its
--- kind says, behind the first byte of `>>` stands its second; and read again from its first byte it is the same token
+-- kind says, behind the first byte of `>>` stands its second; its bytes show, or it is a string below 128; and read again from its
+-- first byte it is the same token
 pub record Standing (u : Source) (t : Token) : Type 0 where
   pub gap : ℕ
   pub here : t .here ≡ past gap u
@@ -41,6 +43,7 @@ pub record Standing (u : Source) (t : Token) : Type 0 where
   pub last : (t .kind ≡ EOF → (t .len ≡ 0) × (gap ≡ length (u .rest)))
   pub marked : (markKind (t .kind) ≡ true → word t ≡ spelling (t .kind))
   pub halves : (t .kind ≡ GreaterGreater → (t .len ≡ 2) × (split t .rest ≡ 62 ∷ after t .rest))
+  pub readable : legible (t .kind) (word t) ≡ true
   pub again : lex (t .here) ≡ tok t
 
 -- a place that ends in the source
@@ -89,6 +92,9 @@ module _ (u : Source) where
     from-here : drop (s - u .at) (u .rest) ≡ drop s text
     from-here = further (s - u .at) s here-at
 
+    spelt : take (e - s) (drop (s - u .at) (u .rest)) ≡ w
+    spelt = ap (take (e - s)) from-here ∙ sym (good .spelled)
+
     halved : k ≡ GreaterGreater → (e - s ≡ 2) × (drop 1 (drop (s - u .at) (u .rest)) ≡ 62 ∷ drop (e - s) (drop (s - u .at) (u .rest)))
     halved h =
         let d = shift-split text (u .at) s e w r (omega (arith, long)) (from-text ∙ ap (λ (j : ℕ). found j s e w r) h) in
@@ -104,8 +110,9 @@ module _ (u : Source) where
           within = omega (arith, good .from, good .ordered, good .within, long);
           takes = λ h. omega (arith, good .takes h);
           last = λ h. let z = good .last h in (omega (arith, z .0, z .1), omega (arith, z .0, long));
-          marked = λ h. ap (take (e - s)) from-here ∙ sym (good .spelled) ∙ subst SpeltToken l (lex-spelt (u .at) (u .rest)) h;
+          marked = λ h. spelt ∙ subst SpeltToken l (lex-spelt (u .at) (u .rest)) h;
           halves = halved;
+          readable = subst (λ (v : List ℕ). legible k v ≡ true) (sym spelt) (subst LegibleToken l (lex-legible (u .at) (u .rest)));
           again = at-once (past (s - u .at) u) k s e w r here-at (ap (lexFrom (u .at + (s - u .at))) from-here ∙ ap (λ (q : ℕ). lexFrom q (drop s text)) here-at ∙ lex-again text (u .at) k s e w r (omega (arith, long)) from-text);
         }
 

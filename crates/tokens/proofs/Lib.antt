@@ -6,6 +6,7 @@ pub mod Walks
 pub mod Shift
 pub mod Alone
 pub mod Spelled
+pub mod Legible
 pub mod Again
 pub mod RefusalSets
 pub mod TokenLines

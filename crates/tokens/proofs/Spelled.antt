@@ -121,7 +121,7 @@ same-is [] (b ∷ w) h = false-true _ h
 same-is (a ∷ v) [] h = false-true _ h
 same-is (a ∷ v) (b ∷ w) h = rw (eqb-true a b (and-left (eqb a b) (same v w) h)) (ap (_∷_ b) (same-is v w (and-right (eqb a b) (same v w) h)))
 
-begins-is : (w s : List ℕ) → begins w s ≡ true → take (length w) s ≡ w
+pub begins-is : (w s : List ℕ) → begins w s ≡ true → take (length w) s ≡ w
 unfolding begins
 begins-is [] s h = refl
 begins-is (a ∷ w) [] h = false-true _ h

@@ -46,6 +46,9 @@ NoValue = 13
 abbrev pub TooDeep : ℕ
 TooDeep = 14
 
+abbrev pub LineSpoiled : ℕ
+LineSpoiled = 18
+
 -- whether a number is one of a set of them
 unfoldable pub among : List ℕ → ℕ → Bool
 among [] n = false

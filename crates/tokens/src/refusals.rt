@@ -27,3 +27,5 @@ pub const LIST_NOT_CLOSED: u32 = 12;
 pub const NO_VALUE: u32 = 13;
 
 pub const TOO_DEEP: u32 = 14;
+
+pub const LINE_SPOILED: u32 = 18;

@@ -1,4 +1,4 @@
--- The walk to the closing quote: at a place of the text, in the code's own words; and its bounds, its shift and its end.
+-- The walk to the closing quote: at a place of the text, in the code's own words; and its bounds, its shift, its end and its byte.
 use mathlib.Core.Path.{_≡_, refl, subst}
 use mathlib.Core.Bool.{Bool, true, false}
 use mathlib.Core.List.{List, [], _∷_, _++_}
@@ -109,3 +109,22 @@ quote-local (a ∷ s) b i q h z =
     let n : q - i ≡ suc (q - suc i) = omega arith in
     rw n (rw (front s u (suc i) q (q - suc i) z p) refl, quote-local s u (suc i) q p z))
     (not-line a (getD (take (q - i) s ++ z) 0 0))
+
+-- a quote stands where one was found
+turn-there : (P : Type 0) (l b x y : Bool) (i q : ℕ) (go : Bool → Quote) → turn l b x y i go ≡ Found q → ((u : Bool) → go u ≡ Found q → P) → (y ≡ true → i ≡ q → P) → P
+turn-there P true b x y i q go h r t = let z : _≡_ {A = ℕ} 0 1 = cc in absurd (omega arith)
+turn-there P false true x y i q go h r t = r false h
+turn-there P false false true y i q go h r t = r true h
+turn-there P false false false true i q go h r t = t refl cc
+turn-there P false false false false i q go h r t = r false h
+
+pub quote-there : (s : List ℕ) (b : Bool) (i q : ℕ) → quoteFrom b i s ≡ Found q → getD s (q - i) 0 ≡ 34
+unfolding quoteFrom
+quote-there [] b i q h = let e : _≡_ {A = ℕ} 0 1 = cc in absurd (omega arith)
+quote-there (a ∷ s) b i q h =
+    turn-there (getD (a ∷ s) (q - i) 0 ≡ 34) (endsLine a (getD s 0 0)) b (eqb a 92) (eqb a 34) i q (λ u. quoteFrom u (suc i) s) h
+    (λ u p.
+    let l : (suc i ≤ q) × (q < suc i + length s) = subst (Within (suc i) (length s)) p (within s u (suc i)) in
+    let n : q - i ≡ suc (q - suc i) = omega arith in
+    rw n (quote-there s u (suc i) q p))
+    (λ y e. let n : q - i ≡ 0 = omega arith in rw n (eqb-true a 34 y))

@@ -119,20 +119,25 @@ pub fn read<'t, 'b>(
 }
 
 /// Writes the item of the kind from `at` on as one line into the buffer and gives its bytes,
-/// which are ASCII and hold no line feed. The buffer's other bytes stay as they are, and all of
+/// which are printable ASCII, 32 to 126. The buffer's other bytes stay as they are, and all of
 /// them where the display is refused.
 ///
 /// # Errors
 ///
-/// Refused as [`read`] is, but with 4 by the length of the line alone.
+/// Refused as [`read`] is, but with 4 by the length of the line alone, and before that with 18
+/// where a string holds a byte that a line cannot hold.
 ///
 /// ```
-/// use movesig::{display, Kind};
+/// use movesig::{display, Kind, Refusal, Span};
 ///
 /// let mut buffer = [0; 80];
 /// let line = display(Kind::BindList, b"( x,S{f} )", 0, &mut buffer)?;
 /// assert_eq!(line, b"(x, S {f: f})");
-/// # Ok::<(), movesig::Refusal>(())
+///
+/// let byte = Span { start: 3, end: 4 };
+/// let refused = display(Kind::Value, b"b\"a\rb\"", 0, &mut buffer);
+/// assert_eq!(refused, Err(Refusal::LineSpoiled { byte }));
+/// # Ok::<(), Refusal>(())
 /// ```
 #[inline]
 pub fn display<'b>(
@@ -149,7 +154,7 @@ pub fn display<'b>(
     Ok(first_bytes(buffer, answer.number(0)))
 }
 
-/// As [`display`], into a string of its own. This one allocates.
+/// As [`display`], into a string of its own, which holds each byte of the line. This one allocates.
 ///
 /// # Errors
 ///

@@ -69,6 +69,12 @@ pub enum Refusal {
         /// The first token of the item that is one level too deep.
         token: Span,
     },
+    /// 18: a string that was to be displayed holds a byte below 32 or the byte 127, which a line
+    /// cannot hold. The item can be read.
+    LineSpoiled {
+        /// The first such byte.
+        byte: Span,
+    },
     /// A number that this version of the crate does not know. The library that it was written
     /// for gives none.
     Other {
@@ -111,6 +117,7 @@ impl Refusal {
             },
             13 => NoValue { token: place },
             14 => TooDeep { token: place },
+            18 => LineSpoiled { byte: place },
             number => Other {
                 number,
                 place,
@@ -137,6 +144,7 @@ impl Refusal {
             ListNotClosed { .. } => 12,
             NoValue { .. } => 13,
             TooDeep { .. } => 14,
+            LineSpoiled { .. } => 18,
             Other { number, .. } => number,
         }
     }
@@ -149,7 +157,7 @@ impl Refusal {
             NoToken { at } | CommaForItem { at } | ListNotClosed { at, .. } => at,
             CommentNotClosed { opener } => opener,
             HexStringNotClosed { rest } | ByteStringNotClosed { rest } => rest,
-            StringNotAscii { byte } => byte,
+            StringNotAscii { byte } | LineSpoiled { byte } => byte,
             UnexpectedToken { token, .. } | NoValue { token } | TooDeep { token } => token,
             Other { place, .. } => place,
         }
@@ -191,6 +199,7 @@ impl Refusal {
             ListNotClosed { .. } => "list neither continued nor closed",
             NoValue { .. } => "no value here",
             TooDeep { .. } => "more than 64 levels",
+            LineSpoiled { .. } => "the line would hold a control byte",
             Other { .. } => "a refusal that this version does not know",
         }
     }

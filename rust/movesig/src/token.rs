@@ -21,7 +21,11 @@ impl Token {
     fn new(answer: Answer<'_>) -> Token {
         let Following { kind, span } = Following::new(answer, 0);
         let line_feed = answer.number(3) == 1;
-        Token { kind, span, line_feed }
+        Token {
+            kind,
+            span,
+            line_feed,
+        }
     }
 
     /// Whether this is the end of the text.

@@ -152,6 +152,7 @@ fn names() {
         match number {
             0 => assert_eq!(reason, "accepted"),
             1..=14 => assert_eq!(reason, reasons[number - 1]),
+            18 => assert_eq!(reason, reasons[14]),
             _ => assert_eq!(reason, "unknown"),
         }
     }

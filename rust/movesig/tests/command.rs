@@ -310,6 +310,10 @@ fn every_reason() {
         value("b\"aé\"".as_bytes()),
         "f.move:1:4 (byte 3): refused 9: byte of 128 or more in a string"
     );
+    assert_eq!(
+        value(b"b\"a\rb\""),
+        "f.move:1:4 (byte 3): refused 18: the line would hold a control byte"
+    );
     let no_value =
         "f.move:1:1 (byte 0): refused 13: no value here: found `fun` where a value was due";
     assert_eq!(value(b"fun"), no_value);
@@ -346,7 +350,10 @@ fn empty_file() {
 #[test]
 fn long_files_and_far_offsets() {
     let longest = vec![b' '; 65_535];
-    assert_eq!(accepted(&longest, "tokens f.move"), "1:  65535..65535  EOF\n");
+    assert_eq!(
+        accepted(&longest, "tokens f.move"),
+        "1:  65535..65535  EOF\n"
+    );
     let too_long = vec![b' '; 65_536];
     let error = "f.move: refused 1: text over 65,535 bytes: it has 65536\n";
     assert_eq!(refused(&too_long, "tokens f.move"), error);
@@ -370,8 +377,8 @@ fn long_files_and_far_offsets() {
 #[test]
 fn hostile_bytes() {
     assert_eq!(
-        accepted(b"b\"\x1b[31m\x07\t\x7f\"", "line value f.move"),
-        "b\"\\x1b[31m\\x07\\x09\\x7f\"\n"
+        accepted(b"b\"\x1b[31m\x07\t\x7f\"", "read value f.move"),
+        "byte string 0..11  b\"\\x1b[31m\\x07\\x09\\x7f\"\nfollowed by EOF 11..11\n"
     );
     // a bare CR is part of its line; a character that turns text round; bytes that are not UTF-8
     let text = b"/* \r \xe2\x80\xae \xff\xfe \x00 */ ?\r\n";
@@ -490,6 +497,35 @@ fn long_lines() {
     assert!(output.starts_with(&format!("1:  0..65535      Identifier  {cut}\n")));
     assert!(accepted(name.as_bytes(), "read name f.move").contains(&cut));
     assert_eq!(accepted(name.as_bytes(), "line name f.move"), name + "\n");
+}
+
+/// A string that has no line: the byte is shown, and what shows the tree is said.
+#[test]
+fn a_spoiled_line() {
+    let advice = "note: `movesig read` shows the tree\n";
+    for (text, shown) in [
+        (
+            &b"b\"a\rb\""[..],
+            "f.move:1:4 (byte 3): refused 18: the line would hold a control byte\n\
+             1 | b\"a\\x0db\"\n  |    ^^^^ byte 0x0d\nf.move:1:4 (byte 3): ",
+        ),
+        (
+            b"/*\r\n*/\tx\"\t\x1b\t\"",
+            "f.move:2:6 (byte 9): refused 18: the line would hold a control byte\n\
+             2 | */    x\"\\x09\\x1b    \"\n  |         ^^^^ byte 0x09\nf.move:2:6 (byte 9): ",
+        ),
+        (
+            b"b\"\\\x7f\" c",
+            "f.move:1:4 (byte 3): refused 18: the line would hold a control byte\n\
+             1 | b\"\\\\x7f\" c\n  |    ^^^^ byte 0x7f\nf.move:1:4 (byte 3): ",
+        ),
+    ] {
+        assert_eq!(refused(text, "line value f.move"), [shown, advice].concat());
+        assert!(accepted(text, "read value f.move").contains(" string "));
+    }
+    let json = r#"{"file":"f.move","item":"value","at":0,"refused":18,"reason":"the line would hold a control byte","start":2,"end":3,"line":1,"column":3,"notes":[{"at":2,"note":"`movesig read` shows the tree"}]}"#;
+    let (status, output, errors) = movesig(b"b\"\x1b\"", "--json line value f.move");
+    assert_eq!((status, output.trim_end(), &*errors), (1, json, ""));
 }
 
 /// Whatever the text, what is shown of it stands on the screen.

@@ -100,6 +100,38 @@ fn every_refusal() {
     assert_eq!(refused(Kind::Type, deep.as_bytes()), once(14, 64, 66));
 }
 
+/// A string that a line cannot hold is refused a line, with any room, and can be read.
+#[test]
+fn spoiled_lines() {
+    let mut buffer = vec![0; LONGEST];
+    for (text, byte) in [
+        (&b"b\"a\rb\""[..], 3),
+        (b"x\"\x7f\"", 2),
+        (b"b\"\\\t\"", 3),
+        (b" b\"\x1b[2K\x1b\"", 3),
+    ] {
+        let refusal = Refusal::LineSpoiled {
+            byte: span(byte, byte + 1),
+        };
+        for room in [0, 1, text.len(), LONGEST] {
+            let line = display(Kind::Value, text, 0, &mut buffer[..room]);
+            assert_eq!(line, Err(refusal));
+        }
+        assert_eq!(display_to_string(Kind::Value, text, 0), Err(refusal));
+        assert!(!refusal.is_by_caller());
+        assert_eq!(refusal.second(), refusal.place());
+        assert!(read(Kind::Value, text, 0, &mut buffer).is_ok());
+        assert_eq!(
+            refusal.to_string(),
+            format!(
+                "refused 18: the line would hold a control byte, at {byte}..{}",
+                byte + 1
+            )
+        );
+    }
+    assert_eq!(line(Kind::Value, b"\tb\" ~\"\r\n"), "b\" ~\"");
+}
+
 #[test]
 fn refusals_for_people() {
     let said = |text: &[u8]| {
@@ -311,7 +343,7 @@ fn names_of_the_header() {
         .collect();
     let items: Vec<_> = names.into_iter().zip(numbers).collect();
     assert_eq!(section("movesig_item"), items);
-    assert_eq!(section("movesig_result").len(), 15);
+    assert_eq!(section("movesig_result").len(), 16);
     let records: Vec<_> = RecordKind::ALL
         .iter()
         .map(|kind| (plain(&format!("{kind:?}")), kind.number() as usize))

@@ -18,4 +18,4 @@ entryIn lo hi b = cond (among lo hi b) (entryOf b) 0
 
 -- the property of the class that has the number k
 unfoldable pub known : ℕ → ℕ
-known k = cond (ltb k 4) k 4
+known k = cond (ltb k 5) k 5

@@ -1,5 +1,5 @@
 //! The read call and the display call. The answers are the Rust's, with the line that
-//! the specification gives to its tree; refusals 2, 3, 4 and 14, which it does not have, are
+//! the specification gives to its tree; refusals 2, 3, 4, 14 and 18, which it does not have, are
 //! the specification's. Other cases that the Rust cannot answer are left out.
 
 use crate::hex;
@@ -27,6 +27,7 @@ pub fn lines(call: ItemCall) -> String {
     offsets(&mut sample);
     levels(&mut sample);
     random_items(&mut sample);
+    strings(&mut sample);
     sample.lines
 }
 
@@ -212,6 +213,12 @@ fn random_items(sample: &mut Sample) {
     }
 }
 
+fn strings(sample: &mut Sample) {
+    for text in STRINGS {
+        sample.ask(ItemKind::Value as u64, text.as_bytes(), 0);
+    }
+}
+
 const NAMES: &[&str] = &[
     "",
     " ",
@@ -283,6 +290,18 @@ const VALUES: &[&str] = &[
     "x\"a\nb\"",
     "1 $",
     "true $",
+];
+
+/// Strings with control bytes in them, and gaps with some.
+const STRINGS: &[&str] = &[
+    "b\"\r\"",
+    "x\"a\x7fb\x7f\"",
+    "b\"\\\\\x1b[2K\"",
+    "b\"\0\"",
+    "b\"~\"",
+    "/*\r*/b\"a\"//\x7f",
+    "b\"\t\" /*",
+    "x\"\r\n\"",
 ];
 
 const TYPES: &[&str] = &[

@@ -57,7 +57,7 @@ const WRONG_READS: &[&str] = &[
 
 /// Wrong in the line (no arguments as `||`), in its length, in telling the token that
 /// follows, in a refusal's second place, and in what is written: a byte of the line not
-/// told, one told behind it, one told of a refused display.
+/// told, one told behind it, one told of a refused display; last a line with a CR in it.
 const WRONG_DISPLAYS: &[&str] = &[
     "d 3 0 5 0 5 0 0 0 0 0 7c207c61 7c7c202061",
     "d 3 0 5 0 4 0 0 0 0 0 7c207c61 7c207c2061",
@@ -66,6 +66,7 @@ const WRONG_DISPLAYS: &[&str] = &[
     "d 3 0 5 0 5 0 0 0 0 0 7c207c61 7c207c20",
     "d 3 0 6 0 5 0 0 0 0 0 7c207c61 7c207c206100",
     "d 3 0 80 12 3 3 1 1 0 0 613c62 00",
+    "d 2 0 6 0 6 0 0 0 0 0 6222610d6222 6222610d6222",
 ];
 
 /// Wrong in the result, in the first and in the last number.

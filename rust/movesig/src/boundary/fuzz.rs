@@ -57,7 +57,7 @@ impl Random {
     }
 }
 
-const WORDS: [&[u8]; 34] = [
+const WORDS: [&[u8]; 37] = [
     b"a",
     b"S",
     b"u8",
@@ -90,6 +90,9 @@ const WORDS: [&[u8]; 34] = [
     b"/**",
     b"//",
     b"b\"\\\"\"",
+    b"b\"a\r\"",
+    b"x\"\x7f\"",
+    b"b\" ~\"",
     b"x\"",
     b"\xff",
 ];
@@ -169,6 +172,7 @@ fn token_and_comment() {
 fn with_a_buffer(seed: u64, ask: fn(u64, &[u8], usize, &mut [u8]) -> Answer, tree: bool) {
     let mut random = Random(seed);
     let mut whole = vec![0; 65_600 + 2 * BESIDE];
+    let mut spoiled = 0;
     for _ in 0..ROUNDS {
         let text = text_of(&mut random);
         let at = offset_of(&mut random, text.len());
@@ -201,15 +205,27 @@ fn with_a_buffer(seed: u64, ask: fn(u64, &[u8], usize, &mut [u8]) -> Answer, tre
                 assert_eq!(u16::from_le_bytes(low_first) as usize, written);
             } else {
                 assert_eq!([token, start, end], [0; 3]);
+                let line = &used[BESIDE..BESIDE + written];
+                assert!(line.iter().all(|byte| (32..=126).contains(byte)));
             }
             assert!((1..=5).contains(&kind));
         } else {
-            refused_well(number, values, &text, &(1..=14).collect::<Vec<_>>());
+            let mut allowed: Vec<u32> = (1..=14).collect();
+            if !tree {
+                allowed.push(18);
+            }
+            refused_well(number, values, &text, &allowed);
+            if number == 18 {
+                let [start, end, ..] = values;
+                assert!(end == start + 1 && (text[start] < 32 || text[start] == 127));
+                spoiled += 1;
+            }
         }
         let outside = |place: &[u8]| place.iter().all(|&byte| byte == fill);
         assert!(outside(&used[..BESIDE]), "bytes before the buffer");
         assert!(outside(&used[BESIDE + written..]), "bytes behind");
     }
+    assert_eq!(spoiled > 0, !tree, "{spoiled} displays refused with 18");
 }
 
 #[test]

@@ -73,6 +73,9 @@ is told with what could have stood there. Long lines are cut around the place,
 with ... ; the environment variable COLUMNS, where it is set, says how wide the
 screen is.
 
+A line holds bytes from 32 to 126 only. A string with another byte in it has no
+line (refusal 18); read shows its tree.
+
 A place inside a comment or a token, and &mut without a space behind it, are
 read as they stand, and a note on standard error says so.
 ",

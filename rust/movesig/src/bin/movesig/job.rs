@@ -73,8 +73,10 @@ impl Job {
         }
         let report = self.report(text, item);
         said.errors += &report.of(refusal);
-        let note = item.and_then(|item| notes::offset(&text.bytes, item.at));
-        put_notes(&report, note.as_slice(), said);
+        if let Some(item) = item {
+            let notes = notes::refused(&text.bytes, item.at, refusal);
+            put_notes(&report, &notes, said);
+        }
     }
 
     /// The text, and the item that is to be read.

@@ -192,8 +192,7 @@ pub fn refusal(file: &[u8], text: &Text, item: Option<Item>, refusal: &Refusal) 
             let due = due::due(text, item, refusal);
             object = object.list("due", due.iter().map(|word| string(word.as_bytes())));
         }
-        let note = notes::offset(text, item.at);
-        object = object.notes(note.as_slice());
+        object = object.notes(&notes::refused(text, item.at, refusal));
     }
     object.line()
 }

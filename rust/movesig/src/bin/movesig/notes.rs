@@ -1,13 +1,25 @@
 //! What looks right and is not: an offset inside a token or a comment, and `&mut` that is read as `&`
-//! and a type named `mut`.
+//! and a type named `mut`. And what to do where an item has no line.
 
 use crate::visible;
-use movesig::{tokens, Span, TokenKind};
+use movesig::{tokens, Refusal, Span, TokenKind};
 
 /// A note and the byte that it is about.
 pub struct Note {
     pub at: usize,
     pub words: String,
+}
+
+/// What is noted beside a refusal of the item at this offset.
+pub fn refused(text: &[u8], at: usize, refusal: &Refusal) -> Vec<Note> {
+    let mut notes: Vec<_> = offset(text, at).into_iter().collect();
+    if let Refusal::LineSpoiled { byte } = refusal {
+        notes.push(Note {
+            at: byte.start,
+            words: "`movesig read` shows the tree".to_string(),
+        });
+    }
+    notes
 }
 
 /// Where the offset is inside a token or a comment of the text that is read from its start. None where

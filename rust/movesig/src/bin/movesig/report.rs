@@ -84,6 +84,9 @@ impl Report<'_> {
                 second_label(refusal),
             ));
         }
+        if let Refusal::LineSpoiled { .. } = refusal {
+            places[0].show_tab();
+        }
         let numbers = places.iter().map(|place| place.line.number);
         let gutter = numbers.max().unwrap_or(1).to_string().len();
         let width = self
@@ -179,7 +182,7 @@ fn label(text: &[u8], refusal: &Refusal, due: &str) -> String {
         Refusal::NoToken { .. } if text[start..].starts_with(b"\xef\xbb\xbf") => {
             "a byte order mark: Move has none".to_string()
         }
-        Refusal::NoToken { .. } | Refusal::StringNotAscii { .. } => {
+        Refusal::NoToken { .. } | Refusal::StringNotAscii { .. } | Refusal::LineSpoiled { .. } => {
             let byte = text.get(start).copied().unwrap_or(0);
             format!("byte 0x{byte:02x}")
         }
@@ -265,6 +268,17 @@ impl Mark {
             to,
             sign,
             label,
+        }
+    }
+}
+
+impl Mark {
+    /// The first piece as an escape, where it is a tab, which blanks stand for elsewhere.
+    fn show_tab(&mut self) {
+        for pieces in [&mut self.line.pieces, &mut self.line.readable] {
+            if let Some(piece) = pieces.get_mut(self.from) {
+                visible::show_tab(piece);
+            }
         }
     }
 }

@@ -120,6 +120,14 @@ fn escape_of(character: char) -> String {
     }
 }
 
+/// A tab as an escape, not as blanks.
+pub fn show_tab(piece: &mut Piece) {
+    if piece.shown == TAB {
+        piece.shown = escape_of('\t');
+        piece.width = piece.shown.len();
+    }
+}
+
 /// A line of source, its tabs as blanks.
 pub fn source(line: &[u8]) -> String {
     pieces(line).into_iter().map(|piece| piece.shown).collect()

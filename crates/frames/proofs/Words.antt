@@ -1,0 +1,287 @@
+-- An instance of the law: what holds of the words of all tokens that are met holds of the words of all leaves. Three facts of this
+-- sort: each leaf's word shows, or the leaf is a string below 128; a text whose bytes all show gives words that do; and an item that is
+-- no value has no strings.
+use mathlib.Core.Path.{_≡_, refl, ap, sym, _∙_, subst}
+use mathlib.Core.Bool.{Bool, true, false, cond, _&&_, _||_}
+use mathlib.Core.List.{List, []}
+use mathlib.Core.Option.{Option, some, none as clean}
+use Prim.Native.Nat.{ℕ}
+use native.Mathlib.Omega.{arith}
+use borrow.Author.Tests.{eqb-true}
+use lib.Dec.{eqb, ltb}
+use lib.ListN.{length, getD}
+use Rattle.classes.specs.Class.{isAscii, shows}
+use Rattle.classes.specs.Run.{allOf}
+use Rattle.classes.proofs.Bools.{false-true}
+use Rattle.classes.proofs.All.{all-take, all-drop}
+use Rattle.words.specs.Kinds.{EOF, NumValue, ByteStringValue, Identifier, ColonColon, AtSign}
+use Rattle.tokens.specs.Calls.{textLimit}
+use Rattle.tokens.proofs.Legible.{legible}
+use Rattle.records.specs.Kinds.{RecName, RecAddress}
+use Rattle.records.specs.Tree.{Tree, leaf, node, Trees, none, more}
+use Rattle.sources.specs.Source.{Source, opened, Token, start, word, after, split, Scanned, tok, bad, lex}
+use Rattle.sources.proofs.Standing.{Standing, Sound, lex-sound}
+use Rattle.answers.specs.Reading.{Ans, ok, no, look}
+use Rattle.answers.proofs.Sure.{when-sure}
+use Rattle.grammar.specs.Names.{isFirst}
+use Rattle.grammar.specs.Values.{valueKind, leafValue, addressValue, value}
+use Rattle.grammar.specs.Items.{Item, item, refused, readKind, followed, finished, readItem}
+use Rattle.forms.specs.Spoiled.{isString, spoiledWord, firstOf, spoiled, spoiledAll}
+use Rattle.forms.proofs.Spoils.{WordsShow, AllWordsShow, clean-word}
+use Rattle.frames.specs.Related.{Frame, Alike, leaves, nodes, AllAlike, nones, mores, Step, Met, toks, bads, Rel, oks, nos, quit, Lawful, Strings}
+use Rattle.frames.proofs.Readers.{value-leaf, kind-rel}
+use Rattle.frames.proofs.Told.{look-told}
+
+-- K holds of each leaf's kind, and W of its word and the kind of a token that is a string exactly where the leaf is
+unfoldable mutual
+  pub Leaves : (ℕ → Type 0) → (ℕ → List ℕ → Type 0) → Tree → Type 0
+  Leaves K W (leaf c s e w) = K c × ((k : ℕ) × (isString c ≡ eqb k ByteStringValue) × W k w)
+  Leaves K W (node c s e ts) = AllLeaves K W ts
+
+  pub AllLeaves : (ℕ → Type 0) → (ℕ → List ℕ → Type 0) → Trees → Type 0
+  AllLeaves K W none = Unit {0}
+  AllLeaves K W (more t ts) = Leaves K W t × AllLeaves K W ts
+
+-- W of the words of tokens, where S holds of the sources that they are found in
+module _ (S : Source → Type 0) (K : ℕ → Type 0) (W : ℕ → List ℕ → Type 0) where
+  abbrev Fact : Token → Type 0
+  Fact t = W (t .kind) (word t) × S (after t) × S (split t)
+
+  abbrev Facts : Scanned → Type 0
+  Facts (tok t) = Fact t
+  Facts (bad r) = Unit {0}
+
+  abbrev frame : Frame
+  frame = record { starts = λ a b. Unit {0}; ends = λ a b. Unit {0}; source = λ u v. (u ≡ v) × S u; kind = K; word = W; number = λ n. Unit {0}; quits = λ _. ⊥ }
+
+  token-itself : (t : Token) → Fact t → Step frame t t
+  token-itself t f = record { kind = refl; spelled = refl; good = f .0; from = tt; to = tt; on = λ _. (refl, f .1); half = λ _. (refl, f .2) }
+
+  itself : (l : Scanned) → Facts l → Met frame l l
+  itself (tok t) f = toks (token-itself t f)
+  itself (bad r) f = bads (record { same = refl; good = tt; from = tt; to = tt; from₂ = tt; to₂ = tt })
+
+  mutual
+    unfolding Leaves AllLeaves
+
+    tree-leaves : {t u : Tree} → Alike frame t u → Leaves K W t
+    tree-leaves (leaves {k = k} c b g w x y) = (c, (k, b, g))
+    tree-leaves (nodes c x y xs) = trees-leaves xs
+
+    trees-leaves : {ts us : Trees} → AllAlike frame ts us → AllLeaves K W ts
+    trees-leaves nones = tt
+    trees-leaves (mores x xs) = (tree-leaves x, trees-leaves xs)
+
+  abbrev Read : Ans Tree → Type 0
+  Read (ok x u) = Leaves K W x
+  Read (no r) = Unit {0}
+
+  read : {a b : Ans Tree} → Rel frame (Alike frame) a b → Read a
+  read (oks x n) = tree-leaves x
+  read (nos d) = tt
+  read (quit d) = absurd d
+
+  module _ (kinds : (c : ℕ) → isString c ≡ false → K c) (wordless : W EOF []) (found : (u : Source) → S u → Facts (lex u)) (kind : ℕ) (strings : eqb kind 2 ≡ true → Strings frame) where
+    law : Lawful frame
+    law =
+        record {
+          point = λ s s₂ h. tt;
+          ended = λ u u₂ h. tt;
+          next = λ u u₂ h. rw (h .0) (itself (lex u₂) (found u₂ (subst S (h .0) (h .1))));
+          kinds = λ c h s. kinds c s;
+          wordless = wordless;
+          numbers = λ n h g. tt;
+        }
+
+    -- what is read from a token on, and from a source
+    words-from : (t : Token) → Fact t → Read (readKind kind t)
+    words-from t f = read (kind-rel kind frame law strings t t (token-itself t f))
+
+    words-read : (u : Source) → S u → Read (look (lex u) (readKind kind))
+    unfolding look
+    words-read u h = go (lex u) (found u h)
+      where
+        go : (l : Scanned) → Facts l → Read (look l (readKind kind))
+        go (tok t) f = words-from t f
+        go (bad r) f = tt
+
+-- the bytes of every token show, or it is a string below 128
+abbrev Any : ℕ → Type 0
+Any c = Unit {0}
+
+abbrev Anywhere : Source → Type 0
+Anywhere u = Unit {0}
+
+abbrev Legible : ℕ → List ℕ → Type 0
+Legible k w = legible k w ≡ true
+
+legible-found : (u : Source) → Anywhere u → Facts Anywhere Any Legible (lex u)
+legible-found u h = go (lex u) (lex-sound u)
+  where
+    go : (l : Scanned) → Sound u l → Facts Anywhere Any Legible l
+    go (tok t) d = (d .readable, tt, tt)
+    go (bad r) d = tt
+
+wordless : Legible EOF []
+unfolding legible allOf
+wordless = refl
+
+-- so are the words of the leaves of all that is read
+abbrev pub Readable : Tree → Type 0
+Readable x = Leaves Any Legible x
+
+abbrev Of : Item → Type 0
+Of (item x t) = Readable x
+Of (refused r) = Unit {0}
+
+finished-of : (a : Ans Tree) → Read Anywhere Any Legible a → Of (finished a)
+unfolding finished followed
+finished-of (ok x u) h = go (lex u)
+  where
+    go : (l : Scanned) → Of (followed x l)
+    go (tok t) = h
+    go (bad r) = tt
+finished-of (no r) h = tt
+
+pub item-readable : (kind : ℕ) (text : List ℕ) (at : ℕ) (x : Tree) (t : Token) → readItem kind text at ≡ item x t → Readable x
+unfolding readItem
+item-readable kind text at x t e =
+    subst Of e
+    (when-sure Of (ltb textLimit (length text)) _ _ (λ _. tt)
+    (λ _. when-sure Of (ltb (length text) at) _ _ (λ _. tt)
+    (λ _. when-sure Of (eqb kind 0 || ltb 5 kind) _ _ (λ _. tt)
+    (λ _. finished-of (look (lex (opened text at)) (readKind kind)) (words-read Anywhere Any Legible (λ c s. tt) wordless legible-found kind (λ _. record { hex = tt; byte = tt }) (opened text at) tt)))))
+
+-- where such a tree is clean, the words of all its leaves show
+first-clean : (p q : Option ℕ) → firstOf p q ≡ clean → (p ≡ clean) × (q ≡ clean)
+unfolding firstOf
+first-clean clean q h = (refl, h)
+first-clean (some p) q h = let z : _≡_ {A = ℕ} 0 1 = cc in absurd (omega arith)
+
+leaf-shows : (c k s : ℕ) (w : List ℕ) → isString c ≡ eqb k ByteStringValue → Legible k w → cond (isString c) (spoiledWord s w) clean ≡ clean → allOf shows w ≡ true
+unfolding legible
+leaf-shows c k s w e g h = go (eqb k ByteStringValue) g (rw e at h)
+  where
+    go : (b : Bool) → cond b (allOf isAscii w) (allOf shows w) ≡ true → cond b (spoiledWord s w) clean ≡ clean → allOf shows w ≡ true
+    go true g h = clean-word s w g h
+    go false g h = g
+
+mutual
+  unfolding Leaves AllLeaves WordsShow AllWordsShow spoiled spoiledAll
+
+  pub clean-words : (t : Tree) → Readable t → spoiled t ≡ clean → WordsShow t
+  clean-words (leaf c s e w) l h = leaf-shows c (l .1 .0) s w (l .1 .1) (l .1 .2) h
+  clean-words (node c s e ts) l h = clean-all ts l h
+
+  clean-all : (ts : Trees) → AllLeaves Any Legible ts → spoiledAll ts ≡ clean → AllWordsShow ts
+  clean-all none l h = tt
+  clean-all (more t ts) l h = let d = first-clean (spoiled t) (spoiledAll ts) h in (clean-words t (l .0) (d .0), clean-all ts (l .1) (d .1))
+
+-- what is read from bytes that all show has words that do
+abbrev AllShow : Source → Type 0
+AllShow u = allOf shows (u .rest) ≡ true
+
+abbrev Shown : ℕ → List ℕ → Type 0
+Shown k w = allOf shows w ≡ true
+
+shown-found : (u : Source) → AllShow u → Facts AllShow Any Shown (lex u)
+shown-found u h = go (lex u) (lex-sound u)
+  where
+    go : (l : Scanned) → Sound u l → Facts AllShow Any Shown l
+    go (tok t) d =
+        let r : allOf shows (t .here .rest) ≡ true = subst AllShow (sym (d .here)) (all-drop shows (d .gap) (u .rest) h) in
+        (all-take shows (t .len) (t .here .rest) r, all-drop shows (t .len) (t .here .rest) r, all-drop shows 1 (t .here .rest) r)
+    go (bad r) d = tt
+
+none-shown : Shown EOF []
+unfolding allOf
+none-shown = refl
+
+mutual
+  unfolding Leaves AllLeaves WordsShow AllWordsShow
+
+  leaves-show : (t : Tree) → Leaves Any Shown t → WordsShow t
+  leaves-show (leaf c s e w) l = l .1 .2
+  leaves-show (node c s e ts) l = all-leaves-show ts l
+
+  all-leaves-show : (ts : Trees) → AllLeaves Any Shown ts → AllWordsShow ts
+  all-leaves-show none l = tt
+  all-leaves-show (more t ts) l = (leaves-show t (l .0), all-leaves-show ts (l .1))
+
+pub shown-words : (kind : ℕ) (u v : Source) (x : Tree) → allOf shows (u .rest) ≡ true → look (lex u) (readKind kind) ≡ ok x v → WordsShow x
+shown-words kind u v x h e =
+    leaves-show x (subst (Read AllShow Any Shown) e (words-read AllShow Any Shown (λ c s. tt) none-shown shown-found kind (λ _. record { hex = tt; byte = tt }) u h))
+
+-- an item of another kind than a value has no strings
+abbrev NoString : ℕ → Type 0
+NoString c = isString c ≡ false
+
+abbrev AnyWord : ℕ → List ℕ → Type 0
+AnyWord k w = Unit {0}
+
+any-found : (u : Source) → Anywhere u → Facts Anywhere NoString AnyWord (lex u)
+any-found u h = go (lex u)
+  where
+    go : (l : Scanned) → Facts Anywhere NoString AnyWord l
+    go (tok t) = (tt, tt, tt)
+    go (bad r) = tt
+
+mutual
+  unfolding Leaves AllLeaves spoiled spoiledAll firstOf
+
+  tree-clean : (t : Tree) → Leaves NoString AnyWord t → spoiled t ≡ clean
+  tree-clean (leaf c s e w) l = rw (l .0)
+  tree-clean (node c s e ts) l = trees-clean ts l
+
+  trees-clean : (ts : Trees) → AllLeaves NoString AnyWord ts → spoiledAll ts ≡ clean
+  trees-clean none l = refl
+  trees-clean (more t ts) l = rw (tree-clean t (l .0)) (trees-clean ts (l .1))
+
+-- what is read, if anything, has a first byte that spoils its line, or none, as P says
+abbrev pub Spoils : (Option ℕ → Type 0) → Ans Tree → Type 0
+Spoils P (ok x u) = P (spoiled x)
+Spoils P (no r) = Unit {0}
+
+abbrev pub IsClean : Option ℕ → Type 0
+IsClean q = q ≡ clean
+
+abbrev pub Clean : Ans Tree → Type 0
+Clean a = Spoils IsClean a
+
+pub other-clean : (kind : ℕ) (t : Token) → eqb kind 2 ≡ false → Clean (readKind kind t)
+other-clean kind t h = go (readKind kind t) (words-from Anywhere NoString AnyWord (λ c s. s) tt any-found kind (λ e. false-true _ (sym h ∙ e)) t (tt, tt, tt))
+  where
+    go : (a : Ans Tree) → Read Anywhere NoString AnyWord a → Clean a
+    go (ok x u) l = tree-clean x l
+    go (no r) l = tt
+
+-- a value whose first token is no string has none either
+address-clean : (t : Token) → Clean (addressValue t)
+unfolding addressValue spoiled spoiledAll firstOf
+address-clean t = look-told Clean (lex (after t)) _ (λ r. tt) λ a. when-sure Clean (isFirst a) _ _ (λ _. part (start a) (word a) (eqb (a .kind) Identifier)) (λ _. tt)
+  where
+    part : (s : ℕ) (w : List ℕ) (b : Bool) → firstOf (cond (isString (cond b RecName RecAddress)) (spoiledWord s w) clean) clean ≡ clean
+    part s w true = refl
+    part s w false = refl
+
+module _ (t : Token) where
+  -- the leaf of a token, by what is known of its place
+  leaf-value : (P : Option ℕ → Type 0) → P (cond (isString (valueKind t)) (spoiledWord (start t) (word t)) clean) → Spoils P (leafValue t)
+  unfolding leafValue spoiled
+  leaf-value P h = look-told (Spoils P) (lex (after t)) _ (λ r. tt) λ d. when-sure (Spoils P) (eqb (t .kind) NumValue && eqb (d .kind) ColonColon) _ _ (λ _. tt) (λ _. h)
+
+  pub value-clean : eqb (t .kind) ByteStringValue ≡ false → Clean (value t)
+  unfolding value
+  value-clean h =
+      when-sure Clean (eqb (t .kind) AtSign) _ _ (λ _. address-clean t)
+      (λ _. when-sure Clean (eqb (valueKind t) 0) _ _ (λ _. tt) (λ _. leaf-value IsClean (rw (value-leaf (t .kind) (getD (word t) 0 0), h))))
+
+  -- and one whose first token is a string is that string
+  pub value-string : eqb (t .kind) ByteStringValue ≡ true → Spoils (λ (q : Option ℕ). q ≡ spoiledWord (start t) (word t)) (value t)
+  unfolding value
+  value-string h =
+      when-sure Same (eqb (t .kind) AtSign) _ _ (λ b. let z : 67 ≡ 3 = sym (eqb-true (t .kind) AtSign b) ∙ eqb-true (t .kind) ByteStringValue h in absurd (omega arith))
+      (λ _. when-sure Same (eqb (valueKind t) 0) _ _ (λ _. tt) (λ _. leaf-value (λ (q : Option ℕ). q ≡ spoiledWord (start t) (word t)) (rw (value-leaf (t .kind) (getD (word t) 0 0), h))))
+    where
+      Same : Ans Tree → Type 0
+      Same = Spoils (λ (q : Option ℕ). q ≡ spoiledWord (start t) (word t))
