@@ -42,6 +42,8 @@ const char *movesig_reason(uint32_t refusal)
         return "more than 64 levels";
     case MOVESIG_LINE_SPOILED:
         return "the line would hold a control byte";
+    case MOVESIG_NO_SUCH_EDITION:
+        return "no such edition";
     default:
         return "unknown";
     }

@@ -1,10 +1,18 @@
 /* A station's inner loop, in C and C++: opens a file, lists its tokens, then reads and displays
- * the type behind each colon. What is refused is shown with its number and place.
+ * the type behind each colon. What is refused is shown with its number and place. The file is read as
+ * one of edition 1.
  *
  *     cc station.c $(pkg-config --cflags --libs movesig) -o station && ./station coin.move
  */
 #include <movesig.h>
 #include <stdio.h>
+
+#if MOVESIG_VERSION_MAJOR == 0 && MOVESIG_VERSION_MINOR < 5
+#error "the calls of this header take no edition"
+#endif
+
+/* The edition of Move that the file is written in. */
+#define EDITION MOVESIG_EDITION_1
 
 /* One byte more than a text may have, so that a longer file is refused and not cut. */
 static uint8_t text[MOVESIG_LONGEST + 1];
@@ -32,13 +40,13 @@ static void show_type(size_t len, size_t at)
 {
     uint64_t answer[6];
     size_t length, record;
-    uint32_t number = movesig_read(MOVESIG_TYPE, text, len, at, tree, sizeof tree, answer);
+    uint32_t number = movesig_read(MOVESIG_TYPE, EDITION, text, len, at, tree, sizeof tree, answer);
     if (number != MOVESIG_ACCEPTED) {
         show_refusal(number, answer);
         return;
     }
     length = (size_t)answer[0];
-    number = movesig_display(MOVESIG_TYPE, text, len, at, line, sizeof line, answer);
+    number = movesig_display(MOVESIG_TYPE, EDITION, text, len, at, line, sizeof line, answer);
     if (number != MOVESIG_ACCEPTED) {
         show_refusal(number, answer);
         return;
@@ -76,7 +84,7 @@ int main(int count, char **words)
 
     /* Token after token, each from where the last one ended. */
     for (at = 0;; at = (size_t)answer[2]) {
-        number = movesig_next_token(text, len, at, answer);
+        number = movesig_next_token(EDITION, text, len, at, answer);
         if (number != MOVESIG_ACCEPTED) {
             show_refusal(number, answer);
             break;

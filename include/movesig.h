@@ -6,7 +6,8 @@
  *
  * WHAT EVERY CALL DOES
  *
- * It takes a text of `len` bytes at `text`, any bytes at all, and an offset `at` from which it reads.
+ * It takes a text of `len` bytes at `text`, any bytes at all, an offset `at` from which it reads, and the
+ * edition of Move that the text is written in (enum movesig_edition).
  * It returns 0 where it accepts, else the number of a refusal, and writes all six numbers of `answer`.
  * No call allocates, keeps state between calls, writes elsewhere, prints, sets errno, reads past the
  * text or fails in any other way. Calls may run on several threads at once.
@@ -41,6 +42,7 @@
  *   1     the text is longer than 65,535 bytes                  (0, 0)
  *   2     `at` is past the text's end (`at` = `len` is not)     (0, 0)
  *   3     `kind` is no kind of item                             (0, 0)
+ *  19     `edition` is neither 1 nor 2                          (0, 0)
  *   4     the item is accepted, but its tree (movesig_read) or
  *         its line (movesig_display) is longer than `room` or
  *         than 65,535 bytes                                     (0, 0)
@@ -62,7 +64,8 @@
  *   By the text, for movesig_display alone:
  *  18     a string holds a byte below 32 or the byte 127        the first such byte
  *
- * They are tried in this order: 1, 2, 3; then 5 to 14, whichever is met first in reading; then 18; 4 last.
+ * They are tried in this order: 1, 2, 3, 19; then 5 to 14, whichever is met first in reading; then 18;
+ * 4 last.
  */
 #ifndef MOVESIG_H
 #define MOVESIG_H
@@ -81,15 +84,16 @@ extern "C" {
 #define MOVESIG_LEVELS 64
 
 /* Bytes of stack that are enough for any call. The most that was measured, over nests of every construct
- * and 20,000 at random, is 45,848; this is at least a twentieth more. Measured, not proved: a test holds it to
+ * and 1,000 at random, is 46,920; this is at least a fortieth more. Measured, not proved: a test holds it to
  * what is measured, and makes the calls in threads of this stack beside their own. Put no buffer of
  * MOVESIG_LONGEST bytes on the same small stack. */
 #define MOVESIG_STACK 49152
 
-/* The version of this header, by semantic versioning: before 1.0 another MINOR may change answers or
- * calls, from then on only another MAJOR. CHANGELOG.md says what changed for a station. */
+/* The version of this header and of the calls in it, by semantic versioning: before 1.0 another MINOR may
+ * change answers or calls, from then on only another MAJOR. CHANGELOG.md says what changed for a station.
+ * A station can compare it when it is compiled: the calls take an edition from MINOR 5 on. */
 #define MOVESIG_VERSION_MAJOR 0
-#define MOVESIG_VERSION_MINOR 4
+#define MOVESIG_VERSION_MINOR 5
 #define MOVESIG_VERSION (MOVESIG_VERSION_MAJOR * 65536 + MOVESIG_VERSION_MINOR)
 
 /* What a call returns. */
@@ -109,7 +113,15 @@ enum movesig_result {
     MOVESIG_LIST_NOT_CLOSED = 12,
     MOVESIG_NO_VALUE = 13,
     MOVESIG_TOO_DEEP = 14,
-    MOVESIG_LINE_SPOILED = 18
+    MOVESIG_LINE_SPOILED = 18,
+    MOVESIG_NO_SUCH_EDITION = 19
+};
+
+/* The editions of Move that a text may be written in. They differ in numbers alone: in edition 2 a digit may
+ * be followed by `_` as by a digit, and a number's type may be u16, u32 and u256 too. */
+enum movesig_edition {
+    MOVESIG_EDITION_1 = 1, /* 1000, 0x1f; 1u8, 1u64, 1u128 */
+    MOVESIG_EDITION_2 = 2  /* 1_000, 0x1_f; 1u16, 1u32, 1u256 too */
 };
 
 /* The kinds of items, for movesig_read and movesig_display. */
@@ -125,40 +137,41 @@ enum movesig_item {
  * 0 }, the kind as in enum movesig_token; the line feed 1 where a line feed stands between `at` and the
  * token, inside comments too, else 0. At the end of the text it is MOVESIG_EOF at (len, len), each time.
  * Every other token has at least one byte, so asking again from `end` comes to the end.
- * Refusals 1, 2 and 5 to 9. */
-uint32_t movesig_next_token(const uint8_t *text, size_t len, size_t at, uint64_t answer[6]);
+ * Refusals 1, 2, 5 to 9 and 19. */
+uint32_t movesig_next_token(uint64_t edition, const uint8_t *text, size_t len, size_t at, uint64_t answer[6]);
 
 /* The first doc comment among the blanks and comments from `at` on, up to the next token. Accepted:
  * { 1, start, end, text start, text end, 0 }, the comment and its text, or { 0, 0, 0, 0, 0, 0 } where
- * there is none. Asking again from `end` gives the next one of the same gap. Refusals 1, 2 and 6; where
- * a doc comment stands before a comment that is not closed, the doc comment is the answer. */
-uint32_t movesig_next_comment(const uint8_t *text, size_t len, size_t at, uint64_t answer[6]);
+ * there is none. Asking again from `end` gives the next one of the same gap. Refusals 1, 2, 6 and 19; where
+ * a doc comment stands before a comment that is not closed, the doc comment is the answer. Comments are the
+ * same in both editions; a number that is no edition is refused here too. */
+uint32_t movesig_next_comment(uint64_t edition, const uint8_t *text, size_t len, size_t at, uint64_t answer[6]);
 
 /* Reads the item of the kind (enum movesig_item) from `at` on and writes its tree into the first bytes
  * of the `room` bytes at `out`. Accepted: { length of the tree, kind, start and end of the token that
  * follows the item, 0, 0 }, the token's kind as in enum movesig_token; whether a line feed stands before it
  * is not told. Bytes of `out` past the tree stay
- * as they are. Refusals 1 to 14.
+ * as they are. Refusals 1 to 14 and 19.
  *
  * The tree is one record with its children: two bytes each, the low one first, for the length of the
  * record with all its children, for its kind (enum movesig_record), its start and its end; then the
  * children, each a record again. Brackets round one type are a record of their own, 16, which trees
  * written by earlier versions do not have. */
-uint32_t movesig_read(uint64_t kind, const uint8_t *text, size_t len, size_t at, uint8_t *out, size_t room,
-                      uint64_t answer[6]);
+uint32_t movesig_read(uint64_t kind, uint64_t edition, const uint8_t *text, size_t len, size_t at, uint8_t *out,
+                      size_t room, uint64_t answer[6]);
 
 /* Writes the item of the kind (enum movesig_item) from `at` on as one line, without a line end, into the
  * first bytes of the `room` bytes at `line`. Accepted: { length of the line, 0, 0, 0, 0, 0 }. Bytes of
  * `line` past the line stay as they are. Refused as movesig_read is, but with 4 by the line's length
  * alone, not the tree's, and before it with 18. Every byte of a line is from 32 to 126. Where the item's
- * tree is accepted too, the line read from 0 as the same kind gives the same tree but for the spans, and
- * itself as its line.
+ * tree is accepted too, the line read from 0 as the same kind and in the same edition gives the same
+ * tree but for the spans, and itself as its line.
  *
  * Leaves stand as spelled; then `@0x1`, `a::b`, `T<a, b>`, `& T`, `&mut T`, `()`, `(a, b)`, `|a, b| r`,
  * `| | r` without arguments, and `(T)` where brackets are written round one type, and only there;
  * bindings `x`, `S {f: x, g: y}`, `S<u8> {f: x}`; the lists `(x, y)` and `|x, y|`, empty `()` and `| |`. */
-uint32_t movesig_display(uint64_t kind, const uint8_t *text, size_t len, size_t at, uint8_t *line, size_t room,
-                         uint64_t answer[6]);
+uint32_t movesig_display(uint64_t kind, uint64_t edition, const uint8_t *text, size_t len, size_t at, uint8_t *line,
+                         size_t room, uint64_t answer[6]);
 
 /* The kinds of records of a tree. Behind each its children in order; `leaf` has none, and its spelling is
  * the bytes of its span. `first` is an address or a name; a chain is one of 3 to 5; a type one of 10 to

@@ -1,7 +1,9 @@
-//! Instructions a token, counted by valgrind's callgrind: unlike times they are the same
-//! on a busy machine. The port's counts are held to those of bench/COUNTS.
+//! Instructions a token and an item, counted by valgrind's callgrind: unlike times they are the
+//! same on a busy machine. The port's counts in edition 1 are held to those of bench/COUNTS,
+//! those in edition 2 to those in edition 1.
 
-use crate::{texts, walks::Walk};
+use crate::{runs::each_length, texts, walks::Walk, GROWTH};
+use oracle::answer::ItemCall;
 use std::{
     collections::BTreeMap,
     env, fs,
@@ -9,8 +11,11 @@ use std::{
     process::{Command, Stdio},
 };
 
-/// By how much a count may be over the recorded one.
+/// By how much a count may be over the recorded one, and one in edition 2 over one in edition 1.
 const OVER: f64 = 0.03;
+
+/// By how much a byte of numbers of edition 2 may take more than one of plain digits.
+const MORE: f64 = 0.1;
 
 /// Counts each row; whether some count is too high. Without valgrind nothing is counted.
 pub fn measure_all(record: bool) -> bool {
@@ -18,27 +23,70 @@ pub fn measure_all(record: bool) -> bool {
         println!("\nNo valgrind: no instructions are counted.");
         return false;
     }
-    println!("\n| text | tokens | port | recorded | lexer in C |");
-    println!("|---|---:|---:|---:|---:|");
+    println!("\n| text | tokens | port | recorded | edition 2 | lexer in C |");
+    println!("|---|---:|---:|---:|---:|---:|");
     let recorded = recorded();
     let mut counts = vec![];
     let mut failed = false;
     for (name, _) in texts::KINDS {
         let tokens = Walk::long(name).tokens();
-        let port = count(name, "movesig_next_token") as f64 / tokens as f64;
-        let anchor = count(name, "anchor_next_token") as f64 / tokens as f64;
+        let of =
+            |edition, function| count("--walk", name, edition, function) as f64 / tokens as f64;
+        let [port, later] = [1, 2].map(|edition| of(edition, "movesig_next_token"));
+        let anchor = of(1, "anchor_next_token");
         let limit = recorded.get(name);
         println!(
-            "| {name} | {tokens} | {port:.1} | {} | {anchor:.1} |",
+            "| {name} | {tokens} | {port:.1} | {} | {later:.1} | {anchor:.1} |",
             limit.map_or("none".to_string(), |limit| format!("{limit:.1}"))
         );
         failed |= !record && limit.is_none_or(|limit| port > limit * (1.0 + OVER));
+        failed |= later > port * (1.0 + OVER);
         counts.push(format!("{name}: {port:.1}\n"));
     }
+    failed |= of_reads();
+    failed |= of_numbers();
     if record {
         fs::write(file(), counts.concat()).expect("bench/COUNTS can be written");
     }
     failed
+}
+
+/// Reads of items in both editions; whether edition 2 takes too many.
+fn of_reads() -> bool {
+    println!("\n| item | items | read | edition 2 |");
+    println!("|---|---:|---:|---:|");
+    let mut failed = false;
+    for row in each_length() {
+        row.agree(ItemCall::Read);
+        let (name, items) = (&row.name, row.texts.len());
+        let of = |edition| count("--read", name, edition, "movesig_read") as f64 / items as f64;
+        let [first, later] = [1, 2].map(of);
+        println!("| {name} | {items} | {first:.1} | {later:.1} |");
+        failed |= later > first * (1.0 + OVER);
+    }
+    failed
+}
+
+/// Numbers of edition 2 and plain ones as long, a byte; whether the former take too many.
+fn of_numbers() -> bool {
+    println!("\n| numbers, edition 2 | bytes | a byte | 1 KB | growth |");
+    println!("|---|---:|---:|---:|---:|");
+    let rows = [texts::LATER, texts::PLAIN].map(|row| {
+        let (long, short) = (Walk::long(row), Walk::short(row));
+        let of = |walk: &Walk, word| {
+            count(word, row, 2, "movesig_next_token") as f64 / walk.bytes() as f64
+        };
+        let [all, parts] = [of(&long, "--walk"), of(&short, "--short-walks")];
+        let growth = all / parts - 1.0;
+        println!(
+            "| {row} | {} | {all:.2} | {parts:.2} | {:+.0} % |",
+            long.bytes(),
+            100.0 * growth
+        );
+        (all, growth)
+    });
+    let [(later, growth), (plain, _)] = rows;
+    later > plain * (1.0 + MORE) || growth > GROWTH
 }
 
 fn there_is_valgrind() -> bool {
@@ -63,14 +111,14 @@ fn recorded() -> BTreeMap<String, f64> {
         .collect()
 }
 
-/// The instructions that a walk over the row takes inside the function.
-fn count(row: &str, function: &str) -> u64 {
+/// The instructions that the row takes inside the function, done as the option says.
+fn count(option: &str, row: &str, edition: u64, function: &str) -> u64 {
     let program = env::current_exe().expect("the program knows its file");
     let output = Command::new("valgrind")
         .args(["--tool=callgrind", "--callgrind-out-file=/dev/null"])
         .arg(format!("--toggle-collect={function}"))
         .arg(program)
-        .args(["--walk", row])
+        .args([option, row, "--edition", &edition.to_string()])
         .output()
         .expect("valgrind runs");
     let told = String::from_utf8_lossy(&output.stderr).to_string();

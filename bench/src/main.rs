@@ -24,7 +24,8 @@ const HELP: &str = "\
 Measures a walk over all tokens of a text, by the Rust lexer, by the port and by a
 small lexer in C.
 
-usage: bench [--check] [--displays-only | --counts-only] [--record] [--walk ROW] [--help]
+usage: bench [--check] [--displays-only | --counts-only] [--record] [--help]
+       bench --walk ROW | --short-walks ROW | --read ROW [--edition N]
 
   --check          exit status 1 where the port is slower than the Rust on some text,
                    or its time a byte grows by more than a fifth from 1 KB to 60 KB; by
@@ -32,14 +33,19 @@ usage: bench [--check] [--displays-only | --counts-only] [--record] [--walk ROW]
   --displays-only  no tokens and reads
   --counts-only    no times: the instructions a token
   --record         the counts become those that later ones are held to (bench/COUNTS)
-  --walk ROW       walks once over the text of a row, by the port and by the lexer in C
+  --walk ROW       walks once over the text of 60 KB of a row, by the port in the edition
+                   (1 if left out) and, in edition 1, by the lexer in C
+  --short-walks ROW  the same over the texts of 1 KB, by the port alone
+  --read ROW       reads each item of a row once
   --help           these words
 
 Prints a table in nanoseconds a byte: the median of the runs and, in brackets, the
 fastest. The 1 KB are sixty different texts, so that both read as many bytes.
 
 Where valgrind is there, the instructions a token are counted too: --check fails where
-a count is over the recorded one by more than 3 %.
+a count is over the recorded one by more than 3 %, where a walk or a read in edition 2
+takes more than 3 % more than in edition 1, where a byte of edition 2's numbers takes
+more than a tenth more than one of plain digits, or grows by more than a fifth.
 
 Reads of items are measured too: see bench/README.md. --check fails where the port
 is slower than the Rust on types, bindings or nests, where its time a byte grows by
@@ -57,11 +63,8 @@ const GROWTH: f64 = 0.2;
 
 fn main() {
     let options = options();
-    if let Some(row) = &options.walk {
-        let text = &Walk::long(row).texts[0];
-        walks::by_the_port(text);
-        walks::by_the_anchor(text);
-        return;
+    if let Some((what, row)) = &options.once {
+        return once(what, row, options.edition);
     }
     println!("Rust sources (sha256):\n\n```\n{SOURCES}```\n");
     let mut failed = false;
@@ -86,6 +89,28 @@ fn main() {
     }
 }
 
+/// What is counted: one walk or one read of each item of a row.
+fn once(what: &str, row: &str, edition: u64) {
+    if what == "--read" {
+        let rows = runs::each_length();
+        let items = rows.iter().find(|items| items.name == row);
+        return items
+            .unwrap_or_else(|| panic!("no row '{row}'"))
+            .read_once(edition);
+    }
+    let walk = if what == "--walk" {
+        Walk::long(row)
+    } else {
+        Walk::short(row)
+    };
+    for text in &walk.texts {
+        walks::by_the_port_in(edition, text);
+    }
+    if what == "--walk" && edition == 1 {
+        walks::by_the_anchor(&walk.texts[0]);
+    }
+}
+
 /// Walks over tokens; whether the port is too slow somewhere.
 fn all_walks() -> bool {
     println!(
@@ -101,7 +126,34 @@ fn all_walks() -> bool {
         println!("| {name} | {tokens} | {} |", row.cells());
         failed |= row.fails();
     }
-    failed
+    failed | all_numbers()
+}
+
+/// Walks over numbers of edition 2, and over plain ones as long; whether the former are too slow.
+fn all_numbers() -> bool {
+    println!("\n| numbers, edition 2 | port 60 KB | port 1 KB | growth |");
+    println!("|---|---:|---:|---:|");
+    let rows = [texts::LATER, texts::PLAIN];
+    let walks = rows.map(|row| (Walk::long(row), Walk::short(row)));
+    let mut times = [[vec![], vec![]], [vec![], vec![]]];
+    for _ in 0..RUNS {
+        for ((long, short), times) in walks.iter().zip(&mut times) {
+            for (walk, times) in [long, short].into_iter().zip(times) {
+                times.push(run(&walk.texts, |text| walks::by_the_port_in(2, text)));
+            }
+        }
+    }
+    let times = times.map(|row| row.map(time_of));
+    for (row, [long, short]) in rows.iter().zip(times) {
+        let growth = 100.0 * (long.fastest / short.fastest - 1.0);
+        println!(
+            "| {row} | {} | {} | {growth:+.0} % |",
+            long.cell(),
+            short.cell()
+        );
+    }
+    let [[later, short], [plain, _]] = times;
+    later.fastest > 1.1 * plain.fastest || later.fastest / short.fastest - 1.0 > GROWTH
 }
 
 #[derive(Default)]
@@ -110,12 +162,16 @@ struct Options {
     displays_only: bool,
     counts_only: bool,
     record: bool,
-    /// The row whose text is walked over once, if nothing else is done.
-    walk: Option<String>,
+    /// What is done once with a row, if nothing else is done, and in which edition.
+    once: Option<(String, String)>,
+    edition: u64,
 }
 
 fn options() -> Options {
-    let mut options = Options::default();
+    let mut options = Options {
+        edition: 1,
+        ..Options::default()
+    };
     let mut words = env::args().skip(1);
     while let Some(word) = words.next() {
         match word.as_str() {
@@ -123,9 +179,14 @@ fn options() -> Options {
             "--displays-only" => options.displays_only = true,
             "--counts-only" => options.counts_only = true,
             "--record" => options.record = true,
-            "--walk" => match words.next() {
-                Some(row) => options.walk = Some(row),
+            "--walk" | "--short-walks" | "--read" => match words.next() {
+                Some(row) => options.once = Some((word, row)),
                 None => bad_usage(),
+            },
+            "--edition" => match words.next().as_deref() {
+                Some("1") => options.edition = 1,
+                Some("2") => options.edition = 2,
+                _ => bad_usage(),
             },
             "--help" => {
                 print!("{HELP}");

@@ -118,9 +118,11 @@ impl Items {
             let expected = self.expected(call, &Text::new(bytes));
             let due = expected.within(LONGEST_WRITTEN);
             assert!(!due.written.is_empty(), "not accepted: {}", told());
-            let item = (self.kind as u64, bytes, 0);
-            let wrong = buffer.wrong(call, item, LONGEST_WRITTEN, due);
-            assert!(wrong.is_none(), "{wrong:?} {}", told());
+            for edition in [1, 2] {
+                let item = (self.kind as u64, edition, bytes, 0);
+                let wrong = buffer.wrong(call, item, LONGEST_WRITTEN, due);
+                assert!(wrong.is_none(), "edition {edition}: {wrong:?} {}", told());
+            }
         }
     }
 
@@ -148,17 +150,28 @@ impl Items {
     }
 
     pub fn run_of_reads(&self, lent: &mut [u8]) -> f64 {
-        run(&self.texts, |text| self.ask(ItemCall::Read, text, lent))
+        run(&self.texts, |text| self.ask(ItemCall::Read, 1, text, lent))
     }
 
     pub fn run_of_displays(&self, lent: &mut [u8]) -> f64 {
-        run(&self.texts, |text| self.ask(ItemCall::Display, text, lent))
+        run(&self.texts, |text| {
+            self.ask(ItemCall::Display, 1, text, lent)
+        })
     }
 
-    fn ask(&self, call: ItemCall, text: &str, lent: &mut [u8]) {
+    /// Reads each item once.
+    pub fn read_once(&self, edition: u64) {
+        let mut lent = vec![0; LONGEST_WRITTEN];
+        for text in &self.texts {
+            self.ask(ItemCall::Read, edition, text, &mut lent);
+        }
+    }
+
+    fn ask(&self, call: ItemCall, edition: u64, text: &str, lent: &mut [u8]) {
         let mut answer = [0; 6];
         let kind = self.kind as u64;
-        let result = station_items::ask(call, kind, text.as_bytes(), 0, lent, &mut answer);
+        let text = text.as_bytes();
+        let result = station_items::ask(call, kind, edition, text, 0, lent, &mut answer);
         assert_eq!(result, 0, "the text was read before");
         black_box((&answer, &lent));
     }

@@ -8,6 +8,13 @@ use oracle::{
 /// A kind of text: its name in the table, and how to make one of about a length.
 pub type Kind = (&'static str, fn(&mut Random, usize) -> String);
 
+/// The rows of numbers, which edition 2 alone reads as such.
+pub const LATER: &str = "numbers with _ and types";
+pub const PLAIN: &str = "plain numbers as long";
+
+pub const NUMBERS: [Kind; 2] = [(LATER, later_numbers), (PLAIN, plain_numbers)];
+
+/// The rows that both editions read alike.
 pub const KINDS: [Kind; 8] = [
     ("Move source", move_source),
     ("comments", comments),
@@ -227,6 +234,26 @@ fn hex_numbers(random: &mut Random, length: usize) -> String {
         }
         number + random.pick(&["", "", "", "u8", "u64"])
     })
+}
+
+/// `1_000_000u256` and the like.
+fn later_numbers(random: &mut Random, length: usize) -> String {
+    words(random, length, |random| {
+        let mut number = (1 + random.below(999)).to_string();
+        for _ in 0..=random.below(4) {
+            number += &format!("_{:03}", random.below(1_000));
+        }
+        number + random.pick(&["", "u16", "u32", "u64", "u128", "u256"])
+    })
+}
+
+/// The same with a digit for each other byte.
+fn plain_numbers(random: &mut Random, length: usize) -> String {
+    let digit = |byte: char| match byte {
+        '_' | 'u' => '7',
+        other => other,
+    };
+    later_numbers(random, length).chars().map(digit).collect()
 }
 
 fn keywords(random: &mut Random, length: usize) -> String {

@@ -1,4 +1,5 @@
-//! Walks over the tokens of the texts: by the Rust, by the port and by the lexer in C.
+//! Walks over the tokens of the texts: by the Rust, by the port in each edition and by the lexer
+//! in C.
 
 use crate::{station, texts};
 use oracle::{
@@ -15,12 +16,10 @@ extern "C" {
     fn anchor_next_token(text: *const u8, len: usize, at: usize, answer: *mut u64) -> u32;
 }
 
-type NextToken = unsafe extern "C" fn(*const u8, usize, usize, *mut u64) -> u32;
-
 const LONG: usize = 60_000;
 const SHORT: usize = 1_000;
 
-/// The texts of a row.
+/// The texts of a row, which both editions read alike.
 pub struct Walk {
     pub texts: Vec<String>,
 }
@@ -40,6 +39,10 @@ impl Walk {
         Walk { texts }
     }
 
+    pub fn bytes(&self) -> usize {
+        self.texts.iter().map(String::len).sum()
+    }
+
     /// How many tokens the texts have. Stops where the three do not agree.
     pub fn tokens(&self) -> usize {
         self.texts.iter().map(|text| same_tokens(text)).sum()
@@ -47,7 +50,8 @@ impl Walk {
 }
 
 fn maker(row: &str) -> fn(&mut Random, usize) -> String {
-    let found = texts::KINDS.iter().find(|(name, _)| *name == row);
+    let mut all = texts::KINDS.iter().chain(&texts::NUMBERS);
+    let found = all.find(|(name, _)| *name == row);
     found.unwrap_or_else(|| panic!("no row '{row}'")).1
 }
 
@@ -61,8 +65,10 @@ fn same_tokens(text: &str) -> usize {
         };
         let line_feed = text.as_bytes()[at..start].contains(&b'\n');
         let due = Answer::token(kind, start, end, line_feed);
-        let found = station::ask(Call::Token, text.as_bytes(), at);
-        assert_eq!(found, due, "the token at {at}");
+        for edition in [1, 2] {
+            let found = station::ask(Call::Token, edition, text.as_bytes(), at);
+            assert_eq!(found, due, "the token at {at}, edition {edition}");
+        }
         // the lexer in C tells no line feeds
         assert_eq!(
             anchor(text, at),
@@ -94,20 +100,27 @@ pub fn by_the_rust(text: &str) {
 }
 
 pub fn by_the_port(text: &str) {
-    walk(text, station::movesig_next_token);
+    by_the_port_in(1, text);
+}
+
+pub fn by_the_port_in(edition: u64, text: &str) {
+    walk(text, |start, length, at, answer| unsafe {
+        station::movesig_next_token(edition, start, length, at, answer)
+    });
 }
 
 pub fn by_the_anchor(text: &str) {
-    walk(text, anchor_next_token);
+    walk(text, |start, length, at, answer| unsafe {
+        anchor_next_token(start, length, at, answer)
+    });
 }
 
 #[inline(always)]
-fn walk(text: &str, next_token: NextToken) {
+fn walk(text: &str, next_token: impl Fn(*const u8, usize, usize, *mut u64) -> u32) {
     let mut answer = [0; 6];
     loop {
         let [_, _, at, ..] = answer;
-        let result =
-            unsafe { next_token(text.as_ptr(), text.len(), at as usize, answer.as_mut_ptr()) };
+        let result = next_token(text.as_ptr(), text.len(), at as usize, answer.as_mut_ptr());
         assert_eq!(result, 0, "the text was walked before");
         if black_box(answer[0]) == Tok::EOF as u64 {
             return;

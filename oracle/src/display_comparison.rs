@@ -5,7 +5,7 @@
 use crate::{
     every_text, grouped,
     item_sets::{self, random_item, Size, Visitor, TAILS},
-    read_comparison::{print_listed, print_text},
+    read_comparison::{print_listed, print_text, respelled},
     shrunk, station_items,
 };
 use oracle::{
@@ -32,13 +32,20 @@ const SHRINKING: Duration = Duration::from_secs(2);
 pub fn run(size: Size) -> u64 {
     on_a_deep_stack(|| {
         let start = Instant::now();
-        println!("\nDisplays, by items:");
         let mut displays = Displays::new(size.random(50));
-        item_sets::run(&mut displays, &size);
-        strings(&mut displays, &size);
-        sentences(&mut displays, &size);
-        families(&mut displays, &size);
-        lengths(&mut displays, &size);
+        for edition in size.editions() {
+            println!("\nDisplays, by items, edition {edition}:");
+            displays.edition = edition;
+            item_sets::run(&mut displays, &size);
+            strings(&mut displays, &size);
+            sentences(&mut displays, &size);
+            families(&mut displays, &size);
+            lengths(&mut displays, &size);
+            if edition == 2 {
+                item_sets::numbers(&mut displays, &size);
+            }
+        }
+        println!();
         displays.print_summary();
         println!("\n{:.1} s", start.elapsed().as_secs_f64());
         displays.faults
@@ -133,6 +140,7 @@ fn lengths(displays: &mut Displays, size: &Size) {
 }
 
 struct Displays {
+    edition: u64,
     properties: Properties,
     /// Pairs of accepted items of one family.
     near_pairs: u128,
@@ -158,18 +166,32 @@ impl Visitor for Displays {
     }
 
     fn item(&mut self, kind: u64, text: &Text, at: usize) {
-        let fault = self.properties.check(kind, text, at);
+        let random = self.properties.random();
+        if let Some(respelled) = respelled(self.edition, random, text, at) {
+            let text = Text::new(&respelled);
+            let fault = self.properties.check(kind, self.edition, &text, at);
+            self.found(fault);
+        }
+        let fault = self.properties.check(kind, self.edition, text, at);
         self.found(fault);
     }
 
     fn thoroughly(&mut self, case: &Case) {
+        let (kind, edition, at) = (case.kind as u64, self.edition, case.at);
         let text = Text::new(&case.text);
-        let fault = (self.properties).check_thoroughly(case.kind as u64, &text, case.at);
+        if let Some(respelled) = respelled(edition, self.properties.random(), &text, at) {
+            let text = Text::new(&respelled);
+            let fault = self.properties.check_thoroughly(kind, edition, &text, at);
+            self.found(fault);
+        }
+        let fault = self.properties.check_thoroughly(kind, edition, &text, at);
         self.found(fault);
     }
 
     fn each_room(&mut self, kind: u64, text: &Text, at: usize) {
-        let fault = self.properties.check_each_room(kind, text, at);
+        let fault = self
+            .properties
+            .check_each_room(kind, self.edition, text, at);
         self.found(fault);
     }
 }
@@ -177,6 +199,7 @@ impl Visitor for Displays {
 impl Displays {
     fn new(random: Random) -> Displays {
         Displays {
+            edition: 1,
             properties: Properties::new(station_items::ask, line_of, random),
             near_pairs: 0,
             faults: 0,
@@ -224,7 +247,9 @@ impl Displays {
             ("  refused with 18", tally.spoiled.into()),
             ("items displayed", tally.displayed.into()),
             ("items accepted (displayed and read)", tally.accepted.into()),
+            ("numbers that are no edition", tally.of_none.into()),
             ("different lines", self.properties.lines() as u128),
+            ("  met in both editions", self.properties.in_both() as u128),
             ("lines read back", tally.read_back.into()),
             ("pairs of accepted items of one kind", pairs),
             ("  of one line and one build", one_line),
@@ -247,13 +272,13 @@ fn smallest(first: Fault) -> Fault {
     if first.property == Property::OneLineOneBuild {
         return first;
     }
-    let kind = first.kind;
+    let (kind, edition) = (first.kind, first.edition);
     let faulty = |text: &[u8], at: usize| {
         TAILS.iter().find_map(|tail| {
             let longer = [text, tail.as_bytes()].concat();
             let text = Text::new(&longer[..text.len()]);
             Properties::new(station_items::ask, line_of, Random::new(1))
-                .check_thoroughly(kind, &text, at)
+                .check_thoroughly(kind, edition, &text, at)
         })
     };
     let start = Instant::now();
@@ -264,9 +289,10 @@ fn smallest(first: Fault) -> Fault {
 }
 
 fn print(fault: &Fault) {
-    let (kind, at, length) = (fault.kind, fault.at, fault.text.len());
+    let (kind, edition) = (fault.kind, fault.edition);
+    let (at, length) = (fault.at, fault.text.len());
     println!(
-        "\n  Display, kind {kind}, at {at} of {length} bytes: {}",
+        "\n  Display, kind {kind}, edition {edition}, at {at} of {length} bytes: {}",
         fault.property.words()
     );
     print_text(&fault.text);

@@ -109,6 +109,8 @@ pub fn run(visitor: &mut impl Visitor, size: &Size) {
 pub struct Size {
     pub quick: bool,
     pub seed: u64,
+    /// The one edition that is compared, if not both are.
+    pub edition: Option<u64>,
 }
 
 impl Size {
@@ -118,6 +120,14 @@ impl Size {
         } else {
             whole
         }
+    }
+
+    /// The editions that are compared.
+    pub fn editions(&self) -> impl Iterator<Item = u64> {
+        let one = self.edition;
+        [1, 2]
+            .into_iter()
+            .filter(move |edition| one.is_none_or(|one| one == *edition))
     }
 
     pub fn random(&self, set: u64) -> Random {
@@ -142,6 +152,17 @@ fn short_texts(visitor: &mut impl Visitor, size: &Size) {
     visitor.set(&name, |to| {
         every_text(ALPHABET, longest, |text| {
             to.with_a_tail(text, |to, text| to.everywhere(text))
+        })
+    });
+}
+
+/// Numbers of edition 2, and what looks like them.
+pub fn numbers(visitor: &mut impl Visitor, size: &Size) {
+    let longest = size.of(6, 5);
+    let name = format!("every text up to {longest} bytes, numbers");
+    visitor.set(&name, |to| {
+        every_text(b"1_u6x:@a< ", longest, |text| {
+            to.with_a_tail(text, |to, text| to.each_kind(text, 0))
         })
     });
 }

@@ -6,9 +6,9 @@ use crate::{
     reads::{Expected, Lent},
 };
 
-/// How a call is made: the item kind, the text, the start offset, the room lent and the
+/// How a call is made: the item kind, the edition, the text, the start offset, the room lent and the
 /// six numbers. Gives the result.
-pub type Ask = fn(ItemCall, u64, &[u8], usize, &mut [u8], &mut [u64; 6]) -> u32;
+pub type Ask = fn(ItemCall, u64, u64, &[u8], usize, &mut [u8], &mut [u64; 6]) -> u32;
 
 /// A number that no call answers: it shows what was not written.
 const UNWRITTEN: u64 = 0xa5a5_a5a5_a5a5_a5a5;
@@ -55,8 +55,8 @@ pub struct Buffer {
     calls: usize,
 }
 
-/// A call: kind, text and start offset.
-pub type ItemAt<'t> = (u64, &'t [u8], usize);
+/// A call: kind, edition, text and start offset.
+pub type ItemAt<'t> = (u64, u64, &'t [u8], usize);
 
 /// What a call answered and wrote, and what it did to the buffer that it should not have.
 #[derive(Clone, Debug)]
@@ -95,12 +95,13 @@ impl Buffer {
     }
 
     /// Makes the call, lending it `room` bytes.
-    pub fn asked(&mut self, call: ItemCall, (kind, text, at): ItemAt, room: usize) -> Answer {
+    pub fn asked(&mut self, call: ItemCall, item: ItemAt, room: usize) -> Answer {
+        let (kind, edition, text, at) = item;
         self.fill(GUARD + room + GUARD);
         let mut guarded = [[UNWRITTEN; 6]; 3];
         let [before, numbers, behind] = &mut guarded;
         let lent = &mut self.bytes[GUARD..GUARD + room];
-        let result = (self.ask)(call, kind, text, at, lent, numbers);
+        let result = (self.ask)(call, kind, edition, text, at, lent, numbers);
         assert!(
             *before == [UNWRITTEN; 6] && *behind == [UNWRITTEN; 6],
             "the port wrote beside the six numbers: {call:?}, kind {kind} at {at} of '{}'",

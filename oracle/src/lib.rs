@@ -15,6 +15,7 @@ pub mod answer;
 pub mod brackets;
 pub mod builds;
 pub mod displays;
+pub mod editions;
 pub mod expected;
 pub mod items;
 pub mod lent;

@@ -40,11 +40,11 @@ pub fn run() -> u64 {
 fn answered_otherwise(buffer: &mut Buffer, point: &Point, due: &Due) -> Option<String> {
     match point.asked {
         Asked::Token => {
-            let found = station::ask(Call::Token, &point.text, 0);
+            let found = station::ask(Call::Token, 1, &point.text, 0);
             (found != point.answer).then(|| found.to_string())
         }
         Asked::Item(call, kind, room) => buffer
-            .wrong(call, (kind, &point.text, 0), room, point.lent(due))
+            .wrong(call, (kind, 1, &point.text, 0), room, point.lent(due))
             .map(|wrong| format!("{wrong:?}")),
     }
 }

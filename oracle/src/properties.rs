@@ -1,11 +1,13 @@
 //! What must hold of displays, checked item by item: the answer and the line of each,
-//! that the line is read back, and that two items have one line exactly where they have
-//! one build (the specification, "The words of demand 3").
+//! that the line is read back in the item's edition, and that two items have one line exactly
+//! where they have one build, whatever edition each of them has (the specification, "The words
+//! of demand 3").
 
 use crate::{
     answer::{Answer, ItemCall},
     builds::build_of,
     displays::{self, Show},
+    editions,
     expected::Text,
     lent::{Ask, Buffer, ItemAt, Room, Wrong},
     parsing::ItemKind,
@@ -55,6 +57,7 @@ impl Property {
 pub struct Fault {
     pub property: Property,
     pub kind: u64,
+    pub edition: u64,
     pub text: Vec<u8>,
     pub at: usize,
     /// What was due and what was found, a line each.
@@ -68,10 +71,12 @@ pub struct Tally {
     pub answers: u64,
     /// Displays that are refused with 18.
     pub spoiled: u64,
+    /// Answers to numbers that are no edition.
+    pub of_none: u64,
     /// Items whose line has at most 65,535 bytes, and those that can be read too.
     pub displayed: u64,
     pub accepted: u64,
-    /// Lines that were read back. Each different one is once.
+    /// Lines that were read back. Each different one is once in each edition that it was met in.
     pub read_back: u64,
     pub listed: [u64; Cause::ALL.len()],
 }
@@ -107,51 +112,72 @@ impl Properties {
     }
 
     /// An item with the rooms that matter.
-    pub fn check(&mut self, kind: u64, text: &Text, at: usize) -> Option<Fault> {
-        self.checked(kind, text, at, |random, accepted| match accepted {
-            true => vec![Room::Exact, Room::OneLess, Room::None, Room::More(1)],
-            false => vec![random.pick(&[Room::None, Room::Exact, Room::More(37)])],
-        })
+    pub fn check(&mut self, kind: u64, edition: u64, text: &Text, at: usize) -> Option<Fault> {
+        self.checked(
+            (kind, edition),
+            text,
+            at,
+            |random, accepted| match accepted {
+                true => vec![Room::Exact, Room::OneLess, Room::None, Room::More(1)],
+                false => vec![random.pick(&[Room::None, Room::Exact, Room::More(37)])],
+            },
+        )
     }
 
     /// An item with all sorts of rooms.
-    pub fn check_thoroughly(&mut self, kind: u64, text: &Text, at: usize) -> Option<Fault> {
-        self.checked(kind, text, at, |_, _| {
+    pub fn check_thoroughly(
+        &mut self,
+        kind: u64,
+        edition: u64,
+        text: &Text,
+        at: usize,
+    ) -> Option<Fault> {
+        self.checked((kind, edition), text, at, |_, _| {
             let more = [1_000, 7, 1].map(Room::More);
             [&more, &[Room::Exact, Room::OneLess, Room::None][..]].concat()
         })
     }
 
     /// An item with every room up to more than is needed.
-    pub fn check_each_room(&mut self, kind: u64, text: &Text, at: usize) -> Option<Fault> {
-        let read = reads::expected(kind, text, at);
+    pub fn check_each_room(
+        &mut self,
+        kind: u64,
+        edition: u64,
+        text: &Text,
+        at: usize,
+    ) -> Option<Fault> {
+        let read = reads::expected_in(edition, kind, text, at);
         // A spoiled line too would need that much.
         let line = |item| (self.show)(item, &text.bytes[at..]);
         let needed = read.item.as_ref().map_or(0, |item| line(item).len());
-        self.checked(kind, text, at, |_, _| {
+        self.checked((kind, edition), text, at, |_, _| {
             (0..needed + 2).map(Room::Bytes).collect()
         })
     }
 
     fn checked(
         &mut self,
-        kind: u64,
+        (kind, edition): (u64, u64),
         text: &Text,
         at: usize,
         rooms: impl FnOnce(&mut Random, bool) -> Vec<Room>,
     ) -> Option<Fault> {
-        let read = reads::expected(kind, text, at);
+        let read = reads::expected_in(edition, kind, text, at);
+        // The line is of the bytes as they stand, in edition 2 too.
         let due = displays::expected(&read, text, at, self.show);
         self.tally.items += 1;
         let rooms = rooms(&mut self.random, !due.written.is_empty());
+        let item = (kind, edition, text.bytes, at);
         let broken = self
-            .display_broken((kind, text.bytes, at), &due, &rooms)
-            .or_else(|| self.read_broken((kind, text.bytes, at), &read))
+            .display_broken(item, &due, &rooms)
+            .or_else(|| self.none_broken(item, &due))
+            .or_else(|| self.read_broken(item, &read))
             .or_else(|| spoiled_broken(&read, &due))
-            .or_else(|| self.line_broken(kind, text, &read, &due));
+            .or_else(|| self.line_broken((kind, edition), text, &read, &due));
         broken.map(|(property, told)| Fault {
             property,
             kind,
+            edition,
             text: text.bytes.to_vec(),
             at,
             told,
@@ -175,6 +201,25 @@ impl Properties {
         None
     }
 
+    /// The display with a number that is no edition, beside one in edition 1.
+    fn none_broken(&mut self, item: ItemAt, due: &Expected) -> Option<Broken> {
+        let (kind, edition, text, at) = item;
+        if edition != 1 {
+            return None;
+        }
+        let none = editions::NONE[self.tally.items as usize % editions::NONE.len()];
+        self.tally.of_none += 1;
+        let room = Room::Exact.of(due);
+        let lent = Lent {
+            answer: Some(editions::of_none(due.answer)),
+            written: &[],
+            cause: None,
+        };
+        let item = (kind, none, text, at);
+        let wrong = self.buffer.wrong(ItemCall::Display, item, room, lent)?;
+        Some((Property::Displayed, told(room, lent, &wrong)))
+    }
+
     /// The read, with enough room.
     fn read_broken(&mut self, item: ItemAt, due: &Expected) -> Option<Broken> {
         let room = Room::Exact.of(due);
@@ -186,7 +231,7 @@ impl Properties {
     /// What must hold of the line of an item, if it has one that is not too long.
     fn line_broken(
         &mut self,
-        kind: u64,
+        (kind, edition): (u64, u64),
         text: &Text,
         read: &Expected,
         due: &Expected,
@@ -202,29 +247,33 @@ impl Properties {
         }
         if read.written.len() > LONGEST_WRITTEN {
             // It has a line and no stored tree, so no build to compare.
-            return self.back_broken(kind, line, read.written.len(), None);
+            return self.back_broken((kind, edition), line, read.written.len(), None);
         }
         self.tally.accepted += 1;
         let build = build_of(&read.written, text.bytes);
         let group = kind as usize - 1;
-        if self.groups[group].knows(line, &build) {
+        let known = self.groups[group].knows(line, &build, edition);
+        if known == Known::InThisEdition {
             return None;
         }
-        self.back_broken(kind, line, read.written.len(), Some(&build))
-            .or_else(|| self.groups[group].pair_broken(line, &build))
+        let broken = self.back_broken((kind, edition), line, read.written.len(), Some(&build));
+        match known {
+            Known::InAnother => broken,
+            _ => broken.or_else(|| self.groups[group].pair_broken(line, &build, edition)),
+        }
     }
 
-    /// Reads the line alone, and displays it. `length` is that of the item's tree.
+    /// Reads the line alone, in the item's edition, and displays it. `length` is that of the item's tree.
     fn back_broken(
         &mut self,
-        kind: u64,
+        (kind, edition): (u64, u64),
         line: &[u8],
         length: usize,
         build: Option<&[u8]>,
     ) -> Option<Broken> {
         self.tally.read_back += 1;
         let end = line.len();
-        let read = reads::expected(kind, &Text::new(line), 0);
+        let read = reads::expected_in(edition, kind, &Text::new(line), 0);
         let whole = Answer::read(length, 0, end, end);
         let same = |build| build_of(&read.written, line) == build;
         if read.answer != Some(whole) || read.cause.is_some() || !build.is_none_or(same) {
@@ -238,7 +287,7 @@ impl Properties {
         }
         let room = length.min(LONGEST_WRITTEN);
         let due = read.within(room);
-        let item = (kind, line, 0);
+        let item = (kind, edition, line, 0);
         if let Some(wrong) = self.buffer.wrong(ItemCall::Read, item, room, due) {
             return Some((Property::ReadByThePort, told_of(line, room, due, &wrong)));
         }
@@ -255,6 +304,11 @@ impl Properties {
     pub fn pairs(&self) -> (u128, u128) {
         let sum = |of: fn(&Groups) -> u128| self.groups.iter().map(of).sum();
         (sum(Groups::pairs), sum(Groups::pairs_of_one_line))
+    }
+
+    /// How many lines were met in both editions.
+    pub fn in_both(&self) -> usize {
+        self.groups.iter().map(Groups::in_both).sum()
     }
 
     /// How many different lines were met.
@@ -306,26 +360,41 @@ struct Groups {
     builds: HashMap<Bytes, Bytes>,
 }
 
-/// The items of one line.
+/// The items of one line, of all editions.
 struct Group {
     build: Bytes,
     items: u64,
+    /// The editions in which one of them was met, each as a bit.
+    editions: u64,
+}
+
+/// Whether an item of a line and a build was met before.
+#[derive(Clone, Copy, PartialEq, Eq)]
+enum Known {
+    InThisEdition,
+    InAnother,
+    No,
 }
 
 impl Groups {
     /// Whether an item of this line and this build was met before; counts it.
-    fn knows(&mut self, line: &[u8], build: &[u8]) -> bool {
+    fn knows(&mut self, line: &[u8], build: &[u8], edition: u64) -> Known {
         match self.lines.get_mut(line) {
             Some(group) if *group.build == *build => {
                 group.items += 1;
-                true
+                let before = group.editions;
+                group.editions |= 1 << edition;
+                match before == group.editions {
+                    true => Known::InThisEdition,
+                    false => Known::InAnother,
+                }
             }
-            _ => false,
+            _ => Known::No,
         }
     }
 
     /// Takes in an item whose line was met with another build or not at all.
-    fn pair_broken(&mut self, line: &[u8], build: &[u8]) -> Option<Broken> {
+    fn pair_broken(&mut self, line: &[u8], build: &[u8], edition: u64) -> Option<Broken> {
         let told = |other: &[u8], how| {
             vec![
                 format!("line     '{}'", cut(line)),
@@ -342,8 +411,22 @@ impl Groups {
         }
         let (line, build) = (Bytes::from(line), Bytes::from(build));
         self.builds.insert(build.clone(), line.clone());
-        self.lines.insert(line, Group { build, items: 1 });
+        let group = Group {
+            build,
+            items: 1,
+            editions: 1 << edition,
+        };
+        self.lines.insert(line, group);
         None
+    }
+
+    /// How many lines were met in both editions.
+    fn in_both(&self) -> usize {
+        let both = 1 << 1 | 1 << 2;
+        self.lines
+            .values()
+            .filter(|group| group.editions == both)
+            .count()
     }
 
     fn pairs(&self) -> u128 {
@@ -369,13 +452,18 @@ mod tests {
     /// A port that reads and displays as it should, its lines shown by `show`.
     fn port(
         call: ItemCall,
-        (kind, text, at): (u64, &[u8], usize),
+        (kind, edition, text, at): ItemAt,
         room: &mut [u8],
         answer: &mut [u64; 6],
         show: Show,
     ) -> u32 {
         let text = Text::new(text);
-        let read = reads::expected(kind, &text, at);
+        let read = reads::expected_in(edition, kind, &text, at);
+        if !(1..=2).contains(&edition) {
+            let given = editions::of_none(read.answer);
+            *answer = given.numbers;
+            return given.result;
+        }
         let due = match call {
             ItemCall::Read => read,
             ItemCall::Display => displays::expected(&read, &text, at, show),
@@ -391,8 +479,8 @@ mod tests {
     macro_rules! shown_by {
         ($show:expr) => {{
             const SHOW: Show = $show;
-            let ask: Ask = |call, kind, text, at, room, answer| {
-                port(call, (kind, text, at), room, answer, SHOW)
+            let ask: Ask = |call, kind, edition, text, at, room, answer| {
+                port(call, (kind, edition, text, at), room, answer, SHOW)
             };
             (ask, SHOW)
         }};
@@ -433,10 +521,10 @@ mod tests {
         let mut properties = Properties::new(ask, show, Random::new(1));
         ITEMS.iter().find_map(|(kind, text)| {
             let text = Text::new(text.as_bytes());
-            let fault = properties.check(*kind, &text, 0);
+            let fault = properties.check(*kind, 1, &text, 0);
             fault
-                .or_else(|| properties.check_thoroughly(*kind, &text, 0))
-                .or_else(|| properties.check_each_room(*kind, &text, 0))
+                .or_else(|| properties.check_thoroughly(*kind, 2, &text, 0))
+                .or_else(|| properties.check_each_room(*kind, 1, &text, 0))
                 .map(|fault| fault.property)
         })
     }
@@ -492,8 +580,8 @@ mod tests {
     /// A port that accepts a spoiled line, and one that refuses it at another place.
     #[test]
     fn a_spoiled_line_that_is_shown_is_found() {
-        let shown: Ask = |call, kind, text, at, room, answer| match call {
-            ItemCall::Read => port(call, (kind, text, at), room, answer, line_of),
+        let shown: Ask = |call, kind, edition, text, at, room, answer| match call {
+            ItemCall::Read => port(call, (kind, edition, text, at), room, answer, line_of),
             ItemCall::Display => {
                 let length = text.len().min(room.len());
                 room[..length].copy_from_slice(&text[..length]);
@@ -501,14 +589,14 @@ mod tests {
                 0
             }
         };
-        let moved: Ask = |call, kind, text, at, room, answer| {
-            let result = port(call, (kind, text, at), room, answer, line_of);
+        let moved: Ask = |call, kind, edition, text, at, room, answer| {
+            let result = port(call, (kind, edition, text, at), room, answer, line_of);
             answer[0] += u64::from(result == 18);
             result
         };
         for ask in [shown, moved] {
             let mut properties = Properties::new(ask, line_of, Random::new(1));
-            let fault = properties.check(2, &Text::new(b"b\"a\rb\""), 0);
+            let fault = properties.check(2, 1, &Text::new(b"b\"a\rb\""), 0);
             assert_eq!(fault.unwrap().property, Property::Displayed);
         }
     }
@@ -519,7 +607,7 @@ mod tests {
         let copied = shown_by!(|_, text| text.to_vec());
         let mut properties = Properties::new(copied.0, copied.1, Random::new(1));
         let mut check = |text: &[u8]| {
-            let fault = properties.check(4, &Text::new(text), 0);
+            let fault = properties.check(4, 1, &Text::new(text), 0);
             fault.map(|fault| fault.property)
         };
         assert_eq!(check(b"S{f}"), None);
@@ -531,52 +619,52 @@ mod tests {
     /// A port whose lines are right where they are not read back.
     #[test]
     fn a_line_that_is_displayed_otherwise_is_found() {
-        let ask: Ask = |call, kind, text, at, room, answer| {
+        let ask: Ask = |call, kind, edition, text, at, room, answer| {
             let show: Show = match text {
                 b"(a, b)" => |_, _| b"(b, a)".to_vec(),
                 _ => line_of,
             };
-            port(call, (kind, text, at), room, answer, show)
+            port(call, (kind, edition, text, at), room, answer, show)
         };
         let mut properties = Properties::new(ask, line_of, Random::new(1));
-        let fault = properties.check(3, &Text::new(b"(a,b)"), 0);
+        let fault = properties.check(3, 1, &Text::new(b"(a,b)"), 0);
         assert_eq!(fault.unwrap().property, Property::DisplayedAgain);
     }
 
     /// A port that reads lines otherwise than other texts.
     #[test]
     fn a_line_that_the_port_does_not_read_is_found() {
-        let ask: Ask = |call, kind, text, at, room, answer| {
+        let ask: Ask = |call, kind, edition, text, at, room, answer| {
             let text = if text == b"(a, b)" { b"(a, c)" } else { text };
             let kind = if text == b"(a, c)" { 9 } else { kind };
-            port(call, (kind, text, at), room, answer, line_of)
+            port(call, (kind, edition, text, at), room, answer, line_of)
         };
         let mut properties = Properties::new(ask, line_of, Random::new(1));
-        let fault = properties.check(3, &Text::new(b"(a,b)"), 0);
+        let fault = properties.check(3, 1, &Text::new(b"(a,b)"), 0);
         assert_eq!(fault.unwrap().property, Property::ReadByThePort);
     }
 
     #[test]
     fn what_a_call_may_not_do_is_found() {
         // Writes on a refusal, writes behind the line, forgets a number.
-        let writes: Ask = |call, kind, text, at, room, answer| {
-            let result = port(call, (kind, text, at), room, answer, line_of);
+        let writes: Ask = |call, kind, edition, text, at, room, answer| {
+            let result = port(call, (kind, edition, text, at), room, answer, line_of);
             if result != 0 && !room.is_empty() {
                 room[0] = room[0].wrapping_add(1);
             }
             result
         };
-        let writes_behind: Ask = |call, kind, text, at, room, answer| {
-            let result = port(call, (kind, text, at), room, answer, line_of);
+        let writes_behind: Ask = |call, kind, edition, text, at, room, answer| {
+            let result = port(call, (kind, edition, text, at), room, answer, line_of);
             let length = answer[0] as usize;
             if result == 0 && room.len() > length {
                 room[length] = room[length].wrapping_add(1);
             }
             result
         };
-        let forgets: Ask = |call, kind, text, at, room, answer| {
+        let forgets: Ask = |call, kind, edition, text, at, room, answer| {
             let last = answer[5];
-            let result = port(call, (kind, text, at), room, answer, line_of);
+            let result = port(call, (kind, edition, text, at), room, answer, line_of);
             answer[5] = last;
             result
         };
@@ -585,12 +673,38 @@ mod tests {
         }
     }
 
+    /// A port that reads a line back in edition 1 whatever the item's edition is.
+    #[test]
+    fn a_line_that_is_read_back_in_another_edition_is_found() {
+        let ask: Ask = |call, kind, edition, text, at, room, answer| {
+            let edition = if text == b"1_0::a" { 1 } else { edition };
+            port(call, (kind, edition, text, at), room, answer, line_of)
+        };
+        let mut properties = Properties::new(ask, line_of, Random::new(1));
+        let fault = properties.check(1, 2, &Text::new(b"1_0 :: a"), 0);
+        assert_eq!(fault.unwrap().property, Property::ReadByThePort);
+    }
+
+    /// Items of both editions are of one group, and each edition reads the line back.
+    #[test]
+    fn both_editions_in_one_group() {
+        let (ask, show) = shown_by!(line_of);
+        let mut properties = Properties::new(ask, show, Random::new(1));
+        for (edition, text) in [(1, "1"), (2, "1"), (2, "1 "), (2, "1_"), (1, "1_")] {
+            let fault = properties.check(2, edition, &Text::new(text.as_bytes()), 0);
+            assert!(fault.is_none(), "{text}");
+        }
+        assert_eq!((properties.lines(), properties.in_both()), (2, 1));
+        assert_eq!(properties.tally.read_back, 3);
+        assert_eq!(properties.pairs(), (10, 6));
+    }
+
     #[test]
     fn pairs() {
         let (ask, show) = shown_by!(line_of);
         let mut properties = Properties::new(ask, show, Random::new(1));
         for text in ["a", "(a)", "a<>", "b", "(a,b)"] {
-            let fault = properties.check(3, &Text::new(text.as_bytes()), 0);
+            let fault = properties.check(3, 1, &Text::new(text.as_bytes()), 0);
             assert!(fault.is_none());
         }
         assert_eq!(properties.pairs(), (10, 1));

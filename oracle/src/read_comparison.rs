@@ -8,14 +8,18 @@ use crate::{
 };
 use oracle::{
     answer::ItemCall,
+    editions,
     expected::Text,
     items::Case,
-    lent::{Buffer, Room, Wrong},
+    lent::{Buffer, ItemAt, Room, Wrong},
     parsing::on_a_deep_stack,
     random::Random,
-    reads::{expected, Cause, Expected},
+    reads::{expected_in, Cause, Expected, Lent},
 };
-use std::time::{Duration, Instant};
+use std::{
+    borrow::Cow,
+    time::{Duration, Instant},
+};
 
 /// How many differences are shown in full, and how many are made small to find that
 /// many that are not the same.
@@ -29,18 +33,26 @@ const SHRINKING: Duration = Duration::from_secs(2);
 pub fn run(size: Size) -> u64 {
     on_a_deep_stack(|| {
         let start = Instant::now();
-        println!("\nReads:");
-        let mut reads = Reads::new(size.random(0));
-        item_sets::run(&mut reads, &size);
-        reads.print_summary();
+        let mut different = 0;
+        for edition in size.editions() {
+            println!("\nReads, edition {edition}:");
+            let mut reads = Reads::new(edition, size.random(0));
+            item_sets::run(&mut reads, &size);
+            if edition == 2 {
+                item_sets::numbers(&mut reads, &size);
+            }
+            reads.print_summary();
+            different += reads.different;
+        }
         println!("\n{:.1} s", start.elapsed().as_secs_f64());
-        reads.different
+        different
     })
 }
 
 /// A read of the port that is not the expected one.
 struct Difference {
     kind: u64,
+    edition: u64,
     text: Vec<u8>,
     at: usize,
     room: Room,
@@ -49,8 +61,13 @@ struct Difference {
 }
 
 struct Reads {
+    edition: u64,
     buffer: Buffer,
     answers: u64,
+    /// Answers to numbers that are no edition.
+    of_none: u64,
+    /// Answers of edition 1 on texts by which edition 2 is judged.
+    of_first: u64,
     accepted: u64,
     random: Random,
     listed: [u64; Cause::ALL.len()],
@@ -75,7 +92,39 @@ impl Visitor for Reads {
     }
 
     fn item(&mut self, kind: u64, text: &Text, at: usize) {
-        let expected = expected(kind, text, at);
+        if let Some(respelled) = respelled(self.edition, &mut self.random, text, at) {
+            self.one_item(kind, &Text::new(&respelled), at);
+        }
+        self.one_item(kind, text, at);
+    }
+
+    fn thoroughly(&mut self, case: &Case) {
+        let text = Text::new(&case.text);
+        if let Some(respelled) = respelled(self.edition, &mut self.random, &text, case.at) {
+            self.with_all_rooms(case.kind as u64, &Text::new(&respelled), case.at);
+        }
+        self.with_all_rooms(case.kind as u64, &text, case.at);
+    }
+
+    fn each_room(&mut self, kind: u64, text: &Text, at: usize) {
+        let expected = expected_in(self.edition, kind, text, at);
+        for room in 0..expected.written.len() + 2 {
+            self.judge(kind, text, at, Room::Bytes(room), &expected);
+        }
+    }
+}
+
+/// In edition 2, a text with digits from `at` on, its numbers spelled in the way of that edition.
+pub fn respelled(edition: u64, random: &mut Random, text: &Text, at: usize) -> Option<Vec<u8>> {
+    let rest = text.bytes.get(at..).filter(|_| edition == 2)?;
+    let digits = rest.iter().any(u8::is_ascii_digit);
+    digits.then(|| editions::respelled(random, text.bytes, at))
+}
+
+impl Reads {
+    fn one_item(&mut self, kind: u64, text: &Text, at: usize) {
+        let expected = expected_in(self.edition, kind, text, at);
+        self.judge_first(kind, text, at, &expected);
         if expected.written.is_empty() {
             let some = [Room::None, Room::Exact, Room::More(37)];
             let room = self.random.pick(&some);
@@ -86,9 +135,8 @@ impl Visitor for Reads {
         }
     }
 
-    fn thoroughly(&mut self, case: &Case) {
-        let text = Text::new(&case.text);
-        let expected = expected(case.kind as u64, &text, case.at);
+    fn with_all_rooms(&mut self, kind: u64, text: &Text, at: usize) {
+        let expected = expected_in(self.edition, kind, text, at);
         for room in [
             Room::None,
             Room::OneLess,
@@ -97,21 +145,15 @@ impl Visitor for Reads {
             Room::More(7),
             Room::More(1_000),
         ] {
-            self.judge(case.kind as u64, &text, case.at, room, &expected);
+            self.judge(kind, text, at, room, &expected);
         }
     }
 
-    fn each_room(&mut self, kind: u64, text: &Text, at: usize) {
-        let expected = expected(kind, text, at);
-        for room in 0..expected.written.len() + 2 {
-            self.judge(kind, text, at, Room::Bytes(room), &expected);
-        }
-    }
-}
-
-impl Reads {
-    fn new(random: Random) -> Reads {
+    fn new(edition: u64, random: Random) -> Reads {
         Reads {
+            edition,
+            of_none: 0,
+            of_first: 0,
             buffer: Buffer::new(station_items::ask),
             answers: 0,
             accepted: 0,
@@ -123,9 +165,12 @@ impl Reads {
     }
 
     fn judge(&mut self, kind: u64, text: &Text, at: usize, room: Room, expected: &Expected) {
-        let call = (kind, text.bytes, at, room);
+        let call = (kind, self.edition, text.bytes, at, room);
         let difference = asked(&mut self.buffer, call, expected);
         self.answers += 1;
+        if self.edition == 1 {
+            self.judge_none(kind, text, at, room.of(expected), expected);
+        }
         let due = expected.within(room.of(expected));
         self.accepted += u64::from(!due.written.is_empty());
         if let Some(cause) = due.cause {
@@ -133,6 +178,30 @@ impl Reads {
         }
         if let Some(difference) = difference {
             self.differs(difference);
+        }
+    }
+
+    /// Beside edition 2, edition 1 on the text by which the Rust judges.
+    fn judge_first(&mut self, kind: u64, text: &Text, at: usize, expected: &Expected) {
+        let judged = editions::judged(self.edition, text.bytes, at, usize::MAX);
+        if let Cow::Owned(copy) = judged {
+            self.of_first += 1;
+            let call = (kind, 1, &copy[..], at, Room::Exact);
+            if let Some(difference) = asked(&mut self.buffer, call, expected) {
+                self.differs(difference);
+            }
+        }
+    }
+
+    /// The same call with a number that is no edition.
+    fn judge_none(&mut self, kind: u64, text: &Text, at: usize, room: usize, expected: &Expected) {
+        let edition = editions::NONE[self.answers as usize % editions::NONE.len()];
+        self.of_none += 1;
+        let item = (kind, edition, text.bytes, at);
+        if let Some(wrong) = none_is_wrong(&mut self.buffer, ItemCall::Read, item, room, expected) {
+            self.different += 1;
+            println!("  edition {edition}, kind {kind}, at {at}, room {room}: {wrong:?}");
+            print_text(text.bytes);
         }
     }
 
@@ -148,6 +217,20 @@ impl Reads {
 
     fn print_summary(&self) {
         println!("{:<50} {:>12}", "all", grouped(self.answers));
+        if self.edition == 1 {
+            let count = grouped(self.of_none);
+            println!(
+                "{:<50} {count:>12}",
+                "the same with numbers that are no edition"
+            );
+        }
+        if self.edition == 2 {
+            let count = grouped(self.of_first);
+            println!(
+                "{:<50} {count:>12}",
+                "edition 1 on the texts that judge them"
+            );
+        }
         print_listed(&self.listed);
         println!("\ndifferences not listed: {}", grouped(self.different));
         for difference in &self.shown {
@@ -165,17 +248,35 @@ pub fn print_listed(listed: &[u64; Cause::ALL.len()]) {
     }
 }
 
-/// A call: kind, text, start offset and room.
-type Call<'t> = (u64, &'t [u8], usize, Room);
+/// What is wrong with a call that has a number that is no edition, where this must come of it in
+/// edition 1.
+pub fn none_is_wrong(
+    buffer: &mut Buffer,
+    call: ItemCall,
+    item: ItemAt,
+    room: usize,
+    expected: &Expected,
+) -> Option<Wrong> {
+    let due = Lent {
+        answer: Some(editions::of_none(expected.answer)),
+        written: &[],
+        cause: None,
+    };
+    buffer.wrong(call, item, room, due)
+}
+
+/// A call: kind, edition, text, start offset and room.
+type Call<'t> = (u64, u64, &'t [u8], usize, Room);
 
 /// Asks the port; what it does and what it should do, where they differ.
 fn asked(buffer: &mut Buffer, call: Call, expected: &Expected) -> Option<Difference> {
-    let (kind, text, at, room) = call;
+    let (kind, edition, text, at, room) = call;
     let lent = room.of(expected);
     let due = expected.within(lent);
-    let wrong = buffer.wrong(ItemCall::Read, (kind, text, at), lent, due)?;
+    let wrong = buffer.wrong(ItemCall::Read, (kind, edition, text, at), lent, due)?;
     Some(Difference {
         kind,
+        edition,
         text: text.to_vec(),
         at,
         room,
@@ -186,13 +287,13 @@ fn asked(buffer: &mut Buffer, call: Call, expected: &Expected) -> Option<Differe
 
 /// The difference on the smallest text that is found.
 fn smallest(buffer: &mut Buffer, first: Difference) -> Difference {
-    let (kind, room) = (first.kind, first.room);
+    let (kind, edition, room) = (first.kind, first.edition, first.room);
     let mut differs = |text: &[u8], at: usize| {
-        let expected = expected(kind, &Text::new(text), at);
+        let expected = expected_in(edition, kind, &Text::new(text), at);
         TAILS.iter().find_map(|tail| {
             let longer = [text, tail.as_bytes()].concat();
             let text = &longer[..text.len()];
-            asked(buffer, (kind, text, at, room), &expected)
+            asked(buffer, (kind, edition, text, at, room), &expected)
         })
     };
     let start = Instant::now();
@@ -212,8 +313,8 @@ impl Difference {
         let length = self.text.len();
         let room = self.room.of(&self.expected);
         println!(
-            "\n  Read call, kind {}, at {} of {length} bytes, room {room}",
-            self.kind, self.at
+            "\n  Read call, kind {}, edition {}, at {} of {length} bytes, room {room}",
+            self.kind, self.edition, self.at
         );
         print_text(&self.text);
         let due = self.expected.within(room);

@@ -4,6 +4,7 @@
 
 use crate::{
     answer::Answer,
+    editions,
     expected::{self, Text, LONGEST},
     levels::strike,
     parsing::{parse, Item, ItemKind, Parse},
@@ -82,6 +83,13 @@ pub fn expected(kind: u64, text: &Text, at: usize) -> Expected {
         Some(kind) => of_an_item(kind, text, at),
         None => by_document_01(Cause::UnknownKind, Answer::refused(3, 0, 0)),
     }
+}
+
+/// The same in an edition.
+pub fn expected_in(edition: u64, kind: u64, text: &Text, at: usize) -> Expected {
+    editions::judging(edition, text, at, usize::MAX, |text| {
+        expected(kind, text, at)
+    })
 }
 
 /// The same with a buffer lent.

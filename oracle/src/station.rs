@@ -5,8 +5,20 @@ use oracle::answer::{Answer, Call};
 
 #[link(name = "station", kind = "static")]
 extern "C" {
-    pub fn movesig_next_token(text: *const u8, len: usize, at: usize, answer: *mut u64) -> u32;
-    pub fn movesig_next_comment(text: *const u8, len: usize, at: usize, answer: *mut u64) -> u32;
+    pub fn movesig_next_token(
+        edition: u64,
+        text: *const u8,
+        len: usize,
+        at: usize,
+        answer: *mut u64,
+    ) -> u32;
+    pub fn movesig_next_comment(
+        edition: u64,
+        text: *const u8,
+        len: usize,
+        at: usize,
+        answer: *mut u64,
+    ) -> u32;
 }
 
 /// A number that no call answers: it shows what was not written.
@@ -14,13 +26,14 @@ const UNWRITTEN: u64 = 0xa5a5_a5a5_a5a5_a5a5;
 
 /// Asks the port. The lent numbers are filled first, and have a neighbour on each
 /// side that must stay as it is.
-pub fn ask(call: Call, text: &[u8], at: usize) -> Answer {
+pub fn ask(call: Call, edition: u64, text: &[u8], at: usize) -> Answer {
     let mut lent = [UNWRITTEN; 8];
     let ask = match call {
         Call::Token => movesig_next_token,
         Call::Comment => movesig_next_comment,
     };
-    let result = unsafe { ask(text.as_ptr(), text.len(), at, lent.as_mut_ptr().add(1)) };
+    let (start, length) = (text.as_ptr(), text.len());
+    let result = unsafe { ask(edition, start, length, at, lent.as_mut_ptr().add(1)) };
     assert!(
         lent[0] == UNWRITTEN && lent[7] == UNWRITTEN,
         "the port wrote beside the six numbers: {call:?} at {at} of '{}'",

@@ -7,6 +7,7 @@ use oracle::answer::ItemCall;
 extern "C" {
     pub fn movesig_read(
         kind: u64,
+        edition: u64,
         text: *const u8,
         len: usize,
         at: usize,
@@ -16,6 +17,7 @@ extern "C" {
     ) -> u32;
     pub fn movesig_display(
         kind: u64,
+        edition: u64,
         text: *const u8,
         len: usize,
         at: usize,
@@ -29,6 +31,7 @@ extern "C" {
 pub fn ask(
     call: ItemCall,
     kind: u64,
+    edition: u64,
     text: &[u8],
     at: usize,
     room: &mut [u8],
@@ -43,6 +46,7 @@ pub fn ask(
     unsafe {
         ask(
             kind,
+            edition,
             place.as_ptr(),
             text.len(),
             at,

@@ -1,7 +1,7 @@
 //! Measures what the Rust crate adds to the bare calls: the same texts and the same calls of the
 //! same library, once through the crate's functions and once through its C interface.
 
-use movesig::{display, read, Kind, LONGEST};
+use movesig::{display, read, Edition, Kind, LONGEST};
 use std::{
     env,
     hint::black_box,
@@ -36,12 +36,14 @@ const MORE: f64 = 0.05;
 mod bare {
     extern "C" {
         pub fn movesig_next_token(
+            edition: u64,
             text: *const u8,
             len: usize,
             at: usize,
             answer: *mut [u64; 6],
         ) -> u32;
         pub fn movesig_next_comment(
+            edition: u64,
             text: *const u8,
             len: usize,
             at: usize,
@@ -49,6 +51,7 @@ mod bare {
         ) -> u32;
         pub fn movesig_read(
             kind: u64,
+            edition: u64,
             text: *const u8,
             len: usize,
             at: usize,
@@ -58,6 +61,7 @@ mod bare {
         ) -> u32;
         pub fn movesig_display(
             kind: u64,
+            edition: u64,
             text: *const u8,
             len: usize,
             at: usize,
@@ -189,7 +193,7 @@ fn bare_tokens(text: &[u8]) -> Done {
     let mut at = 0;
     loop {
         let (start, length) = (text.as_ptr(), text.len());
-        let number = unsafe { bare::movesig_next_token(start, length, at, &mut answer) };
+        let number = unsafe { bare::movesig_next_token(1, start, length, at, &mut answer) };
         assert_eq!(number, 0, "a token is accepted");
         at = answer[2] as usize;
         done.add([answer[0] as usize, answer[1] as usize, at]);
@@ -201,7 +205,7 @@ fn bare_tokens(text: &[u8]) -> Done {
 
 fn crate_tokens(text: &[u8]) -> Done {
     let mut done = Done::default();
-    for token in movesig::tokens(text, 0) {
+    for token in movesig::tokens(Edition::One, text, 0) {
         let token = token.expect("a token is accepted");
         done.add([token.kind.number().into(), token.span.start, token.span.end]);
     }
@@ -212,7 +216,7 @@ fn crate_next_tokens(text: &[u8]) -> Done {
     let mut done = Done::default();
     let mut at = 0;
     loop {
-        let token = movesig::next_token(text, at).expect("a token is accepted");
+        let token = movesig::next_token(Edition::One, text, at).expect("a token is accepted");
         at = token.span.end;
         done.add([token.kind.number().into(), token.span.start, at]);
         if token.is_eof() {
@@ -228,12 +232,12 @@ fn bare_comments(text: &[u8]) -> Done {
     let mut at = 0;
     loop {
         let (start, length) = (text.as_ptr(), text.len());
-        let number = unsafe { bare::movesig_next_comment(start, length, at, &mut answer) };
+        let number = unsafe { bare::movesig_next_comment(1, start, length, at, &mut answer) };
         assert_eq!(number, 0, "a gap is accepted");
         if answer[0] != 0 {
             done.add([answer[1] as usize, answer[4] as usize]);
         }
-        let number = unsafe { bare::movesig_next_token(start, length, at, &mut answer) };
+        let number = unsafe { bare::movesig_next_token(1, start, length, at, &mut answer) };
         assert_eq!(number, 0, "a token is accepted");
         at = answer[2] as usize;
         done.add([answer[0] as usize, at]);
@@ -247,10 +251,12 @@ fn crate_comments(text: &[u8]) -> Done {
     let mut done = Done::default();
     let mut at = 0;
     loop {
-        if let Some(comment) = movesig::next_comment(text, at).expect("a gap is accepted") {
+        if let Some(comment) =
+            movesig::next_comment(Edition::One, text, at).expect("a gap is accepted")
+        {
             done.add([comment.span.start, comment.text.end]);
         }
-        let token = movesig::next_token(text, at).expect("a token is accepted");
+        let token = movesig::next_token(Edition::One, text, at).expect("a token is accepted");
         at = token.span.end;
         done.add([token.kind.number().into(), at]);
         if token.is_eof() {
@@ -260,7 +266,7 @@ fn crate_comments(text: &[u8]) -> Done {
 }
 
 type Call =
-    unsafe extern "C" fn(u64, *const u8, usize, usize, *mut u8, usize, *mut [u64; 6]) -> u32;
+    unsafe extern "C" fn(u64, u64, *const u8, usize, usize, *mut u8, usize, *mut [u64; 6]) -> u32;
 
 fn bare_items(call: Call, buffer: &mut [u8]) -> Done {
     let mut done = Done::default();
@@ -269,7 +275,7 @@ fn bare_items(call: Call, buffer: &mut [u8]) -> Done {
         let text = black_box(text.as_bytes());
         let (start, length) = (text.as_ptr(), text.len());
         let (out, room) = (buffer.as_mut_ptr(), buffer.len());
-        let number = unsafe { call(3, start, length, 0, out, room, &mut answer) };
+        let number = unsafe { call(3, 1, start, length, 0, out, room, &mut answer) };
         assert_eq!(number, 0, "a type is accepted");
         done.add([answer[0] as usize, answer[1] as usize, answer[3] as usize]);
     }
@@ -280,7 +286,7 @@ fn crate_reads(buffer: &mut [u8]) -> Done {
     let mut done = Done::default();
     for text in TYPES {
         let text = black_box(text.as_bytes());
-        let item = read(Kind::Type, text, 0, buffer).expect("a type is accepted");
+        let item = read(Kind::Type, Edition::One, text, 0, buffer).expect("a type is accepted");
         let next = item.next;
         let length = item.tree.as_bytes().len();
         done.add([length, next.kind.number().into(), next.span.end]);
@@ -292,7 +298,7 @@ fn crate_displays(buffer: &mut [u8]) -> Done {
     let mut done = Done::default();
     for text in TYPES {
         let text = black_box(text.as_bytes());
-        let line = display(Kind::Type, text, 0, buffer).expect("a type is accepted");
+        let line = display(Kind::Type, Edition::One, text, 0, buffer).expect("a type is accepted");
         done.add([line.len()]);
     }
     done

@@ -64,22 +64,22 @@ when-then true (tok t) f y v k = refl
 when-then true (bad r) f y v k = refl
 when-then false l f y v k = refl
 
-module _ (f : ℕ) (text : List ℕ) (s : Spot) (l m : List ℕ) (a : Answer) where
+module _ (f ed : ℕ) (text : List ℕ) (s : Spot) (l m : List ℕ) (a : Answer) where
   -- the token itself is refused
-  pub itself : (n : ℕ) (x : Ans Tree) (r : Parsed) → (Fits text a → x ≡ no (refusedAt n (held text a))) → r ≡ refusedToken n a → Reads f text (Fits text a) x (a .end) s l r m
+  pub itself : (n : ℕ) (x : Ans Tree) (r : Parsed) → (Fits text a → x ≡ no (refusedAt n (held ed text a))) → r ≡ refusedToken n a → Reads f ed text (Fits text a) x (a .end) s l r m
   itself n x r h e =
-      subst (λ (y : Parsed). Reads f text (Fits text a) x (a .end) s l y m) (sym e) (reads-no f text (Fits text a) x (a .end) s l m (refusal n (a .start) (a .end)) (λ z. h z ∙ ap no (token-refused text n a z)))
+      subst (λ (y : Parsed). Reads f ed text (Fits text a) x (a .end) s l y m) (sym e) (reads-no f ed text (Fits text a) x (a .end) s l m (refusal n (a .start) (a .end)) (λ z. h z ∙ ap no (token-refused ed text n a z)))
 
   module _ (n : ℕ) where
     -- bindings, where n levels are left
     abbrev bind : Ans Tree
-    bind = readBind n (held text a)
+    bind = readBind n (held ed text a)
 
     abbrev Bind : Parsed → Type 0
-    Bind r = Reads f text (Fits text a) bind (a .end) s l r m
+    Bind r = Reads f ed text (Fits text a) bind (a .end) s l r m
 
     abbrev Unpack : Parsed → Type 0
-    Unpack r = Reads f text (Fits text a) (unpacked (readType (n - 1)) (fieldAt (n - 1)) (held text a)) (a .end) s l r m
+    Unpack r = Reads f ed text (Fits text a) (unpacked (readType (n - 1)) (fieldAt (n - 1)) (held ed text a)) (a .end) s l r m
 
     pub bind-deep : (r : Parsed) → n ≡ 0 → r ≡ refusedToken TooDeep a → Bind r
     unfolding readBind
@@ -93,30 +93,30 @@ module _ (f : ℕ) (text : List ℕ) (s : Spot) (l m : List ℕ) (a : Answer) wh
       bind-other : (r : Parsed) → (a .kind ≡ Identifier → ⊥) → Unpack r → Bind r
       unfolding bindOver
       bind-other r k d =
-          reads-as f text (Fits text a) (Fits text a) bind (unpacked (readType (n - 1)) (fieldAt (n - 1)) (held text a)) (a .end) (a .end) s l m r (omega arith) (λ z. z)
-          (λ _. bind-level (held text a) ∙ when-false (eqb (a .kind) Identifier) _ _ (ne-eqb (a .kind) Identifier k)) d
+          reads-as f ed text (Fits text a) (Fits text a) bind (unpacked (readType (n - 1)) (fieldAt (n - 1)) (held ed text a)) (a .end) (a .end) s l m r (omega arith) (λ z. z)
+          (λ _. bind-level (held ed text a) ∙ when-false (eqb (a .kind) Identifier) _ _ (ne-eqb (a .kind) Identifier k)) d
 
       module _ (k : a .kind ≡ Identifier) where
-        bind-bad : (r : Refusal) → nextToken text (a .end) ≡ Bad r → Bind (Refused r)
+        bind-bad : (r : Refusal) → nextToken ed text (a .end) ≡ Bad r → Bind (Refused r)
         unfolding bindOver
         bind-bad r e =
-            reads-no f text (Fits text a) bind (a .end) s l m r
-            (λ z. bind-level (held text a) ∙ when-true (eqb (a .kind) Identifier) _ _ (eq-eqb (a .kind) Identifier k) ∙ look-refused text a z _ r e)
+            reads-no f ed text (Fits text a) bind (a .end) s l m r
+            (λ z. bind-level (held ed text a) ∙ when-true (eqb (a .kind) Identifier) _ _ (eq-eqb (a .kind) Identifier k) ∙ look-refused ed text a z _ r e)
 
-        module _ (d : Answer) (e : nextToken text (a .end) ≡ Found d) (c : Bool) (g : c ≡ structKind (d .kind)) where
+        module _ (d : Answer) (e : nextToken ed text (a .end) ≡ Found d) (c : Bool) (g : c ≡ structKind (d .kind)) where
           bind-struct : (r : Parsed) → c ≡ true → Unpack r → Bind r
           unfolding bindOver
           bind-struct r b w =
-              reads-as f text (Fits text a) (Fits text a) bind (unpacked (readType (n - 1)) (fieldAt (n - 1)) (held text a)) (a .end) (a .end) s l m r (omega arith) (λ z. z)
-              (λ z. bind-level (held text a) ∙ when-true (eqb (a .kind) Identifier) _ _ (eq-eqb (a .kind) Identifier k) ∙ look-found text a z _ d e
+              reads-as f ed text (Fits text a) (Fits text a) bind (unpacked (readType (n - 1)) (fieldAt (n - 1)) (held ed text a)) (a .end) (a .end) s l m r (omega arith) (λ z. z)
+              (λ z. bind-level (held ed text a) ∙ when-true (eqb (a .kind) Identifier) _ _ (eq-eqb (a .kind) Identifier k) ∙ look-found ed text a z _ d e
               ∙ when-true (structKind (d .kind)) _ _ (sym g ∙ b)) w
 
           bind-variable : (to : Spot) → c ≡ false → Placed l s (spelt f RecVariable (a .start) (a .end) (wordOf text a)) to m → Bind (Read (record { to = to; end = a .end; next = d }))
           unfolding bindOver
           bind-variable to b w =
-              reads-read f text (Fits text a) bind (a .end) s l m (leafAt RecVariable text a) (a .end) d to (omega arith)
-              (λ z. bind-level (held text a) ∙ when-true (eqb (a .kind) Identifier) _ _ (eq-eqb (a .kind) Identifier k) ∙ look-found text a z _ d e
-              ∙ when-false (structKind (d .kind)) _ _ (sym g ∙ b) ∙ read-to text (leafOf RecVariable (held text a)) (leafAt RecVariable text a) a z (held-leaf text a z RecVariable)) e
+              reads-read f ed text (Fits text a) bind (a .end) s l m (leafAt RecVariable text a) (a .end) d to (omega arith)
+              (λ z. bind-level (held ed text a) ∙ when-true (eqb (a .kind) Identifier) _ _ (eq-eqb (a .kind) Identifier k) ∙ look-found ed text a z _ d e
+              ∙ when-false (structKind (d .kind)) _ _ (sym g ∙ b) ∙ read-to ed text (leafOf RecVariable (held ed text a)) (leafAt RecVariable text a) a z (held-leaf ed text a z RecVariable)) e
               (placed-as l m (spelt f RecVariable (a .start) (a .end) (wordOf text a)) (laid f (leafAt RecVariable text a)) s to (sym (leaf-laid f text RecVariable a refl)) w)
 
       -- by its first two tokens
@@ -124,16 +124,16 @@ module _ (f : ℕ) (text : List ℕ) (s : Spot) (l m : List ℕ) (a : Answer) wh
       bind-unnamed r b e =
           let k = neither-left (eqb (a .kind) Identifier) (eqb (a .kind) NumValue) b in
           subst (λ (y : Parsed). Bind y) (sym e)
-          (bind-other _ (eqb-false (a .kind) Identifier k) (unpack-unnamed f text (n - 1) a s s l m r (chain-other f text s l m a (begins a) r refl b e) _ e))
+          (bind-other _ (eqb-false (a .kind) Identifier k) (unpack-unnamed f ed text (n - 1) a s s l m r (chain-other f ed text s l m a (begins a) r refl b e) _ e))
 
-      pub bind-refused : (r : Refusal) → begins a ≡ true → nextToken text (a .end) ≡ Bad r → Bind (Refused r)
+      pub bind-refused : (r : Refusal) → begins a ≡ true → nextToken ed text (a .end) ≡ Bad r → Bind (Refused r)
       bind-refused r b e = go (eqb (a .kind) Identifier) refl
         where
           go : (c : Bool) → eqb (a .kind) Identifier ≡ c → Bind (Refused r)
           go true d = bind-bad (eqb-true (a .kind) Identifier d) r e
-          go false d = bind-other (Refused r) (eqb-false (a .kind) Identifier d) (unpack-unnamed f text (n - 1) a s s l m (Refused r) (chain-bad f text s l m a (begins a) refl b r e) r refl)
+          go false d = bind-other (Refused r) (eqb-false (a .kind) Identifier d) (unpack-unnamed f ed text (n - 1) a s s l m (Refused r) (chain-bad f ed text s l m a (begins a) refl b r e) r refl)
 
-      module _ (d : Answer) (e : nextToken text (a .end) ≡ Found d) (c : Bool) (g : c ≡ variableKinds (a .kind) (d .kind)) where
+      module _ (d : Answer) (e : nextToken ed text (a .end) ≡ Found d) (c : Bool) (g : c ≡ variableKinds (a .kind) (d .kind)) where
         pub bind-one : (to : Spot) → c ≡ true → Placed l s (spelt f RecVariable (a .start) (a .end) (wordOf text a)) to m → Bind (Read (record { to = to; end = a .end; next = d }))
         bind-one to b w = let y = variable-yes (a .kind) (d .kind) (sym g ∙ b) in bind-variable (y .0) d e (structKind (d .kind)) refl to (y .1) w
 
@@ -142,10 +142,10 @@ module _ (f : ℕ) (text : List ℕ) (s : Spot) (l m : List ℕ) (a : Answer) wh
 
     -- fields
     abbrev field : Ans Tree
-    field = fieldAt n (held text a)
+    field = fieldAt n (held ed text a)
 
     abbrev Field : Parsed → Type 0
-    Field r = Reads f text (Fits text a) field (a .end) s l r m
+    Field r = Reads f ed text (Fits text a) field (a .end) s l r m
 
     pub field-deep : (r : Parsed) → n ≡ 0 → r ≡ refusedToken TooDeep a → Field r
     unfolding readField
@@ -158,65 +158,65 @@ module _ (f : ℕ) (text : List ℕ) (s : Spot) (l m : List ℕ) (a : Answer) wh
 
       pub field-other : (r : Parsed) → (a .kind ≡ Identifier → ⊥) → r ≡ refusedToken UnexpectedToken a → Field r
       unfolding fieldOver
-      field-other r k e = itself UnexpectedToken field r (λ _. field-level (held text a) ∙ when-false (eqb (a .kind) Identifier) _ _ (ne-eqb (a .kind) Identifier k)) e
+      field-other r k e = itself UnexpectedToken field r (λ _. field-level (held ed text a) ∙ when-false (eqb (a .kind) Identifier) _ _ (ne-eqb (a .kind) Identifier k)) e
 
       module _ (k : a .kind ≡ Identifier) where
-        pub field-bad : (r : Refusal) → nextToken text (a .end) ≡ Bad r → Field (Refused r)
+        pub field-bad : (r : Refusal) → nextToken ed text (a .end) ≡ Bad r → Field (Refused r)
         unfolding fieldOver
         field-bad r e =
-            reads-no f text (Fits text a) field (a .end) s l m r
-            (λ z. field-level (held text a) ∙ when-true (eqb (a .kind) Identifier) _ _ (eq-eqb (a .kind) Identifier k) ∙ look-refused text a z _ r e)
+            reads-no f ed text (Fits text a) field (a .end) s l m r
+            (λ z. field-level (held ed text a) ∙ when-true (eqb (a .kind) Identifier) _ _ (eq-eqb (a .kind) Identifier k) ∙ look-refused ed text a z _ r e)
 
-        module _ (d : Answer) (e : nextToken text (a .end) ≡ Found d) where
+        module _ (d : Answer) (e : nextToken ed text (a .end) ≡ Found d) where
           abbrev fieldOf : Tree → ℕ → Tree
           fieldOf x q = node RecField (a .start) q (more (leafAt RecName text a) (more x none))
 
-          field-is : Fits text a → field ≡ then (boundBy n (held text a) (held text d)) (λ x u. ok (fieldOf x (u .at)) u)
+          field-is : Fits text a → field ≡ then (boundBy n (held ed text a) (held ed text d)) (λ x u. ok (fieldOf x (u .at)) u)
           unfolding fieldOver boundBy
           field-is z =
-              field-level (held text a) ∙ when-true (eqb (a .kind) Identifier) _ _ (eq-eqb (a .kind) Identifier k) ∙ look-found text a z _ d e
-              ∙ when-then (eqb (d .kind) Colon) (lex (after (held text d))) (readBind n) (leafOf RecVariable (held text a)) (after (held text a)) _
-              ∙ ap (λ (t : Tree). then (boundBy n (held text a) (held text d)) (λ x u. ok (node RecField (a .start) (u .at) (more t (more x none))) u)) (held-leaf text a z RecName)
+              field-level (held ed text a) ∙ when-true (eqb (a .kind) Identifier) _ _ (eq-eqb (a .kind) Identifier k) ∙ look-found ed text a z _ d e
+              ∙ when-then (eqb (d .kind) Colon) (lex (after (held ed text d))) (readBind n) (leafOf RecVariable (held ed text a)) (after (held ed text a)) _
+              ∙ ap (λ (t : Tree). then (boundBy n (held ed text a) (held ed text d)) (λ x u. ok (node RecField (a .start) (u .at) (more t (more x none))) u)) (held-leaf ed text a z RecName)
 
-          pub field-bound : length l ≤ last → (q : Spot) (l₂ m₂ : List ℕ) (p r : Parsed) → Placed l (inside f s) (fieldName f text a) q l₂ → Reads f text (Fits text a) (boundBy n (held text a) (held text d)) (a .end) q l₂ p m₂
+          pub field-bound : length l ≤ last → (q : Spot) (l₂ m₂ : List ℕ) (p r : Parsed) → Placed l (inside f s) (fieldName f text a) q l₂ → Reads f ed text (Fits text a) (boundBy n (held ed text a) (held ed text d)) (a .end) q l₂ p m₂
               → (r ≡ p) × (m ≡ headedBy f RecField (a .start) s p m₂) → Field r
           field-bound i q l₂ m₂ p r w j v =
               let name = leafAt RecName text a in
-              let bound = boundBy n (held text a) (held text d) in
+              let bound = boundBy n (held ed text a) (held ed text d) in
               subst (λ (r : Parsed). Field r) (sym (v .0))
               (record {
-                meets = λ z. closed-by (λ t. fieldName f text a ++ laid f t) f text field bound fieldOf RecField (a .start) s l m₂ m p i (field-is z)
+                meets = λ z. closed-by (λ t. fieldName f text a ++ laid f t) f ed text field bound fieldOf RecField (a .start) s l m₂ m p i (field-is z)
                     (λ t u q _. laid-field f (a .start) q name t ∙ ap (headed f RecField (a .start) q) (sym (append-assoc (laid f name) (markIn f (bytes ": ")) (laid f t))))
-                    (front (laid f) text bound (fieldName f text a) (inside f s) q l l₂ m₂ p i w (by-meets f text bound q l₂ m₂ p (j .meets z))) (v .1);
+                    (front (laid f) ed text bound (fieldName f text a) (inside f s) q l l₂ m₂ p i w (by-meets f ed text bound q l₂ m₂ p (j .meets z))) (v .1);
                 goes = j .goes;
               })
 
 -- what a field binds
-module _ (f : ℕ) (text : List ℕ) (s : Spot) (l m : List ℕ) (n : ℕ) (a d : Answer) (e : nextToken text (a .end) ≡ Found d) where
+module _ (f ed : ℕ) (text : List ℕ) (s : Spot) (l m : List ℕ) (n : ℕ) (a d : Answer) (e : nextToken ed text (a .end) ≡ Found d) where
   abbrev Bound : Parsed → Type 0
-  Bound r = Reads f text (Fits text a) (boundBy n (held text a) (held text d)) (a .end) s l r m
+  Bound r = Reads f ed text (Fits text a) (boundBy n (held ed text a) (held ed text d)) (a .end) s l r m
 
   pub bound-short : (to : Spot) → (d .kind ≡ Colon → ⊥) → Placed l s (spelt f RecVariable (a .start) (a .end) (wordOf text a)) to m → Bound (Read (record { to = to; end = a .end; next = d }))
   unfolding boundBy
   bound-short to c w =
-      reads-read f text (Fits text a) (boundBy n (held text a) (held text d)) (a .end) s l m (leafAt RecVariable text a) (a .end) d to (omega arith)
-      (λ z. when-false (eqb (d .kind) Colon) _ _ (ne-eqb (d .kind) Colon c) ∙ read-to text (leafOf RecVariable (held text a)) (leafAt RecVariable text a) a z (held-leaf text a z RecVariable)) e
+      reads-read f ed text (Fits text a) (boundBy n (held ed text a) (held ed text d)) (a .end) s l m (leafAt RecVariable text a) (a .end) d to (omega arith)
+      (λ z. when-false (eqb (d .kind) Colon) _ _ (ne-eqb (d .kind) Colon c) ∙ read-to ed text (leafOf RecVariable (held ed text a)) (leafAt RecVariable text a) a z (held-leaf ed text a z RecVariable)) e
       (placed-as l m (spelt f RecVariable (a .start) (a .end) (wordOf text a)) (laid f (leafAt RecVariable text a)) s to (sym (leaf-laid f text RecVariable a refl)) w)
 
   module _ (c : d .kind ≡ Colon) where
-    abbrev colon : Next text (a .end) d
-    colon = next-found text (a .end) d e
+    abbrev colon : Next ed text (a .end) d
+    colon = next-found ed text (a .end) d e
 
-    pub bound-bad : (r : Refusal) → nextToken text (d .end) ≡ Bad r → Bound (Refused r)
+    pub bound-bad : (r : Refusal) → nextToken ed text (d .end) ≡ Bad r → Bound (Refused r)
     unfolding boundBy
     bound-bad r g =
-        reads-no f text (Fits text a) (boundBy n (held text a) (held text d)) (a .end) s l m r
-        (λ z. when-true (eqb (d .kind) Colon) _ _ (eq-eqb (d .kind) Colon c) ∙ look-refused text d (colon .fits) _ r g)
+        reads-no f ed text (Fits text a) (boundBy n (held ed text a) (held ed text d)) (a .end) s l m r
+        (λ z. when-true (eqb (d .kind) Colon) _ _ (eq-eqb (d .kind) Colon c) ∙ look-refused ed text d (colon .fits) _ r g)
 
-    pub bound-bind : (b : Answer) → nextToken text (d .end) ≡ Found b → (r : Parsed) → Reads f text (Fits text b) (readBind n (held text b)) (b .end) s l r m → Bound r
+    pub bound-bind : (b : Answer) → nextToken ed text (d .end) ≡ Found b → (r : Parsed) → Reads f ed text (Fits text b) (readBind n (held ed text b)) (b .end) s l r m → Bound r
     unfolding boundBy
     bound-bind b g r w =
-        let y = next-found text (d .end) b g in
-        reads-as f text (Fits text a) (Fits text b) (boundBy n (held text a) (held text d)) (readBind n (held text b)) (a .end) (b .end) s l m r
+        let y = next-found ed text (d .end) b g in
+        reads-as f ed text (Fits text a) (Fits text b) (boundBy n (held ed text a) (held ed text d)) (readBind n (held ed text b)) (a .end) (b .end) s l m r
         (omega (arith, colon .from, colon .fits .1, y .from, y .fits .1)) (λ _. y .fits)
-        (λ z. when-true (eqb (d .kind) Colon) _ _ (eq-eqb (d .kind) Colon c) ∙ look-found text d (colon .fits) _ b g) w
+        (λ z. when-true (eqb (d .kind) Colon) _ _ (eq-eqb (d .kind) Colon c) ∙ look-found ed text d (colon .fits) _ b g) w

@@ -42,140 +42,140 @@ use Rattle.bind_walk.specs.code.Pieces.{fieldAt, angled, braced, partOf,
 use Rattle.bind_walk.proofs.Parted.{then-ok, had-by, had-not, goes-by, goes-from, list-part, front, marked, closed-by, by-as, by-refused}
 
 -- looking at the token that stands at a place
-look-at : {B : Type 0} (text : List ℕ) (q : ℕ) (b : Answer) (g : Token → Ans B) → nextToken text q ≡ Found b → look (lex (opened text q)) g ≡ g (held text b)
+look-at : {B : Type 0} (ed : ℕ) (text : List ℕ) (q : ℕ) (b : Answer) (g : Token → Ans B) → nextToken ed text q ≡ Found b → look (lex (opened ed text q)) g ≡ g (held ed text b)
 unfolding look
-look-at text q b g h = rw (next-found text q b h .is)
+look-at ed text q b g h = rw (next-found ed text q b h .is)
 
 -- five pieces, bracketed otherwise
 joins : (a b c d e : List ℕ) → a ++ (b ++ (c ++ (d ++ e))) ≡ (a ++ (b ++ (c ++ d))) ++ e
 joins a b c d e = simp append-assoc
 
 -- the types behind the `<` o
-pub types-enclosed : (f : ℕ) (text : List ℕ) (n : ℕ) (o : Answer) (s q : Spot) (l l₂ m₂ m : List ℕ) (t : Listed) (p r : Parsed) → length l ≤ last → Placed l s (markIn f (bytes "<")) q l₂
-    → ReadsAll f text (Fits text o) (listBehind (readType n) Greater (held text o)) (o .end) q l₂ t m₂ → p ≡ partOf t → (r ≡ endedBy f 62 p) × (m ≡ markedBy f 62 p m₂)
-    → ReadsBy (angled f) text (Fits text o) (listBehind (readType n) Greater (held text o)) (o .end) s l r m
-types-enclosed f text n o s q l l₂ m₂ m t p r h g d e w =
-    let x = listBehind (readType n) Greater (held text o) in
-    marked (laidItems f) text x f 62 (bytes "<") (Fits text o) (o .end) s q l l₂ m₂ m p r h g (list-part f text (Fits text o) x (o .end) q l₂ m₂ t d p e) (w .0) (w .1)
+pub types-enclosed : (f ed : ℕ) (text : List ℕ) (n : ℕ) (o : Answer) (s q : Spot) (l l₂ m₂ m : List ℕ) (t : Listed) (p r : Parsed) → length l ≤ last → Placed l s (markIn f (bytes "<")) q l₂
+    → ReadsAll f ed text (Fits text o) (listBehind (readType n) Greater (held ed text o)) (o .end) q l₂ t m₂ → p ≡ partOf t → (r ≡ endedBy f 62 p) × (m ≡ markedBy f 62 p m₂)
+    → ReadsBy (angled f) ed text (Fits text o) (listBehind (readType n) Greater (held ed text o)) (o .end) s l r m
+types-enclosed f ed text n o s q l l₂ m₂ m t p r h g d e w =
+    let x = listBehind (readType n) Greater (held ed text o) in
+    marked (laidItems f) ed text x f 62 (bytes "<") (Fits text o) (o .end) s q l l₂ m₂ m p r h g (list-part f ed text (Fits text o) x (o .end) q l₂ m₂ t d p e) (w .0) (w .1)
 
 -- a name inside a record
-pub name-at : (f : ℕ) (text : List ℕ) (a d : Answer) (x : Ans Tree) (s i : Spot) (l : List ℕ) (r : Parsed) (m : List ℕ) → i ≡ inside f s → ReadsBehind f text a d x i l r m → ReadsBehind f text a d x (inside f s) l r m
-name-at f text a d x s i l r m e w = subst (λ (z : Spot). ReadsBehind f text a d x z l r m) e w
+pub name-at : (f ed : ℕ) (text : List ℕ) (a d : Answer) (x : Ans Tree) (s i : Spot) (l : List ℕ) (r : Parsed) (m : List ℕ) → i ≡ inside f s → ReadsBehind f ed text a d x i l r m → ReadsBehind f ed text a d x (inside f s) l r m
+name-at f ed text a d x s i l r m e w = subst (λ (z : Spot). ReadsBehind f ed text a d x z l r m) e w
 
 -- the types, or none
-module _ (f : ℕ) (text : List ℕ) (n : ℕ) (p : Part) (l : List ℕ) where
-  pub behind-none : (p .next .kind ≡ Less → ⊥) → TypesBehind f text n p l (Read p) l
+module _ (f ed : ℕ) (text : List ℕ) (n : ℕ) (p : Part) (l : List ℕ) where
+  pub behind-none : (p .next .kind ≡ Less → ⊥) → TypesBehind f ed text n p l (Read p) l
   unfolding Past
   behind-none k = record { plain = λ _. (refl, refl); typed = λ h. absurd (k h); past = omega arith }
 
   pub behind-types : (r : Parsed) (m : List ℕ) → p .next .kind ≡ Less
-      → ReadsBy (angled f) text (Fits text (p .next)) (listBehind (readType n) Greater (held text (p .next))) (p .next .end) (p .to) l r m → TypesBehind f text n p l r m
-  behind-types r m k d = record { plain = λ h. absurd (h k); typed = λ _. d; past = past-from text (p .next .end) r (d .goes) }
+      → ReadsBy (angled f) ed text (Fits text (p .next)) (listBehind (readType n) Greater (held ed text (p .next))) (p .next .end) (p .to) l r m → TypesBehind f ed text n p l r m
+  behind-types r m k d = record { plain = λ h. absurd (h k); typed = λ _. d; past = past-from ed text (p .next .end) r (d .goes) }
 
-module _ (f : ℕ) (text : List ℕ) (n : ℕ) where
+module _ (f ed : ℕ) (text : List ℕ) (n : ℕ) where
   -- fields
   module _ (b : Answer) (s : Spot) (l m : List ℕ) where
     abbrev braces : Ans Trees
-    braces = fields (readType n) (fieldAt n) (held text b)
+    braces = fields (readType n) (fieldAt n) (held ed text b)
 
     abbrev Fields : Parsed → Type 0
-    Fields r = ReadsBy (braced f) text (Fits text b) braces (b .end) s l r m
+    Fields r = ReadsBy (braced f) ed text (Fits text b) braces (b .end) s l r m
 
     pub fields-other : (r : Parsed) → (b .kind ≡ LBrace → ⊥) → r ≡ refusedToken UnexpectedToken b → Fields r
     unfolding fields
     fields-other r k e =
         subst (λ (y : Parsed). Fields y) (sym e)
-        (by-refused (braced f) text (Fits text b) braces (b .end) s l m (refusal UnexpectedToken (b .start) (b .end))
-        (λ z. when-false (eqb (b .kind) LBrace) _ _ (ne-eqb (b .kind) LBrace k) ∙ ap no (token-refused text UnexpectedToken b z)))
+        (by-refused (braced f) ed text (Fits text b) braces (b .end) s l m (refusal UnexpectedToken (b .start) (b .end))
+        (λ z. when-false (eqb (b .kind) LBrace) _ _ (ne-eqb (b .kind) LBrace k) ∙ ap no (token-refused ed text UnexpectedToken b z)))
 
     pub fields-enclosed : (q : Spot) (l₂ m₂ : List ℕ) (t : Listed) (p r : Parsed) → length l ≤ last → b .kind ≡ LBrace → Placed l s (markIn f (bytes " {")) q l₂
-        → ReadsAll f text (Fits text b) (listBehind (fieldAt n) RBrace (held text b)) (b .end) q l₂ t m₂ → p ≡ partOf t → (r ≡ endedBy f 125 p) × (m ≡ markedBy f 125 p m₂) → Fields r
+        → ReadsAll f ed text (Fits text b) (listBehind (fieldAt n) RBrace (held ed text b)) (b .end) q l₂ t m₂ → p ≡ partOf t → (r ≡ endedBy f 125 p) × (m ≡ markedBy f 125 p m₂) → Fields r
     unfolding fields
     fields-enclosed q l₂ m₂ t p r h k g d e w =
-        let x = listBehind (fieldAt n) RBrace (held text b) in
-        by-as (braced f) text (Fits text b) braces x (b .end) s l m r (λ _. when-true (eqb (b .kind) LBrace) _ _ (eq-eqb (b .kind) LBrace k))
-        (marked (laidItems f) text x f 125 (bytes " {") (Fits text b) (b .end) s q l l₂ m₂ m p r h g (list-part f text (Fits text b) x (b .end) q l₂ m₂ t d p e) (w .0) (w .1))
+        let x = listBehind (fieldAt n) RBrace (held ed text b) in
+        by-as (braced f) ed text (Fits text b) braces x (b .end) s l m r (λ _. when-true (eqb (b .kind) LBrace) _ _ (eq-eqb (b .kind) LBrace k))
+        (marked (laidItems f) ed text x f 125 (bytes " {") (Fits text b) (b .end) s q l l₂ m₂ m p r h g (list-part f ed text (Fits text b) x (b .end) q l₂ m₂ t d p e) (w .0) (w .1))
 
   -- structs
-  module _ (a : Answer) (s i : Spot) (l l₁ : List ℕ) (c : Parsed) (d : Reads f text (Fits text a) (chain (held text a)) (a .end) i l c l₁) where
+  module _ (a : Answer) (s i : Spot) (l l₁ : List ℕ) (c : Parsed) (d : Reads f ed text (Fits text a) (chain (held ed text a)) (a .end) i l c l₁) where
     abbrev struct : Ans Tree
-    struct = unpacked (readType n) (fieldAt n) (held text a)
+    struct = unpacked (readType n) (fieldAt n) (held ed text a)
 
     abbrev Unpack : Parsed → List ℕ → Type 0
-    Unpack r m = Reads f text (Fits text a) struct (a .end) s l r m
+    Unpack r m = Reads f ed text (Fits text a) struct (a .end) s l r m
 
     -- the name is refused, or the token behind it
     pub unpack-unnamed : (r : Refusal) → c ≡ Refused r → Unpack (Refused r) l₁
     unfolding unpacked structOver
-    unpack-unnamed r e = reads-no f text (Fits text a) struct (a .end) s l l₁ r (λ z. refuses-look (chain (held text a)) r _ (reads-not f text (Fits text a) (chain (held text a)) (a .end) i l l₁ c d r e z))
+    unpack-unnamed r e = reads-no f ed text (Fits text a) struct (a .end) s l l₁ r (λ z. refuses-look (chain (held ed text a)) r _ (reads-not f ed text (Fits text a) (chain (held ed text a)) (a .end) i l l₁ c d r e z))
 
     module _ (p : Part) (e : c ≡ Read p) where
-      name-had : Fits text a → Had f text (chain (held text a)) i l p l₁
-      name-had = reads-had f text (Fits text a) (chain (held text a)) (a .end) i l l₁ c d p e
+      name-had : Fits text a → Had f ed text (chain (held ed text a)) i l p l₁
+      name-had = reads-had f ed text (Fits text a) (chain (held ed text a)) (a .end) i l l₁ c d p e
 
-      name-goes : (a .end ≤ p .end) × (nextToken text (p .end) ≡ Found (p .next))
-      name-goes = reads-goes f text (Fits text a) (chain (held text a)) (a .end) i l l₁ c d p e
+      name-goes : (a .end ≤ p .end) × (nextToken ed text (p .end) ≡ Found (p .next))
+      name-goes = reads-goes f ed text (Fits text a) (chain (held ed text a)) (a .end) i l l₁ c d p e
 
-      abbrev here : Next text (p .end) (p .next)
-      here = next-found text (p .end) (p .next) (name-goes .1)
+      abbrev here : Next ed text (p .end) (p .next)
+      here = next-found ed text (p .end) (p .next) (name-goes .1)
 
       -- behind the name x
       abbrev plain : Tree → Ans Tree
-      plain x = then (fields (readType n) (fieldAt n) (held text (p .next))) (λ fs v. ok (node RecStruct (a .start) (v .at) (more x fs)) v)
+      plain x = then (fields (readType n) (fieldAt n) (held ed text (p .next))) (λ fs v. ok (node RecStruct (a .start) (v .at) (more x fs)) v)
 
       abbrev typed : Tree → Ans Tree
-      typed x = then (listBehind (readType n) Greater (held text (p .next))) (λ xs v. look (lex v) (λ t. then (fields (readType n) (fieldAt n) t) (λ fs w. ok (node RecStructTyped (a .start) (w .at) (more x (joined xs fs))) w)))
+      typed x = then (listBehind (readType n) Greater (held ed text (p .next))) (λ xs v. look (lex v) (λ t. then (fields (readType n) (fieldAt n) t) (λ fs w. ok (node RecStructTyped (a .start) (w .at) (more x (joined xs fs))) w)))
 
       is-named : (z : Fits text a) → struct ≡ when (eqb (p .next .kind) Less) (λ _. typed (name-had z .what)) (λ _. plain (name-had z .what))
       unfolding unpacked structOver
       is-named z =
           let w = name-had z in
-          then-ok (chain (held text a)) (λ x u. structOver (readType n) (fieldAt n) (held text a) x u) (w .what) (opened text (p .end)) (w .is) ∙ look-at text (p .end) (p .next) _ (name-goes .1)
+          then-ok (chain (held ed text a)) (λ x u. structOver (readType n) (fieldAt n) (held ed text a) x u) (w .what) (opened ed text (p .end)) (w .is) ∙ look-at ed text (p .end) (p .next) _ (name-goes .1)
 
       -- no types
       unpack-plain : length l ≤ last → i ≡ inside f s → (p .next .kind ≡ Less → ⊥) → (q r : Parsed) (m₂ m : List ℕ)
-          → ReadsBy (braced f) text (Fits text (p .next)) (fields (readType n) (fieldAt n) (held text (p .next))) (p .next .end) (p .to) l₁ q m₂ → (r ≡ q) × (m ≡ headedBy f RecStruct (a .start) s q m₂) → Unpack r m
+          → ReadsBy (braced f) ed text (Fits text (p .next)) (fields (readType n) (fieldAt n) (held ed text (p .next))) (p .next .end) (p .to) l₁ q m₂ → (r ≡ q) × (m ≡ headedBy f RecStruct (a .start) s q m₂) → Unpack r m
       unpack-plain h j k q r m₂ m g w =
-          let y = fields (readType n) (fieldAt n) (held text (p .next)) in
+          let y = fields (readType n) (fieldAt n) (held ed text (p .next)) in
           subst (λ (x : Parsed). Unpack x m) (sym (w .0))
           (record {
             meets = λ z.
                 (let v = name-had z in
-                closed-by (λ fs. laid f (v .what) ++ braced f fs) f text struct y (λ fs x. node RecStruct (a .start) x (more (v .what) fs)) RecStruct (a .start) s l m₂ m q h
+                closed-by (λ fs. laid f (v .what) ++ braced f fs) f ed text struct y (λ fs x. node RecStruct (a .start) x (more (v .what) fs)) RecStruct (a .start) s l m₂ m q h
                 (is-named z ∙ when-false (eqb (p .next .kind) Less) _ _ (ne-eqb (p .next .kind) Less k))
                 (λ fs u x _. laid-struct f (a .start) x (v .what) fs)
-                (front (braced f) text y (laid f (v .what)) (inside f s) (p .to) l l₁ m₂ q h (subst (λ (x : Spot). Placed l x (laid f (v .what)) (p .to) l₁) j (v .bytes)) (g .meets (here .fits))) (w .1));
-            goes = goes-from text (p .next .end) q (g .goes) (a .end) (omega (arith, name-goes .0, here .from, here .fits .1));
+                (front (braced f) ed text y (laid f (v .what)) (inside f s) (p .to) l l₁ m₂ q h (subst (λ (x : Spot). Placed l x (laid f (v .what)) (p .to) l₁) j (v .bytes)) (g .meets (here .fits))) (w .1));
+            goes = goes-from ed text (p .next .end) q (g .goes) (a .end) (omega (arith, name-goes .0, here .from, here .fits .1));
           })
 
       -- types in `<` and `>`
       module _ (k : p .next .kind ≡ Less) (t : Parsed) (l₂ : List ℕ)
-          (g : ReadsBy (angled f) text (Fits text (p .next)) (listBehind (readType n) Greater (held text (p .next))) (p .next .end) (p .to) l₁ t l₂) where
+          (g : ReadsBy (angled f) ed text (Fits text (p .next)) (listBehind (readType n) Greater (held ed text (p .next))) (p .next .end) (p .to) l₁ t l₂) where
         abbrev types : Ans Trees
-        types = listBehind (readType n) Greater (held text (p .next))
+        types = listBehind (readType n) Greater (held ed text (p .next))
 
         is-typed : (z : Fits text a) → struct ≡ typed (name-had z .what)
         is-typed z = is-named z ∙ when-true (eqb (p .next .kind) Less) _ _ (eq-eqb (p .next .kind) Less k)
 
         unpack-untyped : (r : Refusal) → t ≡ Refused r → Unpack (Refused r) l₂
         unpack-untyped r x =
-            reads-no f text (Fits text a) struct (a .end) s l l₂ r (λ z. is-typed z ∙ refuses-look types r _ (had-not (angled f) text types (p .to) l₁ t l₂ (g .meets (here .fits)) r x))
+            reads-no f ed text (Fits text a) struct (a .end) s l l₂ r (λ z. is-typed z ∙ refuses-look types r _ (had-not (angled f) ed text types (p .to) l₁ t l₂ (g .meets (here .fits)) r x))
 
         module _ (q : Part) (x : t ≡ Read q) where
-          types-had : HadBy (angled f) text types (p .to) l₁ q l₂
-          types-had = had-by (angled f) text types (p .to) l₁ t l₂ (g .meets (here .fits)) q x
+          types-had : HadBy (angled f) ed text types (p .to) l₁ q l₂
+          types-had = had-by (angled f) ed text types (p .to) l₁ t l₂ (g .meets (here .fits)) q x
 
-          types-goes : (p .next .end ≤ q .end) × (nextToken text (q .end) ≡ Found (q .next))
-          types-goes = goes-by text (p .next .end) t (g .goes) q x
+          types-goes : (p .next .end ≤ q .end) × (nextToken ed text (q .end) ≡ Found (q .next))
+          types-goes = goes-by ed text (p .next .end) t (g .goes) q x
 
-          abbrev there : Next text (q .end) (q .next)
-          there = next-found text (q .end) (q .next) (types-goes .1)
+          abbrev there : Next ed text (q .end) (q .next)
+          there = next-found ed text (q .end) (q .next) (types-goes .1)
 
           abbrev rest : Ans Trees
-          rest = fields (readType n) (fieldAt n) (held text (q .next))
+          rest = fields (readType n) (fieldAt n) (held ed text (q .next))
 
           is-both : (z : Fits text a) → struct ≡ then rest (λ fs w. ok (node RecStructTyped (a .start) (w .at) (more (name-had z .what) (joined (types-had .what) fs))) w)
-          is-both z = is-typed z ∙ then-ok types _ (types-had .what) (opened text (q .end)) (types-had .is) ∙ look-at text (q .end) (q .next) _ (types-goes .1)
+          is-both z = is-typed z ∙ then-ok types _ (types-had .what) (opened ed text (q .end)) (types-had .is) ∙ look-at ed text (q .end) (q .next) _ (types-goes .1)
 
           -- the name and the types, laid down
           both-laid : length l ≤ last → i ≡ inside f s → (z : Fits text a) → Placed l (inside f s) (laid f (name-had z .what) ++ angled f (types-had .what)) (q .to) l₂
@@ -186,10 +186,10 @@ module _ (f : ℕ) (text : List ℕ) (n : ℕ) where
           struct-laid : (y : Tree) (fs : Trees) (u : Source) (e : ℕ) → rest ≡ ok fs u
               → laid f (node RecStructTyped (a .start) e (more y (joined (types-had .what) fs))) ≡ headed f RecStructTyped (a .start) e ((laid f y ++ angled f (types-had .what)) ++ braced f fs)
           struct-laid y fs u e o =
-              laid-struct-typed f (a .start) e y (types-had .what) fs (types-behind n Greater (held text (p .next)) (types-had .what) (opened text (q .end)) (types-had .is)) (fields-every (readType n) n _ (held text (q .next)) fs u o)
+              laid-struct-typed f (a .start) e y (types-had .what) fs (types-behind n Greater (held ed text (p .next)) (types-had .what) (opened ed text (q .end)) (types-had .is)) (fields-every (readType n) n _ (held ed text (q .next)) fs u o)
               ∙ ap (headed f RecStructTyped (a .start) e) (joins (laid f y) (markIn f (bytes "<")) (laidItems f (types-had .what)) (markIn f (bytes ">")) (braced f fs))
 
-          unpack-typed : length l ≤ last → i ≡ inside f s → (v r : Parsed) (m₂ m : List ℕ) → ReadsBy (braced f) text (Fits text (q .next)) rest (q .next .end) (q .to) l₂ v m₂
+          unpack-typed : length l ≤ last → i ≡ inside f s → (v r : Parsed) (m₂ m : List ℕ) → ReadsBy (braced f) ed text (Fits text (q .next)) rest (q .next .end) (q .to) l₂ v m₂
               → (r ≡ v) × (m ≡ headedBy f RecStructTyped (a .start) s v m₂) → Unpack r m
           unpack-typed h j v r m₂ m o w =
               subst (λ (x : Parsed). Unpack x m) (sym (w .0))
@@ -197,14 +197,14 @@ module _ (f : ℕ) (text : List ℕ) (n : ℕ) where
                 meets = λ z.
                     (let y = name-had z .what in
                     let before = laid f y ++ angled f (types-had .what) in
-                    closed-by (λ fs. before ++ braced f fs) f text struct rest (λ fs e. node RecStructTyped (a .start) e (more y (joined (types-had .what) fs))) RecStructTyped (a .start) s l m₂ m v h (is-both z)
+                    closed-by (λ fs. before ++ braced f fs) f ed text struct rest (λ fs e. node RecStructTyped (a .start) e (more y (joined (types-had .what) fs))) RecStructTyped (a .start) s l m₂ m v h (is-both z)
                     (λ fs u e x. struct-laid y fs u e x)
-                    (front (braced f) text rest before (inside f s) (q .to) l l₂ m₂ v h (both-laid h j z) (o .meets (there .fits))) (w .1));
-                goes = goes-from text (q .next .end) v (o .goes) (a .end) (omega (arith, name-goes .0, here .from, here .fits .1, types-goes .0, there .from, there .fits .1));
+                    (front (braced f) ed text rest before (inside f s) (q .to) l l₂ m₂ v h (both-laid h j z) (o .meets (there .fits))) (w .1));
+                goes = goes-from ed text (q .next .end) v (o .goes) (a .end) (omega (arith, name-goes .0, here .from, here .fits .1, types-goes .0, there .from, there .fits .1));
               })
 
       -- types or none
-      module _ (t : Parsed) (l₂ : List ℕ) (g : TypesBehind f text n p l₁ t l₂) where
+      module _ (t : Parsed) (l₂ : List ℕ) (g : TypesBehind f ed text n p l₁ t l₂) where
         pub unpack-bad : (r : Refusal) → t ≡ Refused r → Unpack (Refused r) l₂
         unpack-bad r x = go (eqb (p .next .kind) Less) refl
           where
@@ -216,7 +216,7 @@ module _ (f : ℕ) (text : List ℕ) (n : ℕ) where
                 absurd (omega arith)
 
         abbrev Fielded : Part → List ℕ → Parsed → List ℕ → Type 0
-        Fielded q k v m₂ = ReadsBy (braced f) text (Fits text (q .next)) (fields (readType n) (fieldAt n) (held text (q .next))) (q .next .end) (q .to) k v m₂
+        Fielded q k v m₂ = ReadsBy (braced f) ed text (Fits text (q .next)) (fields (readType n) (fieldAt n) (held ed text (q .next))) (q .next .end) (q .to) k v m₂
 
         pub unpack-fields : length l ≤ last → i ≡ inside f s → (k : ℕ) → k ≡ cond (eqb (p .next .kind) Less) RecStructTyped RecStruct → (q : Part) → t ≡ Read q → (v r : Parsed) (m₂ m : List ℕ) → Fielded q l₂ v m₂
             → (r ≡ v) × (m ≡ headedBy f k (a .start) s v m₂) → Unpack r m

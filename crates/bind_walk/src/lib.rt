@@ -138,7 +138,7 @@ fn put_field_name(w: Way, text: &[u8], a: Token, out: &mut [u8], s: Spot) -> Spo
 
 // The types of a struct, between the `<` o and `>`.
 fn types_at(w: Way, text: &[u8], o: Token, out: &mut [u8], s: Spot) -> Parsed
-    ensures { λ r. ⌜ ReadsBy (angled (w .form)) (now (text .entry)) (Fits (now (text .entry)) o) (listBehind (readType (w .left)) Greater (held (now (text .entry)) o)) (o .end) s (now (out .entry)) r (now (out .exit)) ⌝ }
+    ensures { λ r. ⌜ ReadsBy (angled (w .form)) (w .edition) (now (text .entry)) (Fits (now (text .entry)) o) (listBehind (readType (w .left)) Greater (held (w .edition) (now (text .entry)) o)) (o .end) s (now (out .entry)) r (now (out .exit)) ⌝ }
 {
     let p = forms::put_mark(w.form, b'<', out, s);
     let l = type_walk::parse_type_args(w, text, o, out, p);
@@ -147,7 +147,7 @@ fn types_at(w: Way, text: &[u8], o: Token, out: &mut [u8], s: Spot) -> Parsed
 
 // The types of a struct behind its name, which is p: in `<` and `>`, or none.
 fn types_behind(w: Way, text: &[u8], p: Part, out: &mut [u8]) -> Parsed
-    ensures { λ r. ⌜ TypesBehind (w .form) (now (text .entry)) (w .left) p (now (out .entry)) r (now (out .exit)) ⌝ }
+    ensures { λ r. ⌜ TypesBehind (w .form) (w .edition) (now (text .entry)) (w .left) p (now (out .entry)) r (now (out .exit)) ⌝ }
 {
     if p.next.kind != LESS {
         return Parsed::Read(p);
@@ -157,7 +157,7 @@ fn types_behind(w: Way, text: &[u8], p: Part, out: &mut [u8]) -> Parsed
 
 // The name of the struct that starts at s, whose first token is a, and n the one behind it.
 fn name_inside(w: Way, text: &[u8], a: Token, n: Token, out: &mut [u8], s: Spot) -> Parsed
-    ensures { λ r. ⌜ ReadsBehind (w .form) (now (text .entry)) a n (chain (held (now (text .entry)) a)) (inside (w .form) s) (now (out .entry)) r (now (out .exit)) ⌝ }
+    ensures { λ r. ⌜ ReadsBehind (w .form) (w .edition) (now (text .entry)) a n (chain (held (w .edition) (now (text .entry)) a)) (inside (w .form) s) (now (out .entry)) r (now (out .exit)) ⌝ }
 {
     let i = forms::step_inside(w.form, s);
     chains::name_behind(w, text, a, n, out, i)
@@ -165,19 +165,20 @@ fn name_inside(w: Way, text: &[u8], a: Token, n: Token, out: &mut [u8], s: Spot)
 
 // The binding whose first token is a; the levels that are left count its own.
 fn parse_bind(w: Way, text: &[u8], a: Token, out: &mut [u8], s: Spot) -> Parsed
-    ensures { λ r. ⌜ Reads (w .form) (now (text .entry)) (Fits (now (text .entry)) a) (readBind (w .left) (held (now (text .entry)) a)) (a .end) s (now (out .entry)) r (now (out .exit)) ⌝ }
+    ensures { λ r. ⌜ Reads (w .form) (w .edition) (now (text .entry)) (Fits (now (text .entry)) a) (readBind (w .left) (held (w .edition) (now (text .entry)) a)) (a .end) s (now (out .entry)) r (now (out .exit)) ⌝ }
 {
     if w.left == 0 {
         return parts::too_deep(a);
     }
     let deeper = Way {
         form: w.form,
+        edition: w.edition,
         left: w.left - 1,
     };
     if !chains::is_first(a.kind) {
         return parts::unexpected(a);
     }
-    let l = tokens::next_token(text, a.end);
+    let l = tokens::next_token(w.edition, text, a.end);
     match l {
         Lexed::Refused(r) => Parsed::Refused(r),
         Lexed::Found(n) => {
@@ -197,7 +198,7 @@ fn parse_bind(w: Way, text: &[u8], a: Token, out: &mut [u8], s: Spot) -> Parsed
 // The struct that the name at a begins, with its types, if any, and its fields; n is the token behind a. The
 // levels that are left count those of a type and of a field.
 fn unpack_at(w: Way, text: &[u8], a: Token, n: Token, out: &mut [u8], s: Spot) -> Parsed
-    ensures { λ r. ⌜ (nextToken (now (text .entry)) (a .end) ≡ Found n → begins a ≡ true → Reads (w .form) (now (text .entry)) (Fits (now (text .entry)) a) (unpacked (readType (w .left)) (fieldAt (w .left)) (held (now (text .entry)) a)) (a .end) s (now (out .entry)) r (now (out .exit))) ⌝ }
+    ensures { λ r. ⌜ (nextToken (w .edition) (now (text .entry)) (a .end) ≡ Found n → begins a ≡ true → Reads (w .form) (w .edition) (now (text .entry)) (Fits (now (text .entry)) a) (unpacked (readType (w .left)) (fieldAt (w .left)) (held (w .edition) (now (text .entry)) a)) (a .end) s (now (out .entry)) r (now (out .exit))) ⌝ }
 {
     let c = name_inside(w, text, a, n, out, s);
     match c {
@@ -218,7 +219,7 @@ fn unpack_at(w: Way, text: &[u8], a: Token, n: Token, out: &mut [u8], s: Spot) -
 
 // The fields in the braces that b opens.
 fn fields_at(w: Way, text: &[u8], b: Token, out: &mut [u8], s: Spot) -> Parsed
-    ensures { λ r. ⌜ ReadsBy (braced (w .form)) (now (text .entry)) (Fits (now (text .entry)) b) (fields (readType (w .left)) (fieldAt (w .left)) (held (now (text .entry)) b)) (b .end) s (now (out .entry)) r (now (out .exit)) ⌝ }
+    ensures { λ r. ⌜ ReadsBy (braced (w .form)) (w .edition) (now (text .entry)) (Fits (now (text .entry)) b) (fields (readType (w .left)) (fieldAt (w .left)) (held (w .edition) (now (text .entry)) b)) (b .end) s (now (out .entry)) r (now (out .exit)) ⌝ }
 {
     if b.kind != L_BRACE {
         return parts::unexpected(b);
@@ -230,7 +231,7 @@ fn fields_at(w: Way, text: &[u8], b: Token, out: &mut [u8], s: Spot) -> Parsed
 
 // The list of fields that o opens, its items one behind the other (parse_comma_list of the Rust).
 fn field_list(w: Way, text: &[u8], o: Token, out: &mut [u8], s: Spot) -> Listed
-    ensures { λ r. ⌜ ReadsAll (w .form) (now (text .entry)) (Fits (now (text .entry)) o) (listBehind (fieldAt (w .left)) RBrace (held (now (text .entry)) o)) (o .end) s (now (out .entry)) r (now (out .exit)) ⌝ }
+    ensures { λ r. ⌜ ReadsAll (w .form) (w .edition) (now (text .entry)) (Fits (now (text .entry)) o) (listBehind (fieldAt (w .left)) RBrace (held (w .edition) (now (text .entry)) o)) (o .end) s (now (out .entry)) r (now (out .exit)) ⌝ }
 {
     let mut i = o.end;
     let mut to = forms::move_by(s, 0);
@@ -242,10 +243,10 @@ fn field_list(w: Way, text: &[u8], o: Token, out: &mut [u8], s: Spot) -> Listed
                 return Listed::Refused(r);
             }
             Step::Closes(q) => {
-                return lists::close_list(text, q, count, to);
+                return lists::close_list(w.edition, text, q, count, to);
             }
             Step::Last(e, q) => {
-                return lists::close_list(text, q, lists::count_more(count), e);
+                return lists::close_list(w.edition, text, q, lists::count_more(count), e);
             }
             Step::Goes(e, q) => {
                 to = e;
@@ -266,9 +267,9 @@ fn field_step(
     out: &mut [u8],
     s: Spot,
 ) -> Step
-    ensures { λ r. ⌜ Steps (w .form) (now (text .entry)) (fieldAt (w .left)) RBrace o first s (now (out .entry)) (nextItem RBrace (nextToken (now (text .entry)) at)) r (now (out .exit)) ⌝ }
+    ensures { λ r. ⌜ Steps (w .form) (w .edition) (now (text .entry)) (fieldAt (w .left)) RBrace o first s (now (out .entry)) (nextItem RBrace (nextToken (w .edition) (now (text .entry)) at)) r (now (out .exit)) ⌝ }
 {
-    let b = lists::next_item(R_BRACE, text, at);
+    let b = lists::next_item(w.edition, R_BRACE, text, at);
     match b {
         Turn::Refused(r) => Step::Refused(r),
         Turn::Closes(q) => Step::Closes(q),
@@ -282,7 +283,7 @@ fn field_step(
 
 // The field whose first token is a. Its level is tested before its name is read, and its binding adds none.
 fn parse_bind_field(w: Way, text: &[u8], a: Token, out: &mut [u8], s: Spot) -> Parsed
-    ensures { λ r. ⌜ Reads (w .form) (now (text .entry)) (Fits (now (text .entry)) a) (fieldAt (w .left) (held (now (text .entry)) a)) (a .end) s (now (out .entry)) r (now (out .exit)) ⌝ }
+    ensures { λ r. ⌜ Reads (w .form) (w .edition) (now (text .entry)) (Fits (now (text .entry)) a) (fieldAt (w .left) (held (w .edition) (now (text .entry)) a)) (a .end) s (now (out .entry)) r (now (out .exit)) ⌝ }
 {
     if w.left == 0 { // also where the field binds its own name
         return parts::too_deep(a);
@@ -290,7 +291,7 @@ fn parse_bind_field(w: Way, text: &[u8], a: Token, out: &mut [u8], s: Spot) -> P
     if a.kind != IDENTIFIER {
         return parts::unexpected(a);
     }
-    let l = tokens::next_token(text, a.end);
+    let l = tokens::next_token(w.edition, text, a.end);
     match l {
         Lexed::Refused(r) => Parsed::Refused(r),
         Lexed::Found(n) => {
@@ -304,7 +305,7 @@ fn parse_bind_field(w: Way, text: &[u8], a: Token, out: &mut [u8], s: Spot) -> P
 // What the field named a binds, n being the token behind its name: behind `:` a binding, else a variable of
 // the same name.
 fn field_bind(w: Way, text: &[u8], a: Token, n: Token, out: &mut [u8], s: Spot) -> Parsed
-    ensures { λ r. ⌜ (nextToken (now (text .entry)) (a .end) ≡ Found n → Reads (w .form) (now (text .entry)) (Fits (now (text .entry)) a) (boundBy (w .left) (held (now (text .entry)) a) (held (now (text .entry)) n)) (a .end) s (now (out .entry)) r (now (out .exit))) ⌝ }
+    ensures { λ r. ⌜ (nextToken (w .edition) (now (text .entry)) (a .end) ≡ Found n → Reads (w .form) (w .edition) (now (text .entry)) (Fits (now (text .entry)) a) (boundBy (w .left) (held (w .edition) (now (text .entry)) a) (held (w .edition) (now (text .entry)) n)) (a .end) s (now (out .entry)) r (now (out .exit))) ⌝ }
 {
     if n.kind != COLON {
         let to = forms::put_leaf(w.form, REC_VARIABLE, text, a, out, s);
@@ -314,7 +315,7 @@ fn field_bind(w: Way, text: &[u8], a: Token, n: Token, out: &mut [u8], s: Spot) 
             next: n,
         });
     }
-    let l = tokens::next_token(text, n.end);
+    let l = tokens::next_token(w.edition, text, n.end);
     match l {
         Lexed::Refused(r) => Parsed::Refused(r),
         Lexed::Found(b) => parse_bind(w, text, b, out, s),
@@ -324,7 +325,7 @@ fn field_bind(w: Way, text: &[u8], a: Token, n: Token, out: &mut [u8], s: Spot) 
 // The list of bindings that o opens and a token of the kind `close` ends, its items one behind the other
 // (parse_comma_list of the Rust).
 fn bind_list(w: Way, close: u8, text: &[u8], o: Token, out: &mut [u8], s: Spot) -> Listed
-    ensures { λ r. ⌜ ReadsAll (w .form) (now (text .entry)) (Fits (now (text .entry)) o) (listBehind (readBind (w .left)) close (held (now (text .entry)) o)) (o .end) s (now (out .entry)) r (now (out .exit)) ⌝ }
+    ensures { λ r. ⌜ ReadsAll (w .form) (w .edition) (now (text .entry)) (Fits (now (text .entry)) o) (listBehind (readBind (w .left)) close (held (w .edition) (now (text .entry)) o)) (o .end) s (now (out .entry)) r (now (out .exit)) ⌝ }
 {
     let mut i = o.end;
     let mut to = forms::move_by(s, 0);
@@ -336,10 +337,10 @@ fn bind_list(w: Way, close: u8, text: &[u8], o: Token, out: &mut [u8], s: Spot) 
                 return Listed::Refused(r);
             }
             Step::Closes(q) => {
-                return lists::close_list(text, q, count, to);
+                return lists::close_list(w.edition, text, q, count, to);
             }
             Step::Last(e, q) => {
-                return lists::close_list(text, q, lists::count_more(count), e);
+                return lists::close_list(w.edition, text, q, lists::count_more(count), e);
             }
             Step::Goes(e, q) => {
                 to = e;
@@ -361,9 +362,9 @@ fn bind_step(
     out: &mut [u8],
     s: Spot,
 ) -> Step
-    ensures { λ r. ⌜ Steps (w .form) (now (text .entry)) (readBind (w .left)) close o first s (now (out .entry)) (nextItem close (nextToken (now (text .entry)) at)) r (now (out .exit)) ⌝ }
+    ensures { λ r. ⌜ Steps (w .form) (w .edition) (now (text .entry)) (readBind (w .left)) close o first s (now (out .entry)) (nextItem close (nextToken (w .edition) (now (text .entry)) at)) r (now (out .exit)) ⌝ }
 {
-    let b = lists::next_item(close, text, at);
+    let b = lists::next_item(w.edition, close, text, at);
     match b {
         Turn::Refused(r) => Step::Refused(r),
         Turn::Closes(q) => Step::Closes(q),
@@ -377,10 +378,11 @@ fn bind_step(
 
 // The bindings in brackets, or the one binding, whose first token is a. The levels begin here.
 pub fn parse_bind_list(w: Way, text: &[u8], a: Token, out: &mut [u8], s: Spot) -> Parsed
-    ensures { λ r. ⌜ Reads (w .form) (now (text .entry)) (Fits (now (text .entry)) a) (readBindList (held (now (text .entry)) a)) (a .end) s (now (out .entry)) r (now (out .exit)) ⌝ }
+    ensures { λ r. ⌜ Reads (w .form) (w .edition) (now (text .entry)) (Fits (now (text .entry)) a) (readBindList (held (w .edition) (now (text .entry)) a)) (a .end) s (now (out .entry)) r (now (out .exit)) ⌝ }
 {
     let outermost = Way {
         form: w.form,
+        edition: w.edition,
         left: LEVELS,
     };
     let i = forms::step_inside(w.form, s);
@@ -397,13 +399,14 @@ pub fn parse_bind_list(w: Way, text: &[u8], a: Token, out: &mut [u8], s: Spot) -
 
 // The bindings of a lambda, between the `|` a and the next. The levels begin here.
 pub fn parse_lambda_bind_list(w: Way, text: &[u8], a: Token, out: &mut [u8], s: Spot) -> Parsed
-    ensures { λ r. ⌜ Reads (w .form) (now (text .entry)) (Fits (now (text .entry)) a) (readLambdaList (held (now (text .entry)) a)) (a .end) s (now (out .entry)) r (now (out .exit)) ⌝ }
+    ensures { λ r. ⌜ Reads (w .form) (w .edition) (now (text .entry)) (Fits (now (text .entry)) a) (readLambdaList (held (w .edition) (now (text .entry)) a)) (a .end) s (now (out .entry)) r (now (out .exit)) ⌝ }
 {
     if a.kind != PIPE {
         return parts::unexpected(a);
     }
     let outermost = Way {
         form: w.form,
+        edition: w.edition,
         left: LEVELS,
     };
     let i = forms::step_inside(w.form, s);

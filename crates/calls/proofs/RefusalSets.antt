@@ -1,4 +1,4 @@
--- A read is refused with 1 to 14, a display with these and 18.
+-- A read is refused with 1 to 14 or 19, a display with these and 18.
 use mathlib.Core.Path.{_≡_, refl, subst}
 use mathlib.Core.Bool.{true}
 use mathlib.Core.List.{List}
@@ -38,13 +38,13 @@ unspoiled-met (item x t) h = go (spoiled x)
     go (some b) = refl
 unspoiled-met (refused r) h = h
 
-pub read-refusals : (kind : ℕ) (text : List ℕ) (at room : ℕ) (r : Refusal) → read kind text at room ≡ refused r → among itemRefusals (r .number) ≡ true
+pub read-refusals : (kind ed : ℕ) (text : List ℕ) (at room : ℕ) (r : Refusal) → read kind ed text at room ≡ refused r → among itemRefusals (r .number) ≡ true
 unfolding read subset among
-read-refusals kind text at room r e =
-    subst (Met itemRefusals) e (roomed-met itemRefusals FormStored room (readItem kind text at) refl (told-met itemRefusals refl text (readItem kind text at) (item-told kind text at)))
+read-refusals kind ed text at room r e =
+    subst (Met itemRefusals) e (roomed-met itemRefusals FormStored room (readItem kind ed text at) refl (told-met itemRefusals refl text (readItem kind ed text at) (item-told kind ed text at)))
 
-pub display-refusals : (kind : ℕ) (text : List ℕ) (at room : ℕ) (r : Refusal) → display kind text at room ≡ refused r → among displayRefusals (r .number) ≡ true
+pub display-refusals : (kind ed : ℕ) (text : List ℕ) (at room : ℕ) (r : Refusal) → display kind ed text at room ≡ refused r → among displayRefusals (r .number) ≡ true
 unfolding display subset among
-display-refusals kind text at room r e =
+display-refusals kind ed text at room r e =
     subst (Met displayRefusals) e
-    (roomed-met displayRefusals FormLine room (unspoiled (readItem kind text at)) refl (unspoiled-met (readItem kind text at) (told-met displayRefusals refl text (readItem kind text at) (item-told kind text at))))
+    (roomed-met displayRefusals FormLine room (unspoiled (readItem kind ed text at)) refl (unspoiled-met (readItem kind ed text at) (told-met displayRefusals refl text (readItem kind ed text at) (item-told kind ed text at))))

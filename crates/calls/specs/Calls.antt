@@ -1,12 +1,12 @@
--- The read call and the display call, for every text, offset, kind number and buffer, over the form in which an item is laid down. What
--- is left of a call is its form, its limit and its answer, and of a display that nothing spoils the line.
+-- The read call and the display call, for every text, offset, kind number, edition number and buffer, over the form in which an item
+-- is laid down. What is left of a call is its form, its limit and its answer, and of a display that nothing spoils the line.
 use Prim.Native.Nat.{ℕ, _+_}
 use mathlib.Core.Bool.{Bool, cond, _||_}
 use mathlib.Core.List.{List, [], _∷_, _++_}
 use mathlib.Core.Option.{Option, some, none as clean}
 use lib.Dec.{eqb, ltb}
 use lib.ListN.{length, drop}
-use Rattle.tokens.specs.Refusals.{TextTooLong, StartPastEnd, NoSuchKind, NoRoom, NoToken, CommentNotClosed, HexStringNotClosed, ByteStringNotClosed, StringNotAscii, UnexpectedToken, CommaForItem, ListNotClosed, NoValue, TooDeep, LineSpoiled}
+use Rattle.tokens.specs.Refusals.{TextTooLong, StartPastEnd, NoSuchKind, NoSuchEdition, NoRoom, NoToken, CommentNotClosed, HexStringNotClosed, ByteStringNotClosed, StringNotAscii, UnexpectedToken, CommaForItem, ListNotClosed, NoValue, TooDeep, LineSpoiled}
 use Rattle.tokens.specs.Answers.{refusal, places}
 use Rattle.sources.specs.Source.{tokenOf}
 use Rattle.answers.specs.Reading.{when}
@@ -21,7 +21,7 @@ use Rattle.calls.specs.declared.Displayed.the-variants.{Line, Refused as
 -- all that a read can meet; a display meets one more
 abbrev pub itemRefusals : List ℕ
 itemRefusals =
-    TextTooLong ∷ StartPastEnd ∷ NoSuchKind ∷ NoRoom
+    TextTooLong ∷ StartPastEnd ∷ NoSuchKind ∷ NoSuchEdition ∷ NoRoom
     ∷ NoToken ∷ CommentNotClosed ∷ HexStringNotClosed ∷ ByteStringNotClosed ∷ StringNotAscii
     ∷ UnexpectedToken ∷ CommaForItem ∷ ListNotClosed ∷ NoValue ∷ TooDeep ∷ []
 
@@ -71,11 +71,11 @@ answeredIn form (item x t) = Accepted (length (laid form x)) (tokenOf t)
 answeredIn form (refused r) = Rejected r
 
 -- the read call: the item's stored tree
-unfoldable pub read : ℕ → List ℕ → ℕ → ℕ → Item
-read kind text at room = roomed FormStored room (readItem kind text at)
+unfoldable pub read : ℕ → ℕ → List ℕ → ℕ → ℕ → Item
+read kind ed text at room = roomed FormStored room (readItem kind ed text at)
 
-unfoldable pub readBuffer : ℕ → List ℕ → ℕ → List ℕ → List ℕ
-readBuffer kind text at out = written FormStored (read kind text at (length out)) out
+unfoldable pub readBuffer : ℕ → ℕ → List ℕ → ℕ → List ℕ → List ℕ
+readBuffer kind ed text at out = written FormStored (read kind ed text at (length out)) out
 
 unfoldable pub answered : Item → Answer
 answered i = answeredIn FormStored i
@@ -89,12 +89,12 @@ unfoldable pub readValues : Answer → List ℕ
 readValues (Accepted n t) = n ∷ t .kind ∷ t .start ∷ t .end ∷ 0 ∷ 0 ∷ []
 readValues (Rejected r) = places r
 
--- the display call: the item's line. So the order is 1, 2, 3, 5 to 14, 18, 4
-unfoldable pub display : ℕ → List ℕ → ℕ → ℕ → Item
-display kind text at room = roomed FormLine room (unspoiled (readItem kind text at))
+-- the display call: the item's line. So the order is 1, 2, 3, 19, 5 to 14, 18, 4
+unfoldable pub display : ℕ → ℕ → List ℕ → ℕ → ℕ → Item
+display kind ed text at room = roomed FormLine room (unspoiled (readItem kind ed text at))
 
-unfoldable pub displayBuffer : ℕ → List ℕ → ℕ → List ℕ → List ℕ
-displayBuffer kind text at out = written FormLine (display kind text at (length out)) out
+unfoldable pub displayBuffer : ℕ → ℕ → List ℕ → ℕ → List ℕ → List ℕ
+displayBuffer kind ed text at out = written FormLine (display kind ed text at (length out)) out
 
 -- the line's length alone
 unfoldable pub displayed : Item → Displayed

@@ -21,6 +21,7 @@ use tokens::TEXT_LIMIT;
 use tokens::Token;
 use tokens::refusals::LINE_SPOILED;
 use tokens::refusals::NO_ROOM;
+use tokens::refusals::NO_SUCH_EDITION;
 use tokens::refusals::NO_SUCH_KIND;
 use tokens::refusals::START_PAST_END;
 use tokens::refusals::TEXT_TOO_LONG;
@@ -56,11 +57,20 @@ pub enum Displayed {
 
 // The item of the kind whose first token is a, laid down in the form; a number that is no kind is read as
 // the last one.
-fn parse_item(form: u8, kind: u64, text: &[u8], a: Token, out: &mut [u8], s: Spot) -> Parsed
-    ensures { λ r. ⌜ Reads form (now (text .entry)) (Fits (now (text .entry)) a) (readKind kind (held (now (text .entry)) a)) (a .end) s (now (out .entry)) r (now (out .exit)) ⌝ }
+fn parse_item(
+    form: u8,
+    kind: u64,
+    edition: u64,
+    text: &[u8],
+    a: Token,
+    out: &mut [u8],
+    s: Spot,
+) -> Parsed
+    ensures { λ r. ⌜ Reads form edition (now (text .entry)) (Fits (now (text .entry)) a) (readKind kind (held edition (now (text .entry)) a)) (a .end) s (now (out .entry)) r (now (out .exit)) ⌝ }
 {
     let w = Way {
         form: form,
+        edition: edition,
         left: LEVELS,
     };
     if kind == NAME {
@@ -134,22 +144,39 @@ fn bytes_left(text: &[u8], at: usize) -> usize
 
 // Writes an item that is accepted: the n bytes that `made` begins with, or, where it has no room for them,
 // by reading the item again.
-fn write_item(form: u8, kind: u64, text: &[u8], a: Token, made: &[u8], n: usize, out: &mut [u8])
-    ensures { λ _. ⌜ Writes form kind (now (text .entry)) a n (now (made .entry)) (now (out .entry)) (now (out .exit)) ⌝ }
+fn write_item(
+    form: u8,
+    kind: u64,
+    edition: u64,
+    text: &[u8],
+    a: Token,
+    made: &[u8],
+    n: usize,
+    out: &mut [u8],
+)
+    ensures { λ _. ⌜ Writes form kind edition (now (text .entry)) a n (now (made .entry)) (now (out .entry)) (now (out .exit)) ⌝ }
 {
     if n <= made.len() {
         buffer::copy(out, &made[..n]);
         return;
     }
-    parse_item(form, kind, text, a, out, at_start());
+    parse_item(form, kind, edition, text, a, out, at_start());
 }
 
 // Lays the item whose first token is a down in `made`, and writes it into the lent buffer where the answer is
 // accepted: a refused call writes no byte.
-fn lay_over(form: u8, kind: u64, text: &[u8], a: Token, made: &mut [u8], out: &mut [u8]) -> Answer
-    ensures { λ r. ⌜ Lays form kind (now (text .entry)) a (now (out .entry)) r (now (out .exit)) ⌝ }
+fn lay_over(
+    form: u8,
+    kind: u64,
+    edition: u64,
+    text: &[u8],
+    a: Token,
+    made: &mut [u8],
+    out: &mut [u8],
+) -> Answer
+    ensures { λ r. ⌜ Lays form kind edition (now (text .entry)) a (now (out .entry)) r (now (out .exit)) ⌝ }
 {
-    let d = parse_item(form, kind, text, a, made, at_start());
+    let d = parse_item(form, kind, edition, text, a, made, at_start());
     match d {
         Parsed::Refused(r) => Answer::Refused(r),
         Parsed::Read(p) => {
@@ -158,7 +185,7 @@ fn lay_over(form: u8, kind: u64, text: &[u8], a: Token, made: &mut [u8], out: &m
             if too_long(form, out.len(), to.pos) {
                 return refused(NO_ROOM);
             }
-            write_item(form, kind, text, a, made, to.pos, out);
+            write_item(form, kind, edition, text, a, made, to.pos, out);
             Answer::Item(to.pos, n)
         }
     }
@@ -166,25 +193,33 @@ fn lay_over(form: u8, kind: u64, text: &[u8], a: Token, made: &mut [u8], out: &m
 
 // The item whose first token is a, over a buffer of its own: most items are short enough to be read once, and
 // a short buffer is made sooner. Short texts may be deeply nested and have longer trees for their bytes.
-fn lay_item(form: u8, kind: u64, text: &[u8], a: Token, out: &mut [u8]) -> Answer
-    ensures { λ r. ⌜ Lays form kind (now (text .entry)) a (now (out .entry)) r (now (out .exit)) ⌝ }
+fn lay_item(form: u8, kind: u64, edition: u64, text: &[u8], a: Token, out: &mut [u8]) -> Answer
+    ensures { λ r. ⌜ Lays form kind edition (now (text .entry)) a (now (out .entry)) r (now (out .exit)) ⌝ }
 {
     let left = bytes_left(text, a.start);
     if left <= 64 {
         let mut made = [0u8; 512];
-        return lay_over(form, kind, text, a, &mut made, out);
+        return lay_over(form, kind, edition, text, a, &mut made, out);
     }
     if left <= 1536 {
         let mut made = [0u8; 2048];
-        return lay_over(form, kind, text, a, &mut made, out);
+        return lay_over(form, kind, edition, text, a, &mut made, out);
     }
     let mut made = [0u8; 1024];
-    lay_over(form, kind, text, a, &mut made, out)
+    lay_over(form, kind, edition, text, a, &mut made, out)
 }
 
 // A call in a form, with the token that was found at the offset.
-fn call(form: u8, kind: u64, text: &[u8], at: usize, first: Lexed, out: &mut [u8]) -> Answer
-    ensures { λ r. ⌜ Calls form kind (now (text .entry)) at first (now (out .entry)) r (now (out .exit)) ⌝ }
+fn call(
+    form: u8,
+    kind: u64,
+    edition: u64,
+    text: &[u8],
+    at: usize,
+    first: Lexed,
+    out: &mut [u8],
+) -> Answer
+    ensures { λ r. ⌜ Calls form kind edition (now (text .entry)) at first (now (out .entry)) r (now (out .exit)) ⌝ }
 {
     if TEXT_LIMIT < text.len() {
         return refused(TEXT_TOO_LONG);
@@ -195,19 +230,22 @@ fn call(form: u8, kind: u64, text: &[u8], at: usize, first: Lexed, out: &mut [u8
     if no_kind(kind) {
         return refused(NO_SUCH_KIND);
     }
+    if tokens::no_edition(edition) {
+        return refused(NO_SUCH_EDITION);
+    }
     match first {
         Lexed::Refused(r) => Answer::Refused(r),
-        Lexed::Found(a) => lay_item(form, kind, text, a, out),
+        Lexed::Found(a) => lay_item(form, kind, edition, text, a, out),
     }
 }
 
 // The read call.
-pub fn read(kind: u64, text: &[u8], at: usize, out: &mut [u8]) -> Answer
-    ensures answer { λ r. ⌜ r ≡ answered (Rattle.calls.specs.Calls.read kind (now (text .entry)) at (length (now (out .entry)))) ⌝ }
-    ensures buffer { λ r. ⌜ now (out .exit) ≡ readBuffer kind (now (text .entry)) at (now (out .entry)) ⌝ }
+pub fn read(kind: u64, edition: u64, text: &[u8], at: usize, out: &mut [u8]) -> Answer
+    ensures answer { λ r. ⌜ r ≡ answered (Rattle.calls.specs.Calls.read kind edition (now (text .entry)) at (length (now (out .entry)))) ⌝ }
+    ensures buffer { λ r. ⌜ now (out .exit) ≡ readBuffer kind edition (now (text .entry)) at (now (out .entry)) ⌝ }
 {
-    let first = tokens::next_token(text, at);
-    call(FORM_STORED, kind, text, at, first, out)
+    let first = tokens::next_token(edition, text, at);
+    call(FORM_STORED, kind, edition, text, at, first, out)
 }
 
 // Where the bytes of the token that a line can hold end.
@@ -259,11 +297,18 @@ fn replaced(q: Refusal, r: Refusal) -> Displayed
 }
 
 // The display of an item that has no line: refused with q where it is read. It is read without room.
-fn spoiled_from(kind: u64, text: &[u8], at: usize, first: Lexed, q: Refusal) -> Displayed
-    ensures { λ d. ⌜ SpoiledFrom kind (now (text .entry)) at first q d ⌝ }
+fn spoiled_from(
+    kind: u64,
+    edition: u64,
+    text: &[u8],
+    at: usize,
+    first: Lexed,
+    q: Refusal,
+) -> Displayed
+    ensures { λ d. ⌜ SpoiledFrom kind edition (now (text .entry)) at first q d ⌝ }
 {
     let mut none = [0u8; 1];
-    let d = call(FORM_LINE, kind, text, at, first, &mut none);
+    let d = call(FORM_LINE, kind, edition, text, at, first, &mut none);
     match d {
         Answer::Refused(r) => replaced(q, r),
         Answer::Item(_, _) => Displayed::Refused(q),
@@ -271,20 +316,28 @@ fn spoiled_from(kind: u64, text: &[u8], at: usize, first: Lexed, q: Refusal) -> 
 }
 
 // The display call on a slice and an offset, with the token that the reader found there.
-fn display_from(kind: u64, text: &[u8], at: usize, first: Lexed, line: &mut [u8]) -> Displayed
-    ensures { λ r. ⌜ Displays kind (now (text .entry)) at first (now (line .entry)) r (now (line .exit)) ⌝ }
+fn display_from(
+    kind: u64,
+    edition: u64,
+    text: &[u8],
+    at: usize,
+    first: Lexed,
+    line: &mut [u8],
+) -> Displayed
+    ensures { λ r. ⌜ Displays kind edition (now (text .entry)) at first (now (line .entry)) r (now (line .exit)) ⌝ }
 {
     let b = spoiled_at(kind, text, first);
     if b < text.len() {
         return spoiled_from(
             kind,
+            edition,
             text,
             at,
             first,
             tokens::refuse(LINE_SPOILED, b, b + 1),
         );
     }
-    let d = call(FORM_LINE, kind, text, at, first, line);
+    let d = call(FORM_LINE, kind, edition, text, at, first, line);
     match d {
         Answer::Refused(r) => Displayed::Refused(r),
         Answer::Item(n, _) => Displayed::Line(n),
@@ -312,24 +365,24 @@ pub fn moved<'a>(r: Reader<'a>, at: usize) -> Reader<'a>
 }
 
 // The next token where the reader stands: the token call on slice and offset.
-pub fn next<'a>(r: Reader<'a>) -> Lexed
-    ensures { λ l. ⌜ l ≡ nextToken (now (r .entry .text)) (r .entry .at) ⌝ }
+pub fn next<'a>(r: Reader<'a>, edition: u64) -> Lexed
+    ensures { λ l. ⌜ l ≡ nextToken edition (now (r .entry .text)) (r .entry .at) ⌝ }
 {
-    tokens::next_token(r.text, r.at)
+    tokens::next_token(edition, r.text, r.at)
 }
 
 // The display of the item where the reader stands, from the token that it finds there.
-pub fn show<'a>(r: Reader<'a>, kind: u64, line: &mut [u8]) -> Displayed
-    ensures answer { λ d. ⌜ d ≡ displayed (Rattle.calls.specs.Calls.display kind (now (r .entry .text)) (r .entry .at) (length (now (line .entry)))) ⌝ }
-    ensures buffer { λ d. ⌜ now (line .exit) ≡ displayBuffer kind (now (r .entry .text)) (r .entry .at) (now (line .entry)) ⌝ }
+pub fn show<'a>(r: Reader<'a>, kind: u64, edition: u64, line: &mut [u8]) -> Displayed
+    ensures answer { λ d. ⌜ d ≡ displayed (Rattle.calls.specs.Calls.display kind edition (now (r .entry .text)) (r .entry .at) (length (now (line .entry)))) ⌝ }
+    ensures buffer { λ d. ⌜ now (line .exit) ≡ displayBuffer kind edition (now (r .entry .text)) (r .entry .at) (now (line .entry)) ⌝ }
 {
-    display_from(kind, r.text, r.at, next(r), line)
+    display_from(kind, edition, r.text, r.at, next(r, edition), line)
 }
 
 // The display call, with plain parameters: who calls it needs no reader.
-pub fn display(kind: u64, text: &[u8], at: usize, line: &mut [u8]) -> Displayed
-    ensures answer { λ d. ⌜ d ≡ displayed (Rattle.calls.specs.Calls.display kind (now (text .entry)) at (length (now (line .entry)))) ⌝ }
-    ensures buffer { λ d. ⌜ now (line .exit) ≡ displayBuffer kind (now (text .entry)) at (now (line .entry)) ⌝ }
+pub fn display(kind: u64, edition: u64, text: &[u8], at: usize, line: &mut [u8]) -> Displayed
+    ensures answer { λ d. ⌜ d ≡ displayed (Rattle.calls.specs.Calls.display kind edition (now (text .entry)) at (length (now (line .entry)))) ⌝ }
+    ensures buffer { λ d. ⌜ now (line .exit) ≡ displayBuffer kind edition (now (text .entry)) at (now (line .entry)) ⌝ }
 {
-    show(open(text, at), kind, line)
+    show(open(text, at), kind, edition, line)
 }

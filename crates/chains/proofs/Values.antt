@@ -46,9 +46,9 @@ first-byte : (text : List ℕ) (a : Token) → a .start < a .end → getD (wordO
 first-byte text a h = first-taken (a .end - a .start) (drop (a .start) text) (omega arith) ∙ (rw add-zero at (getD-drop (a .start) text 0 0))
 
 -- it matters for strings only, and these have one
-value-kind : (text : List ℕ) (a : Token) (b c : ℕ) → Fits text a → b ≡ getD text (a .start) 0 → c ≡ leafKind (a .kind) b → valueKind (held text a) ≡ c
+value-kind : (ed : ℕ) (text : List ℕ) (a : Token) (b c : ℕ) → Fits text a → b ≡ getD text (a .start) 0 → c ≡ leafKind (a .kind) b → valueKind (held ed text a) ≡ c
 unfolding leafKind
-value-kind text a b c f g h = go (eqb (a .kind) ByteStringValue) refl ∙ sym (h ∙ ap (leafKind (a .kind)) g)
+value-kind ed text a b c f g h = go (eqb (a .kind) ByteStringValue) refl ∙ sym (h ∙ ap (leafKind (a .kind)) g)
   where
     go : (s : Bool) → eqb (a .kind) ByteStringValue ≡ s → leafKind (a .kind) (getD (wordOf text a) 0 0) ≡ leafKind (a .kind) (getD text (a .start) 0)
     go true e = ap (leafKind (a .kind)) (first-byte text a (omega (arith, f .1, eqb-true (a .kind) ByteStringValue e)))
@@ -95,41 +95,41 @@ address-placed f text c a b l m₁ m₂ m s i p r h g x z y d =
     placed-as l m (headed f RecAddressValue (a .start) (b .end) (markIn f (bytes "@") ++ laid f (firstAt text b))) (laid f (addressAt text a b)) s r (sym (laid-address f (a .start) (b .end) (firstAt text b)))
     (placed-headed f RecAddressValue (a .start) (b .end) l m₂ m (markIn f (bytes "@") ++ laid f (firstAt text b)) s r h (subst (λ (y : Spot). Placed l y (markIn f (bytes "@") ++ laid f (firstAt text b)) r m₂) g body) d)
 
-module _ (f : ℕ) (text : List ℕ) (s : Spot) (l m : List ℕ) (a : Token) where
+module _ (f ed : ℕ) (text : List ℕ) (s : Spot) (l m : List ℕ) (a : Token) where
   -- behind `@`
   abbrev Address : Parsed → Type 0
-  Address r = Reads f text (Fits text a) (addressValue (held text a)) (a .end) s l r m
+  Address r = Reads f ed text (Fits text a) (addressValue (held ed text a)) (a .end) s l r m
 
-  pub address-bad : (r : Refusal) → nextToken text (a .end) ≡ Bad r → Address (Refused r)
+  pub address-bad : (r : Refusal) → nextToken ed text (a .end) ≡ Bad r → Address (Refused r)
   unfolding addressValue
-  address-bad r h = reads-no f text (Fits text a) (addressValue (held text a)) (a .end) s l m r (λ z. look-refused text a z _ r h)
+  address-bad r h = reads-no f ed text (Fits text a) (addressValue (held ed text a)) (a .end) s l m r (λ z. look-refused ed text a z _ r h)
 
-  module _ (b : Token) (h : nextToken text (a .end) ≡ Found b) (c : Bool) (g : c ≡ (eqb (b .kind) Identifier || eqb (b .kind) NumValue)) where
+  module _ (b : Token) (h : nextToken ed text (a .end) ≡ Found b) (c : Bool) (g : c ≡ (eqb (b .kind) Identifier || eqb (b .kind) NumValue)) where
     pub address-other : (r : Parsed) → c ≡ false → r ≡ refusedToken UnexpectedToken b → Address r
     unfolding addressValue
     address-other r k e =
-        other f text s l m (Fits text a) (addressValue (held text a)) (a .end) b r (next-found text (a .end) b h .fits)
-        (λ z. look-found text a z _ b h ∙ when-false (eqb (b .kind) Identifier || eqb (b .kind) NumValue) _ _ (sym g ∙ k)) e
+        other f ed text s l m (Fits text a) (addressValue (held ed text a)) (a .end) b r (next-found ed text (a .end) b h .fits)
+        (λ z. look-found ed text a z _ b h ∙ when-false (eqb (b .kind) Identifier || eqb (b .kind) NumValue) _ _ (sym g ∙ k)) e
 
-    pub address-read : (to : Spot) (r : Parsed) → c ≡ true → Placed l s (laid f (addressAt text a b)) to m → r ≡ followedBy to (b .end) (nextToken text (b .end)) → Address r
+    pub address-read : (to : Spot) (r : Parsed) → c ≡ true → Placed l s (laid f (addressAt text a b)) to m → r ≡ followedBy to (b .end) (nextToken ed text (b .end)) → Address r
     unfolding addressValue
     address-read to r k w e =
-        let n = next-found text (a .end) b h in
-        reads-finished f text (Fits text a) (addressValue (held text a)) (a .end) s l m (addressAt text a b) (b .end) to r (omega (arith, n .from, n .fits .1)) (λ z. (n .fits .0, n .fits .2))
-        (λ z. look-found text a z _ b h ∙ when-true (eqb (b .kind) Identifier || eqb (b .kind) NumValue) _ _ (sym g ∙ k)
-        ∙ read-to text (node RecAddressValue (start (held text a)) (end (held text b)) (more (firstPart (held text b)) none)) (addressAt text a b) b (n .fits) (rw (held-end text b (n .fits)))) w e
+        let n = next-found ed text (a .end) b h in
+        reads-finished f ed text (Fits text a) (addressValue (held ed text a)) (a .end) s l m (addressAt text a b) (b .end) to r (omega (arith, n .from, n .fits .1)) (λ z. (n .fits .0, n .fits .2))
+        (λ z. look-found ed text a z _ b h ∙ when-true (eqb (b .kind) Identifier || eqb (b .kind) NumValue) _ _ (sym g ∙ k)
+        ∙ read-to ed text (node RecAddressValue (start (held ed text a)) (end (held ed text b)) (more (firstPart (held ed text b)) none)) (addressAt text a b) b (n .fits) (rw (held-end ed text b (n .fits)))) w e
 
   -- by the first token
   abbrev Value : Parsed → Type 0
-  Value r = Reads f text (Fits text a) (value (held text a)) (a .end) s l r m
+  Value r = Reads f ed text (Fits text a) (value (held ed text a)) (a .end) s l r m
 
   pub value-address : (r : Parsed) → a .kind ≡ AtSign → Address r → Value r
   unfolding value
-  value-address r k w = reads-as f text (Fits text a) (Fits text a) (value (held text a)) (addressValue (held text a)) (a .end) (a .end) s l m r (omega arith) (λ z. z) (λ z. when-true (eqb (a .kind) AtSign) _ _ (eq-eqb (a .kind) AtSign k)) w
+  value-address r k w = reads-as f ed text (Fits text a) (Fits text a) (value (held ed text a)) (addressValue (held ed text a)) (a .end) (a .end) s l m r (omega arith) (λ z. z) (λ z. when-true (eqb (a .kind) AtSign) _ _ (eq-eqb (a .kind) AtSign k)) w
 
   -- a refusal of the token itself
-  itself-refused : (r : Parsed) → (Fits text a → value (held text a) ≡ no (refusal NoValue (a .start) (a .end))) → r ≡ refusedToken NoValue a → Value r
-  itself-refused r h e = subst (λ (y : Parsed). Reads f text (Fits text a) (value (held text a)) (a .end) s l y m) (sym e) (reads-no f text (Fits text a) (value (held text a)) (a .end) s l m (refusal NoValue (a .start) (a .end)) h)
+  itself-refused : (r : Parsed) → (Fits text a → value (held ed text a) ≡ no (refusal NoValue (a .start) (a .end))) → r ≡ refusedToken NoValue a → Value r
+  itself-refused r h e = subst (λ (y : Parsed). Reads f ed text (Fits text a) (value (held ed text a)) (a .end) s l y m) (sym e) (reads-no f ed text (Fits text a) (value (held ed text a)) (a .end) s l m (refusal NoValue (a .start) (a .end)) h)
 
   module _ (k : (a .kind ≡ AtSign → ⊥)) (b c : ℕ) (i : b ≡ getD text (a .start) 0) (j : c ≡ leafKind (a .kind) b) where
     pub value-none : (r : Parsed) → c ≡ 0 → r ≡ refusedToken NoValue a → Value r
@@ -137,28 +137,28 @@ module _ (f : ℕ) (text : List ℕ) (s : Spot) (l m : List ℕ) (a : Token) whe
     value-none r n e =
         itself-refused r
         (λ z. when-false (eqb (a .kind) AtSign) _ _ (ne-eqb (a .kind) AtSign k)
-        ∙ when-true (eqb (valueKind (held text a)) 0) _ _ (ap (λ (x : ℕ). eqb x 0) (value-kind text a b c z i j) ∙ eq-eqb c 0 n) ∙ ap no (token-refused text NoValue a z)) e
+        ∙ when-true (eqb (valueKind (held ed text a)) 0) _ _ (ap (λ (x : ℕ). eqb x 0) (value-kind ed text a b c z i j) ∙ eq-eqb c 0 n) ∙ ap no (token-refused ed text NoValue a z)) e
 
     module _ (n : (c ≡ 0 → ⊥)) where
       -- the value that the token is by itself
-      alone : Fits text a → value (held text a) ≡ leafValue (held text a)
+      alone : Fits text a → value (held ed text a) ≡ leafValue (held ed text a)
       unfolding value
-      alone z = when-false (eqb (a .kind) AtSign) _ _ (ne-eqb (a .kind) AtSign k) ∙ when-false (eqb (valueKind (held text a)) 0) _ _ (ap (λ (x : ℕ). eqb x 0) (value-kind text a b c z i j) ∙ ne-eqb c 0 n)
+      alone z = when-false (eqb (a .kind) AtSign) _ _ (ne-eqb (a .kind) AtSign k) ∙ when-false (eqb (valueKind (held ed text a)) 0) _ _ (ap (λ (x : ℕ). eqb x 0) (value-kind ed text a b c z i j) ∙ ne-eqb c 0 n)
 
-      pub value-bad : (r : Refusal) → nextToken text (a .end) ≡ Bad r → Value (Refused r)
+      pub value-bad : (r : Refusal) → nextToken ed text (a .end) ≡ Bad r → Value (Refused r)
       unfolding leafValue
-      value-bad r h = reads-no f text (Fits text a) (value (held text a)) (a .end) s l m r (λ z. alone z ∙ look-refused text a z _ r h)
+      value-bad r h = reads-no f ed text (Fits text a) (value (held ed text a)) (a .end) s l m r (λ z. alone z ∙ look-refused ed text a z _ r h)
 
-      module _ (d : Token) (h : nextToken text (a .end) ≡ Found d) (t : Bool) (g : t ≡ (eqb (a .kind) NumValue && eqb (d .kind) ColonColon)) where
+      module _ (d : Token) (h : nextToken ed text (a .end) ≡ Found d) (t : Bool) (g : t ≡ (eqb (a .kind) NumValue && eqb (d .kind) ColonColon)) where
         pub value-colons : (r : Parsed) → t ≡ true → r ≡ refusedToken NoValue a → Value r
         unfolding leafValue
         value-colons r o e =
-            itself-refused r (λ z. alone z ∙ look-found text a z _ d h ∙ when-true (eqb (a .kind) NumValue && eqb (d .kind) ColonColon) _ _ (sym g ∙ o) ∙ ap no (token-refused text NoValue a z)) e
+            itself-refused r (λ z. alone z ∙ look-found ed text a z _ d h ∙ when-true (eqb (a .kind) NumValue && eqb (d .kind) ColonColon) _ _ (sym g ∙ o) ∙ ap no (token-refused ed text NoValue a z)) e
 
         pub value-leaf : (to : Spot) → t ≡ false → Placed l s (spelt f c (a .start) (a .end) (wordOf text a)) to m → Value (Read (record { to = to; end = a .end; next = d }))
         unfolding leafValue
         value-leaf to o w =
-            reads-read f text (Fits text a) (value (held text a)) (a .end) s l m (leafAt c text a) (a .end) d to (omega arith)
-            (λ z. alone z ∙ look-found text a z _ d h ∙ when-false (eqb (a .kind) NumValue && eqb (d .kind) ColonColon) _ _ (sym g ∙ o)
-            ∙ read-to text (leafOf (valueKind (held text a)) (held text a)) (leafAt c text a) a z (held-leaf text a z (valueKind (held text a)) ∙ ap (λ (x : ℕ). leafAt x text a) (value-kind text a b c z i j))) h
+            reads-read f ed text (Fits text a) (value (held ed text a)) (a .end) s l m (leafAt c text a) (a .end) d to (omega arith)
+            (λ z. alone z ∙ look-found ed text a z _ d h ∙ when-false (eqb (a .kind) NumValue && eqb (d .kind) ColonColon) _ _ (sym g ∙ o)
+            ∙ read-to ed text (leafOf (valueKind (held ed text a)) (held ed text a)) (leafAt c text a) a z (held-leaf ed text a z (valueKind (held ed text a)) ∙ ap (λ (x : ℕ). leafAt x text a) (value-kind ed text a b c z i j))) h
             (placed-as l m (spelt f c (a .start) (a .end) (wordOf text a)) (laid f (leafAt c text a)) s to (sym (leaf-laid f text c a (ap (λ (x : ℕ). eqb x RecUnit) j ∙ leaf-other (a .kind) b))) w)

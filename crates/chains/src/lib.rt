@@ -105,9 +105,9 @@ fn put_three(w: Way, text: &[u8], a: Token, b: Token, c: Token, out: &mut [u8], 
 
 // Behind the second `::`, which is d: the third part of a name whose parts are a and b.
 fn last_part(w: Way, text: &[u8], a: Token, b: Token, d: Token, out: &mut [u8], s: Spot) -> Parsed
-    ensures { λ r. ⌜ Reads (w .form) (now (text .entry)) (Fits (now (text .entry)) a × Fits (now (text .entry)) b × Fits (now (text .entry)) d) (lastPart (held (now (text .entry)) a) (held (now (text .entry)) b) (held (now (text .entry)) d)) (d .end) s (now (out .entry)) r (now (out .exit)) ⌝ }
+    ensures { λ r. ⌜ Reads (w .form) (w .edition) (now (text .entry)) (Fits (now (text .entry)) a × Fits (now (text .entry)) b × Fits (now (text .entry)) d) (lastPart (held (w .edition) (now (text .entry)) a) (held (w .edition) (now (text .entry)) b) (held (w .edition) (now (text .entry)) d)) (d .end) s (now (out .entry)) r (now (out .exit)) ⌝ }
 {
-    let l = tokens::next_token(text, d.end);
+    let l = tokens::next_token(w.edition, text, d.end);
     match l {
         Lexed::Refused(r) => Parsed::Refused(r),
         Lexed::Found(c) => {
@@ -115,16 +115,16 @@ fn last_part(w: Way, text: &[u8], a: Token, b: Token, d: Token, out: &mut [u8], 
                 return parts::unexpected(c);
             }
             let to = put_three(w, text, a, b, c, out, s);
-            parts::finish(text, c.end, to)
+            parts::finish(w.edition, text, c.end, to)
         }
     }
 }
 
 // Behind the second part b: a third, or the end of the name that a begins.
 fn third_part(w: Way, text: &[u8], a: Token, b: Token, out: &mut [u8], s: Spot) -> Parsed
-    ensures { λ r. ⌜ Reads (w .form) (now (text .entry)) (Fits (now (text .entry)) a × Fits (now (text .entry)) b) (thirdPart (held (now (text .entry)) a) (held (now (text .entry)) b)) (b .end) s (now (out .entry)) r (now (out .exit)) ⌝ }
+    ensures { λ r. ⌜ Reads (w .form) (w .edition) (now (text .entry)) (Fits (now (text .entry)) a × Fits (now (text .entry)) b) (thirdPart (held (w .edition) (now (text .entry)) a) (held (w .edition) (now (text .entry)) b)) (b .end) s (now (out .entry)) r (now (out .exit)) ⌝ }
 {
-    let l = tokens::next_token(text, b.end);
+    let l = tokens::next_token(w.edition, text, b.end);
     match l {
         Lexed::Refused(r) => Parsed::Refused(r),
         Lexed::Found(d) => {
@@ -143,9 +143,9 @@ fn third_part(w: Way, text: &[u8], a: Token, b: Token, out: &mut [u8], s: Spot) 
 
 // Behind the first `::`, which is d: the second part of a name that a begins.
 fn second_part(w: Way, text: &[u8], a: Token, d: Token, out: &mut [u8], s: Spot) -> Parsed
-    ensures { λ r. ⌜ Reads (w .form) (now (text .entry)) (Fits (now (text .entry)) a × Fits (now (text .entry)) d) (secondPart (held (now (text .entry)) a) (held (now (text .entry)) d)) (d .end) s (now (out .entry)) r (now (out .exit)) ⌝ }
+    ensures { λ r. ⌜ Reads (w .form) (w .edition) (now (text .entry)) (Fits (now (text .entry)) a × Fits (now (text .entry)) d) (secondPart (held (w .edition) (now (text .entry)) a) (held (w .edition) (now (text .entry)) d)) (d .end) s (now (out .entry)) r (now (out .exit)) ⌝ }
 {
-    let l = tokens::next_token(text, d.end);
+    let l = tokens::next_token(w.edition, text, d.end);
     match l {
         Lexed::Refused(r) => Parsed::Refused(r),
         Lexed::Found(b) => {
@@ -160,7 +160,7 @@ fn second_part(w: Way, text: &[u8], a: Token, d: Token, out: &mut [u8], s: Spot)
 // The name whose first token is a, by the token d behind it. Who has read that token already, since it tells
 // what else begins with a name, does not read it again.
 pub fn name_behind(w: Way, text: &[u8], a: Token, d: Token, out: &mut [u8], s: Spot) -> Parsed
-    ensures { λ r. ⌜ ReadsBehind (w .form) (now (text .entry)) a d (chain (held (now (text .entry)) a)) s (now (out .entry)) r (now (out .exit)) ⌝ }
+    ensures { λ r. ⌜ ReadsBehind (w .form) (w .edition) (now (text .entry)) a d (chain (held (w .edition) (now (text .entry)) a)) s (now (out .entry)) r (now (out .exit)) ⌝ }
 {
     if d.kind == COLON_COLON {
         return second_part(w, text, a, d, out, s);
@@ -178,12 +178,12 @@ pub fn name_behind(w: Way, text: &[u8], a: Token, d: Token, out: &mut [u8], s: S
 
 // The name whose first token is a.
 pub fn parse_name_access_chain(w: Way, text: &[u8], a: Token, out: &mut [u8], s: Spot) -> Parsed
-    ensures { λ r. ⌜ Reads (w .form) (now (text .entry)) (Fits (now (text .entry)) a) (chain (held (now (text .entry)) a)) (a .end) s (now (out .entry)) r (now (out .exit)) ⌝ }
+    ensures { λ r. ⌜ Reads (w .form) (w .edition) (now (text .entry)) (Fits (now (text .entry)) a) (chain (held (w .edition) (now (text .entry)) a)) (a .end) s (now (out .entry)) r (now (out .exit)) ⌝ }
 {
     if !is_first(a.kind) {
         return parts::unexpected(a);
     }
-    let l = tokens::next_token(text, a.end);
+    let l = tokens::next_token(w.edition, text, a.end);
     match l {
         Lexed::Refused(r) => Parsed::Refused(r),
         Lexed::Found(d) => name_behind(w, text, a, d, out, s),
@@ -259,9 +259,9 @@ fn put_address(w: Way, text: &[u8], a: Token, b: Token, out: &mut [u8], s: Spot)
 
 // The address behind the `@` a.
 fn address_value(w: Way, text: &[u8], a: Token, out: &mut [u8], s: Spot) -> Parsed
-    ensures { λ r. ⌜ Reads (w .form) (now (text .entry)) (Fits (now (text .entry)) a) (addressValue (held (now (text .entry)) a)) (a .end) s (now (out .entry)) r (now (out .exit)) ⌝ }
+    ensures { λ r. ⌜ Reads (w .form) (w .edition) (now (text .entry)) (Fits (now (text .entry)) a) (addressValue (held (w .edition) (now (text .entry)) a)) (a .end) s (now (out .entry)) r (now (out .exit)) ⌝ }
 {
-    let l = tokens::next_token(text, a.end);
+    let l = tokens::next_token(w.edition, text, a.end);
     match l {
         Lexed::Refused(r) => Parsed::Refused(r),
         Lexed::Found(b) => {
@@ -269,14 +269,14 @@ fn address_value(w: Way, text: &[u8], a: Token, out: &mut [u8], s: Spot) -> Pars
                 return parts::unexpected(b);
             }
             let to = put_address(w, text, a, b, out, s);
-            parts::finish(text, b.end, to)
+            parts::finish(w.edition, text, b.end, to)
         }
     }
 }
 
 // The value whose first token is a.
 pub fn maybe_parse_value(w: Way, text: &[u8], a: Token, out: &mut [u8], s: Spot) -> Parsed
-    ensures { λ r. ⌜ Reads (w .form) (now (text .entry)) (Fits (now (text .entry)) a) (value (held (now (text .entry)) a)) (a .end) s (now (out .entry)) r (now (out .exit)) ⌝ }
+    ensures { λ r. ⌜ Reads (w .form) (w .edition) (now (text .entry)) (Fits (now (text .entry)) a) (value (held (w .edition) (now (text .entry)) a)) (a .end) s (now (out .entry)) r (now (out .exit)) ⌝ }
 {
     if a.kind == AT_SIGN {
         return address_value(w, text, a, out, s);
@@ -286,7 +286,7 @@ pub fn maybe_parse_value(w: Way, text: &[u8], a: Token, out: &mut [u8], s: Spot)
     if kind == 0 {
         return no_value(a);
     }
-    let l = tokens::next_token(text, a.end);
+    let l = tokens::next_token(w.edition, text, a.end);
     match l {
         Lexed::Refused(r) => Parsed::Refused(r),
         Lexed::Found(d) => {

@@ -9,7 +9,7 @@ use borrow.Author.Tests.{leb-true, le-leb, lt-ltb, eqb-true}
 use lib.Dec.{leb, eqb}
 use lib.ListN.{length, getD, take, drop}
 use lib.Seq.{take-take}
-use Rattle.classes.specs.Class.{inRange, isDigit, isHex, isLetter, isName, isAscii, shows}
+use Rattle.classes.specs.Class.{inRange, isDigit, isHex, isLetter, isName, isAscii, shows, isDigitOrUnderscore, isHexOrUnderscore}
 use Rattle.classes.specs.Run.{runLen, allOf}
 use Rattle.classes.proofs.Bools.{false-true, and-left, and-right}
 
@@ -91,6 +91,22 @@ hex-name a h = go (inRange 97 122 a) refl (inRange 65 90 a) refl (eqb a 95) (inR
         or-true (false ≡ true) (inRange 48 57 a || inRange 65 70 a) (inRange 97 102 a)
         (or-true (false ≡ true) (inRange 48 57 a) (inRange 65 70 a) (λ e. sym w ∙ e) (λ e. sym v ∙ in-range 65 70 65 90 a (omega arith) (omega arith) e))
         (λ e. sym u ∙ in-range 97 102 97 122 a (omega arith) (omega arith) e) h
+
+-- `_` is a name byte, and so are digits or `_`, hex digits or `_`
+low-name : isName 95 ≡ true
+unfolding isName isLetter isDigit inRange
+low-name = refl
+
+under-name : (a : ℕ) → eqb a 95 ≡ true → isName a ≡ true
+under-name a e = subst (λ (x : ℕ). isName x ≡ true) (sym (eqb-true a 95 e)) low-name
+
+pub digit-or-name : (a : ℕ) → isDigitOrUnderscore a ≡ true → isName a ≡ true
+unfolding isDigitOrUnderscore
+digit-or-name a h = or-true (isName a ≡ true) (isDigit a) (eqb a 95) (digit-name a) (under-name a) h
+
+pub hex-or-name : (a : ℕ) → isHexOrUnderscore a ≡ true → isName a ≡ true
+unfolding isHexOrUnderscore
+hex-or-name a h = or-true (isName a ≡ true) (isHex a) (eqb a 95) (hex-name a) (under-name a) h
 
 low-line : shows 95 ≡ true
 unfolding shows inRange

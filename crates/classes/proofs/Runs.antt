@@ -71,7 +71,7 @@ module _ (f : ℕ → Bool) (text : List ℕ) (at : ℕ) where
 
 -- two tests that agree have the same runs
 module _ (f g : ℕ → Bool) (e : (b : ℕ) → f b ≡ g b) where
-  len-same : (s : List ℕ) → runLen f s ≡ runLen g s
+  pub len-same : (s : List ℕ) → runLen f s ≡ runLen g s
   unfolding runLen
   len-same [] = refl
   len-same (a ∷ s) = rw (e a, len-same s)

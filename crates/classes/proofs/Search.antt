@@ -173,10 +173,10 @@ module _ (b : ℕ) (h : b < 256) where
   unfolding toldIn
   whole k = rw (among-is 0 256 b (omega arith) h)
 
-  pub told-low : (k : ℕ) → k < 11 → toldIn 0 128 k b ≡ true → true ≡ nth properties k b
+  pub told-low : (k : ℕ) → k < 14 → toldIn 0 128 k b ≡ true → true ≡ nth properties k b
   told-low k g e = sym (told-front 0 128 256 b (omega arith) (omega arith) k e) ∙ whole k ∙ told k b g
 
-  pub told-high : (k : ℕ) (v : Bool) → k < 11 → toldIn 0 128 k b ≡ false → v ≡ toldIn 128 256 k b → v ≡ nth properties k b
+  pub told-high : (k : ℕ) (v : Bool) → k < 14 → toldIn 0 128 k b ≡ false → v ≡ toldIn 128 256 k b → v ≡ nth properties k b
   told-high k v g e r = r ∙ sym (told-behind 0 128 256 b (omega arith) (omega arith) k e) ∙ whole k ∙ told k b g
 
   all-entries : entryIn 0 256 b ≡ entryOf b

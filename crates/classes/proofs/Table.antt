@@ -8,7 +8,7 @@ use native.Mathlib.Omega.{arith}
 use native.Mathlib.Nat.{add-zero, zero-add, add-suc, suc-add, le-of-suc-le-suc, not-suc-le-zero}
 use lib.Dec.{eqb, leb, ltb}
 use lib.ListN.{length, getD, List·getD-eq-default}
-use Rattle.classes.specs.Class.{inRange, isName, isDigit, isHex, isAscii, inLine, shows, isLetter, isSpace, beginsPart, markOrLineFeed, spaceOrTab, inClass}
+use Rattle.classes.specs.Class.{inRange, isName, isDigit, isHex, isAscii, inLine, shows, isDigitOrUnderscore, isHexOrUnderscore, isLetter, isSpace, beginsPart, markOrLineFeed, spaceOrTab, isNone, inClass}
 use Rattle.classes.specs.Table.{classTable, bit, entryOf, tells, properties, nth}
 use Rattle.classes.specs.code.Search.{known}
 use Rattle.classes.proofs.Bools.{and-left, and-right, and-false}
@@ -52,10 +52,10 @@ agrees : ℕ → ℕ → Bool
 agrees b x = all x b 0 properties
 
 all-agree : every agrees 0 classTable ≡ true
-unfolding agrees classTable bit properties isName isDigit isHex isAscii inLine shows isLetter isSpace beginsPart markOrLineFeed spaceOrTab inRange
+unfolding agrees classTable bit properties isName isDigit isHex isAscii inLine shows isDigitOrUnderscore isHexOrUnderscore isLetter isSpace beginsPart markOrLineFeed spaceOrTab isNone inRange
 all-agree = refl
 
-pub rule : (k b : ℕ) → k < 11 → b < 256 → tells k b ≡ nth properties k b
+pub rule : (k b : ℕ) → k < 14 → b < 256 → tells k b ≡ nth properties k b
 unfolding agrees classTable properties tells entryOf
 rule k b g h =
     ap (λ (m : ℕ). bit m (getD classTable b 16)) (sym (zero-add k))
@@ -72,7 +72,7 @@ module _ (x : ℕ) (h : 256 ≤ x) where
   other n g = ne-eqb x n (λ e. absurd (omega arith))
 
   past : all 16 x 0 properties ≡ true
-  unfolding bit properties isName isDigit isHex isAscii inLine shows isLetter isSpace beginsPart markOrLineFeed spaceOrTab
+  unfolding bit properties isName isDigit isHex isAscii inLine shows isDigitOrUnderscore isHexOrUnderscore isLetter isSpace beginsPart markOrLineFeed spaceOrTab isNone
   past =
       rw (
         over 97 122 (omega arith),
@@ -91,13 +91,13 @@ module _ (x : ℕ) (h : 256 ≤ x) where
         other 42 (omega arith),
       )
 
-  beyond : (k : ℕ) → k < 11 → tells k x ≡ nth properties k x
+  beyond : (k : ℕ) → k < 14 → tells k x ≡ nth properties k x
   unfolding tells entryOf classTable properties
   beyond k g =
       rw (List·getD-eq-default classTable 16 h)
       (ap (λ (m : ℕ). bit m 16) (sym (zero-add k)) ∙ all-at 16 x properties 0 k past g)
 
-pub told : (k b : ℕ) → k < 11 → tells k b ≡ nth properties k b
+pub told : (k b : ℕ) → k < 14 → tells k b ≡ nth properties k b
 told k b g = go (leb 256 b) refl
   where
     go : (v : Bool) → leb 256 b ≡ v → tells k b ≡ nth properties k b
@@ -105,17 +105,20 @@ told k b g = go (leb 256 b) refl
     go false e = rule k b g (leb-false 256 b e)
 
 -- the property of a class
-last : (k b : ℕ) → 5 ≤ k → tells (known k) b ≡ inClass k b
+last : (k b : ℕ) → 8 ≤ k → tells (known k) b ≡ inClass k b
 unfolding known inClass properties
 last k b h =
     rw (
-      le-ltb k 5 h,
+      lt-leb k 7 (omega (arith, h)),
       ne-eqb k 0 (λ e. absurd (omega arith)),
       ne-eqb k 1 (λ e. absurd (omega arith)),
       ne-eqb k 2 (λ e. absurd (omega arith)),
       ne-eqb k 3 (λ e. absurd (omega arith)),
       ne-eqb k 4 (λ e. absurd (omega arith)),
-    ) (told 5 b (omega arith))
+      ne-eqb k 5 (λ e. absurd (omega arith)),
+      ne-eqb k 6 (λ e. absurd (omega arith)),
+      ne-eqb k 7 (λ e. absurd (omega arith)),
+    ) (told 13 b (omega arith))
 
 pub class-told : (k b : ℕ) → tells (known k) b ≡ inClass k b
 unfolding known inClass properties
@@ -124,4 +127,7 @@ class-told (suc zero) b = told 1 b (omega arith)
 class-told (suc (suc zero)) b = told 2 b (omega arith)
 class-told (suc (suc (suc zero))) b = told 3 b (omega arith)
 class-told (suc (suc (suc (suc zero)))) b = told 4 b (omega arith)
-class-told (suc (suc (suc (suc (suc k))))) b = last (suc (suc (suc (suc (suc k))))) b (omega arith)
+class-told (suc (suc (suc (suc (suc zero))))) b = told 5 b (omega arith)
+class-told (suc (suc (suc (suc (suc (suc zero)))))) b = told 6 b (omega arith)
+class-told (suc (suc (suc (suc (suc (suc (suc zero))))))) b = told 7 b (omega arith)
+class-told (suc (suc (suc (suc (suc (suc (suc (suc k)))))))) b = last (suc (suc (suc (suc (suc (suc (suc (suc k)))))))) b (omega arith)

@@ -1,6 +1,6 @@
 -- The classes of bytes. Each has a number, by which the code names it.
 use Prim.Native.Nat.{ℕ}
-use mathlib.Core.Bool.{Bool, _||_, _&&_, not, cond}
+use mathlib.Core.Bool.{Bool, false, _||_, _&&_, not, cond}
 use lib.Dec.{leb, ltb, eqb}
 
 -- x is from lo to hi, both counted
@@ -51,11 +51,25 @@ spaceOrTab x = eqb x 32 || eqb x 9
 unfoldable pub shows : ℕ → Bool
 shows x = inRange 32 126 x
 
--- the class of each number
+-- a digit or `_`, a hex digit or `_`
+unfoldable pub isDigitOrUnderscore : ℕ → Bool
+isDigitOrUnderscore x = isDigit x || eqb x 95
+
+unfoldable pub isHexOrUnderscore : ℕ → Bool
+isHexOrUnderscore x = isHex x || eqb x 95
+
+-- no byte
+unfoldable pub isNone : ℕ → Bool
+isNone x = false
+
+-- the class of each number; any other number is the class of no byte
 unfoldable pub inClass : ℕ → ℕ → Bool
 inClass k x =
     cond (eqb k 0) (isName x)
     (cond (eqb k 1) (isDigit x)
     (cond (eqb k 2) (isHex x)
     (cond (eqb k 3) (isAscii x)
-    (cond (eqb k 4) (inLine x) (shows x)))))
+    (cond (eqb k 4) (inLine x)
+    (cond (eqb k 5) (shows x)
+    (cond (eqb k 6) (isDigitOrUnderscore x)
+    (cond (eqb k 7) (isHexOrUnderscore x) (isNone x))))))))

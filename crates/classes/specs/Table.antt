@@ -4,19 +4,19 @@ use mathlib.Core.Bool.{Bool, false}
 use mathlib.Core.List.{List, [], _∷_}
 use lib.Dec.{eqb}
 use lib.ListN.{getD}
-use Rattle.classes.specs.Class.{isName, isDigit, isHex, isAscii, inLine, shows, isLetter, isSpace, beginsPart, markOrLineFeed, spaceOrTab}
+use Rattle.classes.specs.Class.{isName, isDigit, isHex, isAscii, inLine, shows, isDigitOrUnderscore, isHexOrUnderscore, isLetter, isSpace, beginsPart, markOrLineFeed, spaceOrTab, isNone}
 
 -- the class of each byte, sixteen to a line
 unfoldable pub classTable : List ℕ
 classTable =
-    24 ∷ 24 ∷ 24 ∷ 24 ∷ 24 ∷ 24 ∷ 24 ∷ 24 ∷ 24 ∷ 1176 ∷ 648 ∷ 24 ∷ 24 ∷ 280 ∷ 24 ∷ 24 ∷
+    24 ∷ 24 ∷ 24 ∷ 24 ∷ 24 ∷ 24 ∷ 24 ∷ 24 ∷ 24 ∷ 4632 ∷ 2568 ∷ 24 ∷ 24 ∷ 1048 ∷ 24 ∷ 24 ∷
     24 ∷ 24 ∷ 24 ∷ 24 ∷ 24 ∷ 24 ∷ 24 ∷ 24 ∷ 24 ∷ 24 ∷ 24 ∷ 24 ∷ 24 ∷ 24 ∷ 24 ∷ 24 ∷
-    1208 ∷ 56 ∷ 56 ∷ 56 ∷ 56 ∷ 56 ∷ 56 ∷ 56 ∷ 56 ∷ 56 ∷ 568 ∷ 56 ∷ 56 ∷ 56 ∷ 56 ∷ 824 ∷
-    63 ∷ 63 ∷ 63 ∷ 63 ∷ 63 ∷ 63 ∷ 63 ∷ 63 ∷ 63 ∷ 63 ∷ 56 ∷ 56 ∷ 56 ∷ 56 ∷ 56 ∷ 56 ∷
-    56 ∷ 125 ∷ 125 ∷ 125 ∷ 125 ∷ 125 ∷ 125 ∷ 121 ∷ 121 ∷ 121 ∷ 121 ∷ 121 ∷ 121 ∷ 121 ∷ 121 ∷ 121 ∷
-    121 ∷ 121 ∷ 121 ∷ 121 ∷ 121 ∷ 121 ∷ 121 ∷ 121 ∷ 121 ∷ 121 ∷ 121 ∷ 56 ∷ 56 ∷ 56 ∷ 56 ∷ 121 ∷
-    56 ∷ 125 ∷ 125 ∷ 125 ∷ 125 ∷ 125 ∷ 125 ∷ 121 ∷ 121 ∷ 121 ∷ 121 ∷ 121 ∷ 121 ∷ 121 ∷ 121 ∷ 121 ∷
-    121 ∷ 121 ∷ 121 ∷ 121 ∷ 121 ∷ 121 ∷ 121 ∷ 121 ∷ 121 ∷ 121 ∷ 121 ∷ 56 ∷ 56 ∷ 56 ∷ 56 ∷ 24 ∷
+    4664 ∷ 56 ∷ 56 ∷ 56 ∷ 56 ∷ 56 ∷ 56 ∷ 56 ∷ 56 ∷ 56 ∷ 2104 ∷ 56 ∷ 56 ∷ 56 ∷ 56 ∷ 3128 ∷
+    255 ∷ 255 ∷ 255 ∷ 255 ∷ 255 ∷ 255 ∷ 255 ∷ 255 ∷ 255 ∷ 255 ∷ 56 ∷ 56 ∷ 56 ∷ 56 ∷ 56 ∷ 56 ∷
+    56 ∷ 445 ∷ 445 ∷ 445 ∷ 445 ∷ 445 ∷ 445 ∷ 313 ∷ 313 ∷ 313 ∷ 313 ∷ 313 ∷ 313 ∷ 313 ∷ 313 ∷ 313 ∷
+    313 ∷ 313 ∷ 313 ∷ 313 ∷ 313 ∷ 313 ∷ 313 ∷ 313 ∷ 313 ∷ 313 ∷ 313 ∷ 56 ∷ 56 ∷ 56 ∷ 56 ∷ 505 ∷
+    56 ∷ 445 ∷ 445 ∷ 445 ∷ 445 ∷ 445 ∷ 445 ∷ 313 ∷ 313 ∷ 313 ∷ 313 ∷ 313 ∷ 313 ∷ 313 ∷ 313 ∷ 313 ∷
+    313 ∷ 313 ∷ 313 ∷ 313 ∷ 313 ∷ 313 ∷ 313 ∷ 313 ∷ 313 ∷ 313 ∷ 313 ∷ 56 ∷ 56 ∷ 56 ∷ 56 ∷ 24 ∷
     16 ∷ 16 ∷ 16 ∷ 16 ∷ 16 ∷ 16 ∷ 16 ∷ 16 ∷ 16 ∷ 16 ∷ 16 ∷ 16 ∷ 16 ∷ 16 ∷ 16 ∷ 16 ∷
     16 ∷ 16 ∷ 16 ∷ 16 ∷ 16 ∷ 16 ∷ 16 ∷ 16 ∷ 16 ∷ 16 ∷ 16 ∷ 16 ∷ 16 ∷ 16 ∷ 16 ∷ 16 ∷
     16 ∷ 16 ∷ 16 ∷ 16 ∷ 16 ∷ 16 ∷ 16 ∷ 16 ∷ 16 ∷ 16 ∷ 16 ∷ 16 ∷ 16 ∷ 16 ∷ 16 ∷ 16 ∷
@@ -29,7 +29,10 @@ classTable =
 
 -- the properties by their definitions, in the order of their bits
 unfoldable pub properties : List (ℕ → Bool)
-properties = isName ∷ isDigit ∷ isHex ∷ isAscii ∷ inLine ∷ shows ∷ isLetter ∷ isSpace ∷ beginsPart ∷ markOrLineFeed ∷ spaceOrTab ∷ []
+properties =
+    isName ∷ isDigit ∷ isHex ∷ isAscii ∷ inLine ∷ shows ∷ isDigitOrUnderscore ∷ isHexOrUnderscore ∷
+    isLetter ∷ isSpace ∷ beginsPart ∷ markOrLineFeed ∷ spaceOrTab ∷ isNone ∷
+    []
 
 -- the property with the number k
 abbrev pub nth : List (ℕ → Bool) → ℕ → ℕ → Bool

@@ -2,36 +2,39 @@
 // lib.rt numbers the properties; bytes that no property tells apart share a class.
 
 // 128 and more
-const HIGH: u16 = 0b000_0001_0000;
+const HIGH: u16 = 0b0_0000_0001_0000;
 
 // any other byte that a line can hold
-const OTHER: u16 = 0b000_0011_1000;
+const OTHER: u16 = 0b0_0000_0011_1000;
 
 // any other byte under 32, and 127
-const CONTROL: u16 = 0b000_0001_1000;
+const CONTROL: u16 = 0b0_0000_0001_1000;
 
 // 0 to 9
-const DIGIT: u16 = 0b000_0011_1111;
+const DIGIT: u16 = 0b0_0000_1111_1111;
 
 // A to F, a to f
-const HEX_LETTER: u16 = 0b000_0111_1101;
+const HEX_LETTER: u16 = 0b0_0001_1011_1101;
 
-// another letter or `_`
-const LETTER: u16 = 0b000_0111_1001;
+// another letter
+const LETTER: u16 = 0b0_0001_0011_1001;
 
-const SPACE: u16 = 0b100_1011_1000;
+// `_`
+const UNDERSCORE: u16 = 0b0_0001_1111_1001;
 
-const TAB: u16 = 0b100_1001_1000;
+const SPACE: u16 = 0b1_0010_0011_1000;
 
-const LF: u16 = 0b010_1000_1000;
+const TAB: u16 = 0b1_0010_0001_1000;
 
-const CR: u16 = 0b001_0001_1000;
+const LF: u16 = 0b0_1010_0000_1000;
+
+const CR: u16 = 0b0_0100_0001_1000;
 
 // `/`
-const SLASH: u16 = 0b011_0011_1000;
+const SLASH: u16 = 0b0_1100_0011_1000;
 
 // `*`
-const STAR: u16 = 0b010_0011_1000;
+const STAR: u16 = 0b0_1000_0011_1000;
 
 pub const CLASSES: [u16; 256] = [
     CONTROL, // 0
@@ -129,7 +132,7 @@ pub const CLASSES: [u16; 256] = [
     OTHER, // \
     OTHER, // ]
     OTHER, // ^
-    LETTER, // _
+    UNDERSCORE, // _
     OTHER, // `
     HEX_LETTER, // a
     HEX_LETTER, // b

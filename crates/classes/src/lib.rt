@@ -12,7 +12,7 @@ use entries::CLASSES;
 
 mod entries;
 
-// The properties of bytes, each by its bit in an entry of the table. The first six are the classes of which
+// The properties of bytes, each by its bit in an entry of the table. The first eight are the classes of which
 // there are runs.
 pub const NAME: u8 = 0;
 
@@ -27,15 +27,22 @@ pub const LINE: u8 = 4;
 // 32 to 126: what a line can hold
 pub const SHOWN: u8 = 5;
 
-const LETTER: u8 = 6;
+pub const DIGIT_OR_UNDERSCORE: u8 = 6;
 
-const SPACE: u8 = 7;
+pub const HEX_OR_UNDERSCORE: u8 = 7;
 
-const PART_START: u8 = 8;
+const LETTER: u8 = 8;
 
-const MARK_OR_LINE_FEED: u8 = 9;
+const SPACE: u8 = 9;
 
-const SPACE_OR_TAB: u8 = 10;
+const PART_START: u8 = 10;
+
+const MARK_OR_LINE_FEED: u8 = 11;
+
+const SPACE_OR_TAB: u8 = 12;
+
+// what no byte is: any other number is no class's
+const NONE: u8 = 13;
 
 // How many bytes of a run are told by a search, before the table is copied.
 const SHORT_RUN: usize = 12;
@@ -223,14 +230,14 @@ fn class_of(b: u8) -> u16
     entry(&t, 128, 256, b)
 }
 
-// The property of the class k.
+// The property of the class k; a number that is no class's has that of no byte.
 fn property_of(k: u8) -> u8
     ensures { λ r. ⌜ r ≡ known k ⌝ }
 {
-    if k < SHOWN {
+    if k <= HEX_OR_UNDERSCORE {
         return k;
     }
-    SHOWN
+    NONE
 }
 
 // Whether b is of the class k.

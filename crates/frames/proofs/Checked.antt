@@ -32,7 +32,7 @@ scanned-met u (faulty r) h = among-subset lexRefusals textRefusals refl (r .numb
 
 pub token-met : (u : Source) → TokenMet (lex u)
 unfolding lex
-token-met u = scanned-met u (lexFrom (u .at) (u .rest)) (lex-met (u .at) (u .rest))
+token-met u = scanned-met u (lexFrom (u .edition) (u .at) (u .rest)) (lex-met (u .edition) (u .at) (u .rest))
 
 token-itself : (t : Token) → Step frame t t
 token-itself t = record { kind = refl; spelled = refl; good = tt; from = tt; to = tt; on = λ _. refl; half = λ _. refl }

@@ -8,8 +8,8 @@ use native.Mathlib.Omega.{arith}
 use borrow.Author.Tests.{ltb-false}
 use lib.Dec.{eqb, ltb}
 use lib.ListN.{length}
-use Rattle.tokens.specs.Refusals.{TextTooLong, StartPastEnd, NoSuchKind, among}
-use Rattle.tokens.specs.Calls.{textLimit}
+use Rattle.tokens.specs.Refusals.{TextTooLong, StartPastEnd, NoSuchKind, NoSuchEdition, among}
+use Rattle.tokens.specs.Calls.{textLimit, noEdition}
 use Rattle.tokens.specs.declared.Refusal.{Refusal}
 use Rattle.tokens.proofs.RefusalSets.{subset, among-subset}
 use Rattle.records.specs.Tree.{Tree}
@@ -26,7 +26,7 @@ use Rattle.frames.proofs.Readers.{kind-obeys}
 
 -- all that an item is refused with before its room is looked at: 1 to 3 and 5 to 14
 abbrev pub readRefusals : List ℕ
-readRefusals = TextTooLong ∷ StartPastEnd ∷ NoSuchKind ∷ textRefusals
+readRefusals = TextTooLong ∷ StartPastEnd ∷ NoSuchKind ∷ NoSuchEdition ∷ textRefusals
 
 abbrev pub Told : List ℕ → Item → Type 0
 Told text (item x t) = Kinds x × (length text ≤ textLimit)
@@ -52,28 +52,29 @@ module _ (text : List ℕ) (h : length text ≤ textLimit) where
   finished-told (ok x u) g = followed-told x (lex u) g (token-met u)
   finished-told (no r) g = of-text (r .number) g
 
-pub item-told : (kind : ℕ) (text : List ℕ) (at : ℕ) → Told text (readItem kind text at)
+pub item-told : (kind ed : ℕ) (text : List ℕ) (at : ℕ) → Told text (readItem kind ed text at)
 unfolding readItem among
-item-told kind text at =
+item-told kind ed text at =
     when-sure (Told text) (ltb textLimit (length text)) _ _ (λ _. refl)
     (λ b. when-sure (Told text) (ltb (length text) at) _ _ (λ _. refl)
     (λ _. when-sure (Told text) (eqb kind 0 || ltb 5 kind) _ _ (λ _. refl)
-    (λ _. finished-told text (ltb-false textLimit (length text) b) (look (lex (opened text at)) (readKind kind)) (looked-checked kind (lex (opened text at)) (token-met (opened text at))))))
+    (λ _. when-sure (Told text) (noEdition ed) _ _ (λ _. refl)
+    (λ _. finished-told text (ltb-false textLimit (length text) b) (look (lex (opened ed text at)) (readKind kind)) (looked-checked kind (lex (opened ed text at)) (token-met (opened ed text at)))))))
 
 -- an item is refused with one of these numbers
-pub item-refusals : (kind : ℕ) (text : List ℕ) (at : ℕ) (r : Refusal) → readItem kind text at ≡ refused r → among readRefusals (r .number) ≡ true
-item-refusals kind text at r e = subst (Told text) e (item-told kind text at)
+pub item-refusals : (kind ed : ℕ) (text : List ℕ) (at : ℕ) (r : Refusal) → readItem kind ed text at ≡ refused r → among readRefusals (r .number) ≡ true
+item-refusals kind ed text at r e = subst (Told text) e (item-told kind ed text at)
 
 -- of an accepted one whose stored tree fits the limit, each number has two bytes
-pub item-short : (kind : ℕ) (text : List ℕ) (at : ℕ) (x : Tree) (t : Token) → readItem kind text at ≡ item x t → length (stored x) < 65536 → Short x
-item-short kind text at x t e f =
-    let h = subst (Held text at) e (item-held text at kind) in
-    let g = subst (Told text) e (item-told kind text at) in
+pub item-short : (kind ed : ℕ) (text : List ℕ) (at : ℕ) (x : Tree) (t : Token) → readItem kind ed text at ≡ item x t → length (stored x) < 65536 → Short x
+item-short kind ed text at x t e f =
+    let h = subst (Held text at) e (item-held text at kind ed) in
+    let g = subst (Told text) e (item-told kind ed text at) in
     short-tree x (g .0) (h .nested) (omega (arith, h .follows, h .within, g .1)) f
 
--- items of any texts, offsets and kinds that are stored as the same bytes have the same records
-pub item-faithful : (kind kind₂ : ℕ) (text text₂ : List ℕ) (at at₂ : ℕ) (x x₂ : Tree) (t t₂ : Token) → readItem kind text at ≡ item x t → readItem kind₂ text₂ at₂ ≡ item x₂ t₂
+-- items of any texts, offsets, kinds and editions that are stored as the same bytes have the same records
+pub item-faithful : (kind kind₂ ed ed₂ : ℕ) (text text₂ : List ℕ) (at at₂ : ℕ) (x x₂ : Tree) (t t₂ : Token) → readItem kind ed text at ≡ item x t → readItem kind₂ ed₂ text₂ at₂ ≡ item x₂ t₂
     → length (stored x) < 65536 → stored x ≡ stored x₂ → unspelled x ≡ unspelled x₂
-item-faithful kind kind₂ text text₂ at at₂ x x₂ t t₂ e e₂ f p =
+item-faithful kind kind₂ ed ed₂ text text₂ at at₂ x x₂ t t₂ e e₂ f p =
     let n : length (stored x) ≡ length (stored x₂) = ap length p in
-    stored-injective x x₂ (item-short kind text at x t e f) (item-short kind₂ text₂ at₂ x₂ t₂ e₂ (omega (arith, n, f))) p
+    stored-injective x x₂ (item-short kind ed text at x t e f) (item-short kind₂ ed₂ text₂ at₂ x₂ t₂ e₂ (omega (arith, n, f))) p

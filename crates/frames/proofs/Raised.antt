@@ -10,7 +10,7 @@ use borrow.Author.Tests.{le-ltb}
 use lib.Dec.{eqb, ltb}
 use lib.ListN.{length, drop, length-drop}
 use Rattle.tokens.specs.Raise.{raiseRefusal}
-use Rattle.tokens.specs.Calls.{textLimit}
+use Rattle.tokens.specs.Calls.{textLimit, noEdition}
 use Rattle.tokens.specs.declared.Refusal.{Refusal}
 use Rattle.records.specs.Tree.{Tree, Trees}
 use Rattle.records.specs.Raise.{raiseTree, raiseTrees}
@@ -96,12 +96,13 @@ module _ (k : ℕ) where
   finished-raised (ok x u) = rw (lex-raised k u) (followed-raised x (lex u))
   finished-raised (no r) = refl
 
--- for a text that is not too long, an offset in it and one of the five kinds; the caller's refusals have the place (0,0)
-pub item-from : (kind : ℕ) (text : List ℕ) (at : ℕ) → length text ≤ textLimit → at ≤ length text → (eqb kind 0 || ltb 5 kind) ≡ false
-    → readItem kind text at ≡ raiseItem at (readItem kind (drop at text) 0)
+-- for a text that is not too long, an offset in it, one of the five kinds and one of the two editions; the caller's refusals have the
+-- place (0,0)
+pub item-from : (kind ed : ℕ) (text : List ℕ) (at : ℕ) → length text ≤ textLimit → at ≤ length text → (eqb kind 0 || ltb 5 kind) ≡ false → noEdition ed ≡ false
+    → readItem kind ed text at ≡ raiseItem at (readItem kind ed (drop at text) 0)
 unfolding readItem when
-item-from kind text at h g f =
+item-from kind ed text at h g f q =
     let d : length (drop at text) ≤ textLimit = omega (arith, length-drop at text) in
-    let l : lex (opened text at) ≡ raiseScanned at (lex (opened (drop at text) 0)) = ap (λ (p : ℕ). lex (moved (opened text at) p (drop at text))) (sym (add-zero at)) ∙ lex-raised at (opened (drop at text) 0) in
-    rw (le-ltb textLimit (length text) h, le-ltb (length text) at g, f, le-ltb textLimit (length (drop at text)) d, le-ltb (length (drop at text)) 0 (omega arith))
-    (ap (λ (x : Scanned). finished (look x (readKind kind))) l ∙ (ap finished (looked-raised at kind (lex (opened (drop at text) 0))) ∙ finished-raised at (look (lex (opened (drop at text) 0)) (readKind kind))))
+    let l : lex (opened ed text at) ≡ raiseScanned at (lex (opened ed (drop at text) 0)) = ap (λ (p : ℕ). lex (moved (opened ed text at) p (drop at text))) (sym (add-zero at)) ∙ lex-raised at (opened ed (drop at text) 0) in
+    rw (le-ltb textLimit (length text) h, le-ltb (length text) at g, f, q, le-ltb textLimit (length (drop at text)) d, le-ltb (length (drop at text)) 0 (omega arith))
+    (ap (λ (x : Scanned). finished (look x (readKind kind))) l ∙ (ap finished (looked-raised at kind (lex (opened ed (drop at text) 0))) ∙ finished-raised at (look (lex (opened ed (drop at text) 0)) (readKind kind))))

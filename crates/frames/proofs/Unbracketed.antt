@@ -7,7 +7,7 @@ use Prim.Native.Nat.{ℕ, zero, suc}
 use lib.Dec.{eqb, ltb}
 use lib.ListN.{length}
 use Rattle.words.specs.Kinds.{NumValue, Identifier, ColonColon, AtSign, Amp, AmpMut, Comma, LParen, RParen, Colon, Less, Greater, GreaterGreater, Pipe, LBrace, RBrace}
-use Rattle.tokens.specs.Calls.{textLimit}
+use Rattle.tokens.specs.Calls.{textLimit, noEdition}
 use Rattle.records.specs.Kinds.{RecBrackets, RecRef, RecRefMut}
 use Rattle.records.specs.Tree.{Tree, Trees, none, more, behind, joined}
 use Rattle.records.specs.Rust.{inPlace, unbracketed, unbracketedAll}
@@ -237,11 +237,12 @@ when-item true f g f₂ g₂ x y = x
 when-item false f g f₂ g₂ x y = y
 
 -- the item is the Rust's once its tree is unbracketed, with the same refusals and the same token behind
-pub rust-item : (kind : ℕ) (text : List ℕ) (at : ℕ) → unbracketedItem (readItem kind text at) ≡ rustItem kind text at
+pub rust-item : (kind ed : ℕ) (text : List ℕ) (at : ℕ) → unbracketedItem (readItem kind ed text at) ≡ rustItem kind ed text at
 unfolding readItem rustItem unbracketedItem
-rust-item kind text at =
-    let l = lex (opened text at) in
+rust-item kind ed text at =
+    let l = lex (opened ed text at) in
     when-item (ltb textLimit (length text)) _ _ _ _ refl
     (when-item (ltb (length text) at) _ _ _ _ refl
     (when-item (eqb kind 0 || ltb 5 kind) _ _ _ _ refl
-    (finished-is (look l (readKind kind)) ∙ ap finished (look-mapped unbracketed l (readKind kind) (rustKind kind) (kind-rusts kind)))))
+    (when-item (noEdition ed) _ _ _ _ refl
+    (finished-is (look l (readKind kind)) ∙ ap finished (look-mapped unbracketed l (readKind kind) (rustKind kind) (kind-rusts kind))))))

@@ -15,7 +15,7 @@ use Rattle.classes.specs.Run.{allOf}
 use Rattle.classes.proofs.Bools.{false-true}
 use Rattle.classes.proofs.All.{all-take, all-drop}
 use Rattle.words.specs.Kinds.{EOF, NumValue, ByteStringValue, Identifier, ColonColon, AtSign}
-use Rattle.tokens.specs.Calls.{textLimit}
+use Rattle.tokens.specs.Calls.{textLimit, noEdition}
 use Rattle.tokens.proofs.Legible.{legible}
 use Rattle.records.specs.Kinds.{RecName, RecAddress}
 use Rattle.records.specs.Tree.{Tree, leaf, node, Trees, none, more}
@@ -143,14 +143,15 @@ finished-of (ok x u) h = go (lex u)
     go (bad r) = tt
 finished-of (no r) h = tt
 
-pub item-readable : (kind : ℕ) (text : List ℕ) (at : ℕ) (x : Tree) (t : Token) → readItem kind text at ≡ item x t → Readable x
+pub item-readable : (kind ed : ℕ) (text : List ℕ) (at : ℕ) (x : Tree) (t : Token) → readItem kind ed text at ≡ item x t → Readable x
 unfolding readItem
-item-readable kind text at x t e =
+item-readable kind ed text at x t e =
     subst Of e
     (when-sure Of (ltb textLimit (length text)) _ _ (λ _. tt)
     (λ _. when-sure Of (ltb (length text) at) _ _ (λ _. tt)
     (λ _. when-sure Of (eqb kind 0 || ltb 5 kind) _ _ (λ _. tt)
-    (λ _. finished-of (look (lex (opened text at)) (readKind kind)) (words-read Anywhere Any Legible (λ c s. tt) wordless legible-found kind (λ _. record { hex = tt; byte = tt }) (opened text at) tt)))))
+    (λ _. when-sure Of (noEdition ed) _ _ (λ _. tt)
+    (λ _. finished-of (look (lex (opened ed text at)) (readKind kind)) (words-read Anywhere Any Legible (λ c s. tt) wordless legible-found kind (λ _. record { hex = tt; byte = tt }) (opened ed text at) tt))))))
 
 -- where such a tree is clean, the words of all its leaves show
 first-clean : (p q : Option ℕ) → firstOf p q ≡ clean → (p ≡ clean) × (q ≡ clean)

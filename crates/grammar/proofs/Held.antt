@@ -6,7 +6,7 @@ use native.Mathlib.Omega.{arith}
 use borrow.Author.Tests.{ltb-false}
 use lib.Dec.{eqb, ltb}
 use lib.ListN.{length, length-drop}
-use Rattle.tokens.specs.Calls.{textLimit}
+use Rattle.tokens.specs.Calls.{textLimit, noEdition}
 use Rattle.records.specs.Tree.{Tree, startOf, endOf, Nested}
 use Rattle.records.specs.Stored.{stored}
 use Rattle.sources.specs.Source.{Source, opened, Token, start, end, Scanned, tok, bad, lex}
@@ -58,11 +58,12 @@ module _ (text : List ℕ) where
     nowhere : (n : ℕ) → Blamed (length text) (record { number = n; place = record { start = 0; end = 0 }; second = record { start = 0; end = 0 } })
     nowhere n = ((omega arith, omega arith), (omega arith, omega arith))
 
-    pub item-held : (kind : ℕ) → Held at (readItem kind text at)
+    pub item-held : (kind ed : ℕ) → Held at (readItem kind ed text at)
     unfolding readItem
-    item-held kind =
+    item-held kind ed =
         when-sure (Held at) (ltb textLimit (length text)) _ _ (λ _. nowhere 1)
         (λ _. when-sure (Held at) (ltb (length text) at) _ _ (λ _. nowhere 2)
         (λ b. when-sure (Held at) (eqb kind 0 || ltb 5 kind) _ _ (λ _. nowhere 3)
-        (λ _. look-sure (length text) (λ a. Held at (finished a)) (opened text at) (readKind kind) (omega (arith, length-drop at text, ltb-false (length text) at b))
-        (λ r n. answer-held at (no r) (omega arith) n) λ t d i. answer-held (start t) (readKind kind t) i (kind-sure (length text) kind t d))))
+        (λ _. when-sure (Held at) (noEdition ed) _ _ (λ _. nowhere 19)
+        (λ _. look-sure (length text) (λ a. Held at (finished a)) (opened ed text at) (readKind kind) (omega (arith, length-drop at text, ltb-false (length text) at b))
+        (λ r n. answer-held at (no r) (omega arith) n) λ t d i. answer-held (start t) (readKind kind t) i (kind-sure (length text) kind t d)))))

@@ -1,12 +1,12 @@
--- The five kinds of items, read at an offset of a text.
+-- The five kinds of items, read at an offset of a text in an edition.
 use Prim.Native.Nat.{ℕ}
 use mathlib.Core.Bool.{_||_}
 use mathlib.Core.List.{List}
 use lib.Dec.{eqb, ltb}
 use lib.ListN.{length}
-use Rattle.tokens.specs.Refusals.{TextTooLong, StartPastEnd, NoSuchKind}
+use Rattle.tokens.specs.Refusals.{TextTooLong, StartPastEnd, NoSuchKind, NoSuchEdition}
 use Rattle.tokens.specs.Answers.{refusal}
-use Rattle.tokens.specs.Calls.{textLimit}
+use Rattle.tokens.specs.Calls.{textLimit, noEdition}
 use Rattle.tokens.specs.declared.Refusal.{Refusal}
 use Rattle.records.specs.Tree.{Tree}
 use Rattle.sources.specs.Source.{opened, Token, Scanned, tok, bad, lex}
@@ -41,13 +41,14 @@ unfoldable pub finished : Ans Tree → Item
 finished (ok x u) = followed x (lex u)
 finished (no r) = refused r
 
--- refusals 1, 2 and 3, in this order; then what the text says
-abbrev pub itemOver : (ℕ → Reader) → ℕ → List ℕ → ℕ → Item
-itemOver one kind text at =
+-- refusals 1, 2, 3 and 19, in this order; then what the text says
+abbrev pub itemOver : (ℕ → Reader) → ℕ → ℕ → List ℕ → ℕ → Item
+itemOver one kind ed text at =
     when (ltb textLimit (length text)) (λ _. refused (refusal TextTooLong 0 0)) λ _.
     when (ltb (length text) at) (λ _. refused (refusal StartPastEnd 0 0)) λ _.
     when (eqb kind 0 || ltb 5 kind) (λ _. refused (refusal NoSuchKind 0 0)) λ _.
-    finished (look (lex (opened text at)) (one kind))
+    when (noEdition ed) (λ _. refused (refusal NoSuchEdition 0 0)) λ _.
+    finished (look (lex (opened ed text at)) (one kind))
 
-unfoldable pub readItem : ℕ → List ℕ → ℕ → Item
-readItem kind text at = itemOver readKind kind text at
+unfoldable pub readItem : ℕ → ℕ → List ℕ → ℕ → Item
+readItem kind ed text at = itemOver readKind kind ed text at

@@ -38,8 +38,8 @@ rustBind (suc n) a = bindOver (rustType n) (readField n (rustBind n)) a
 unfoldable pub rustKind : ℕ → Reader
 rustKind kind a = kindOver (rustType levels) (bindListOver (rustBind levels)) (lambdaListOver (rustBind levels)) kind a
 
-unfoldable pub rustItem : ℕ → List ℕ → ℕ → Item
-rustItem kind text at = itemOver rustKind kind text at
+unfoldable pub rustItem : ℕ → ℕ → List ℕ → ℕ → Item
+rustItem kind ed text at = itemOver rustKind kind ed text at
 
 -- an item with its tree unbracketed
 unfoldable pub unbracketedItem : Item → Item

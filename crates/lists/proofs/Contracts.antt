@@ -14,15 +14,15 @@ use Rattle.lists.specs.declared.Items.{Items}
 use Rattle.lists.specs.declared.Listed.{Listed}
 use Rattle.lists.specs.declared.Listed.the-variants.{All, Refused as Broken}
 
-module _ (form : ℕ) (text : List ℕ) (fits : Type 0) (x : Ans Trees) (from : ℕ) (s : Spot) (l m : List ℕ) (r : Listed) (d : ReadsAll form text fits x from s l r m) where
-  pub all-had : (p : Items) → r ≡ All p → fits → HadAll form text x s l p m
+module _ (form ed : ℕ) (text : List ℕ) (fits : Type 0) (x : Ans Trees) (from : ℕ) (s : Spot) (l m : List ℕ) (r : Listed) (d : ReadsAll form ed text fits x from s l r m) where
+  pub all-had : (p : Items) → r ≡ All p → fits → HadAll form ed text x s l p m
   unfolding MeetsAll
-  all-had p e f = subst (λ (y : Listed). MeetsAll form text x s l y m) e (d .meets f)
+  all-had p e f = subst (λ (y : Listed). MeetsAll form ed text x s l y m) e (d .meets f)
 
-  pub all-goes : (p : Items) → r ≡ All p → (from ≤ p .end) × (nextToken text (p .end) ≡ Found (p .next))
+  pub all-goes : (p : Items) → r ≡ All p → (from ≤ p .end) × (nextToken ed text (p .end) ≡ Found (p .next))
   unfolding FollowsAll
-  all-goes p e = subst (λ (y : Listed). FollowsAll text from y) e (d .goes)
+  all-goes p e = subst (λ (y : Listed). FollowsAll ed text from y) e (d .goes)
 
   pub all-not : (q : Refusal) → r ≡ Broken q → fits → Refuses x q
   unfolding MeetsAll
-  all-not q e f = subst (λ (y : Listed). MeetsAll form text x s l y m) e (d .meets f)
+  all-not q e f = subst (λ (y : Listed). MeetsAll form ed text x s l y m) e (d .meets f)

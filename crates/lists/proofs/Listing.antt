@@ -43,23 +43,23 @@ use Rattle.lists.specs.declared.Step.the-variants.{Goes, Last, Closes as
 use Rattle.lists.proofs.Laying.{joined-behind, joined-none, joined-one, listed-behind, count-behind}
 
 -- a token of a text that closes a list, and one that does not
-module _ (text : List ℕ) (close : ℕ) (t : Answer) (fit : Fits text t) where
+module _ (ed : ℕ) (text : List ℕ) (close : ℕ) (t : Answer) (fit : Fits text t) where
   abbrev double : Bool
   double = eqb close Greater && eqb (t .kind) GreaterGreater
 
-  split-at : double ≡ true → split (held text t) ≡ opened text (min (t .start + 1) (t .end))
+  split-at : double ≡ true → split (held ed text t) ≡ opened ed text (min (t .start + 1) (t .end))
   split-at h =
       let k = eqb-true (t .kind) GreaterGreater (and-right (eqb close Greater) (eqb (t .kind) GreaterGreater) h) in
-      past-opened text 1 (t .start) (min (t .start + 1) (t .end)) (omega (arith, k, fit .1))
+      past-opened ed text 1 (t .start) (min (t .start + 1) (t .end)) (omega (arith, k, fit .1))
 
   module _ {B : Type 0} (f : Source → Ans B) (g : Unit {0} → Ans B) where
     Closed : Ending → Type 0
-    Closed (At q) = closed close (held text t) f g ≡ f (opened text q)
-    Closed Not = closed close (held text t) f g ≡ g tt
+    Closed (At q) = closed close (held ed text t) f g ≡ f (opened ed text q)
+    Closed Not = closed close (held ed text t) f g ≡ g tt
 
     closed-by : (b d : Bool) → eqb (t .kind) close ≡ b → double ≡ d → Closed (cond b (At (t .end)) (cond d (At (min (t .start + 1) (t .end))) Not))
     unfolding closed when Closed
-    closed-by true d h i = rw h (ap f (held-after text t fit))
+    closed-by true d h i = rw h (ap f (held-after ed text t fit))
     closed-by false true h i = rw (h, i) (ap f (split-at i))
     closed-by false false h i = rw (h, i)
 
@@ -82,48 +82,48 @@ module _ (text : List ℕ) (close : ℕ) (t : Answer) (fit : Fits text t) where
   unfolding endingAt Ends
   ending-in q h = subst Ends h (ends-by (eqb (t .kind) close) double)
 
-module _ (text : List ℕ) (item : Reader) (close : ℕ) (o : Answer) where
+module _ (ed : ℕ) (text : List ℕ) (item : Reader) (close : ℕ) (o : Answer) where
   -- the list from an item on, with fuel for f items behind it; and behind an item
   abbrev onward : ℕ → ℕ → Ans Trees
-  onward f at = list item close (held text o) (suc f) (lex (opened text at))
+  onward f at = list item close (held ed text o) (suc f) (lex (opened ed text at))
 
   abbrev rest : ℕ → Ans Tree → Ans Trees
   rest f a =
       then a λ x u.
       look (lex u) λ t.
       closed close t (λ v. ok (more x none) v) λ _.
-      when (eqb (t .kind) Comma) (λ _. then (list item close (held text o) f (lex (after t))) λ xs v. ok (more x xs) v) λ _.
-      no (refusedBefore ListNotClosed t (held text o))
+      when (eqb (t .kind) Comma) (λ _. then (list item close (held ed text o) f (lex (after t))) λ xs v. ok (more x xs) v) λ _.
+      no (refusedBefore ListNotClosed t (held ed text o))
 
   -- what the token before an item says
   Turned : ℕ → Turn → Type 0
-  Turned at (Item a) = Next text at a × ((f : ℕ) → onward f at ≡ rest f (item (held text a)))
-  Turned at (Closes q) = (at ≤ q) × (q ≤ length text) × ((f : ℕ) → onward f at ≡ ok none (opened text q))
+  Turned at (Item a) = Next ed text at a × ((f : ℕ) → onward f at ≡ rest f (item (held ed text a)))
+  Turned at (Closes q) = (at ≤ q) × (q ≤ length text) × ((f : ℕ) → onward f at ≡ ok none (opened ed text q))
   Turned at (Faulty r) = (length text ≤ textLimit → at ≤ length text → (f : ℕ) → onward f at ≡ no r)
 
-  module _ (at : ℕ) (t : Answer) (h : nextToken text at ≡ Found t) where
-    abbrev found : Next text at t
-    found = next-found text at t h
+  module _ (at : ℕ) (t : Answer) (h : nextToken ed text at ≡ Found t) where
+    abbrev found : Next ed text at t
+    found = next-found ed text at t h
 
-    onward-found : (f : ℕ) → onward f at ≡ closed close (held text t) (λ u. ok none u) (λ _. when (eqb (t .kind) Comma) (λ _. no (refusedBefore CommaForItem (held text t) (held text t))) λ _. rest f (item (held text t)))
+    onward-found : (f : ℕ) → onward f at ≡ closed close (held ed text t) (λ u. ok none u) (λ _. when (eqb (t .kind) Comma) (λ _. no (refusedBefore CommaForItem (held ed text t) (held ed text t))) λ _. rest f (item (held ed text t)))
     unfolding list look
     onward-found f = rw (found .is)
 
     turned-by : (e : Ending) (b : Bool) → endingAt close t ≡ e → eqb (t .kind) Comma ≡ b → Turned at (beforeItem t e)
     unfolding beforeItem Turned when Closed
     turned-by (At q) b g i =
-        let z = ending-in text close t (found .fits) q g in
-        (omega (arith, found .from, z .0), omega (arith, found .fits .2, z .1), λ f. onward-found f ∙ closed-as text close t (found .fits) _ _ (At q) g)
-    turned-by Not true g i = rw i (λ _ _ f. onward-found f ∙ closed-as text close t (found .fits) _ _ Not g ∙ rw i)
-    turned-by Not false g i = rw i (found, λ f. onward-found f ∙ closed-as text close t (found .fits) _ _ Not g ∙ rw i)
+        let z = ending-in ed text close t (found .fits) q g in
+        (omega (arith, found .from, z .0), omega (arith, found .fits .2, z .1), λ f. onward-found f ∙ closed-as ed text close t (found .fits) _ _ (At q) g)
+    turned-by Not true g i = rw i (λ _ _ f. onward-found f ∙ closed-as ed text close t (found .fits) _ _ Not g ∙ rw i)
+    turned-by Not false g i = rw i (found, λ f. onward-found f ∙ closed-as ed text close t (found .fits) _ _ Not g ∙ rw i)
 
-  turned : (at : ℕ) → Turned at (nextItem close (nextToken text at))
+  turned : (at : ℕ) → Turned at (nextItem close (nextToken ed text at))
   unfolding nextItem Turned list look
-  turned at = go (nextToken text at) refl
+  turned at = go (nextToken ed text at) refl
     where
-      go : (y : Lexed) → nextToken text at ≡ y → Turned at (nextItem close y)
+      go : (y : Lexed) → nextToken ed text at ≡ y → Turned at (nextItem close y)
       go (Found t) h = turned-by at t h (endingAt close t) (eqb (t .kind) Comma) refl refl
-      go (Bad r) h = λ i j f. rw (next-refused text at i j r h)
+      go (Bad r) h = λ i j f. rw (next-refused ed text at i j r h)
 
   -- what the token behind an item says; the item x was laid down from s on
   record Passed (form : ℕ) (x : Ans Tree) (by : ℕ → Tree → Ans Trees) (from : ℕ) (s : Spot) (l : List ℕ) (e : Spot) (q : ℕ) (m : List ℕ) : Type 0 where
@@ -134,10 +134,10 @@ module _ (text : List ℕ) (item : Reader) (close : ℕ) (o : Answer) where
     within : q ≤ length text
 
   abbrev ended : ℕ → ℕ → Tree → Ans Trees
-  ended q f x = ok (more x none) (opened text q)
+  ended q f x = ok (more x none) (opened ed text q)
 
   abbrev goes-on : ℕ → ℕ → Tree → Ans Trees
-  goes-on q f x = then (list item close (held text o) f (lex (opened text q))) (λ xs v. ok (more x xs) v)
+  goes-on q f x = then (list item close (held ed text o) f (lex (opened ed text q))) (λ xs v. ok (more x xs) v)
 
   module _ (form : ℕ) (x : Ans Tree) (from : ℕ) (s : Spot) (l m : List ℕ) where
     Stepped : Step → Type 0
@@ -146,22 +146,22 @@ module _ (text : List ℕ) (item : Reader) (close : ℕ) (o : Answer) where
     Stepped (Shut q) = ⊥
     Stepped (Stopped r) = (f : ℕ) → rest f x ≡ no r
 
-    module _ (what : Tree) (p : Part) (y : x ≡ ok what (opened text (p .end))) (z : Placed l s (laid form what) (p .to) m) (i : from ≤ p .end) (h : nextToken text (p .end) ≡ Found (p .next)) where
-      abbrev behind-it : Next text (p .end) (p .next)
-      behind-it = next-found text (p .end) (p .next) h
+    module _ (what : Tree) (p : Part) (y : x ≡ ok what (opened ed text (p .end))) (z : Placed l s (laid form what) (p .to) m) (i : from ≤ p .end) (h : nextToken ed text (p .end) ≡ Found (p .next)) where
+      abbrev behind-it : Next ed text (p .end) (p .next)
+      behind-it = next-found ed text (p .end) (p .next) h
 
-      rest-found : (f : ℕ) → rest f x ≡ closed close (held text (p .next)) (λ v. ok (more what none) v)
-          (λ _. when (eqb (p .next .kind) Comma) (λ _. then (list item close (held text o) f (lex (after (held text (p .next))))) λ xs v. ok (more what xs) v) λ _. no (refusedBefore ListNotClosed (held text (p .next)) (held text o)))
+      rest-found : (f : ℕ) → rest f x ≡ closed close (held ed text (p .next)) (λ v. ok (more what none) v)
+          (λ _. when (eqb (p .next .kind) Comma) (λ _. then (list item close (held ed text o) f (lex (after (held ed text (p .next))))) λ xs v. ok (more what xs) v) λ _. no (refusedBefore ListNotClosed (held ed text (p .next)) (held ed text o)))
       unfolding then look
       rest-found f = rw (y, behind-it .is)
 
       stepped-by : (e : Ending) (b : Bool) → endingAt close (p .next) ≡ e → eqb (p .next .kind) Comma ≡ b → Stepped (behindItem o (p .to) (p .next) e)
       unfolding behindItem Stepped when Closed
       stepped-by (At q) b g j =
-          let w = ending-in text close (p .next) (behind-it .fits) q g in
+          let w = ending-in ed text close (p .next) (behind-it .fits) q g in
           record {
             what = what;
-            is = λ f. rest-found f ∙ closed-as text close (p .next) (behind-it .fits) _ _ (At q) g;
+            is = λ f. rest-found f ∙ closed-as ed text close (p .next) (behind-it .fits) _ _ (At q) g;
             bytes = z;
             after = omega (arith, i, behind-it .from, w .0);
             within = omega (arith, behind-it .fits .2, w .1);
@@ -171,27 +171,27 @@ module _ (text : List ℕ) (item : Reader) (close : ℕ) (o : Answer) where
           rw j (
             record {
               what = what;
-              is = λ f. rest-found f ∙ closed-as text close (p .next) (behind-it .fits) _ _ Not g ∙ rw (j, held-after text (p .next) (behind-it .fits));
+              is = λ f. rest-found f ∙ closed-as ed text close (p .next) (behind-it .fits) _ _ Not g ∙ rw (j, held-after ed text (p .next) (behind-it .fits));
               bytes = z;
               after = omega (arith, i, behind-it .from, behind-it .fits .1);
               within = behind-it .fits .2;
             },
             omega (arith, i, k, behind-it .from, behind-it .fits .1),
           )
-      stepped-by Not false g j = rw j (λ f. rest-found f ∙ closed-as text close (p .next) (behind-it .fits) _ _ Not g ∙ rw j)
+      stepped-by Not false g j = rw j (λ f. rest-found f ∙ closed-as ed text close (p .next) (behind-it .fits) _ _ Not g ∙ rw j)
 
-    stepped : (fits : Type 0) → fits → (r : Parsed) → Reads form text fits x from s l r m → Stepped (afterItem close o r)
+    stepped : (fits : Type 0) → fits → (r : Parsed) → Reads form ed text fits x from s l r m → Stepped (afterItem close o r)
     unfolding afterItem Stepped
     stepped fits fit (Read p) d =
-        let w = reads-had form text fits x from s l m (Read p) d p refl fit in
-        let v = reads-goes form text fits x from s l m (Read p) d p refl in
+        let w = reads-had form ed text fits x from s l m (Read p) d p refl fit in
+        let v = reads-goes form ed text fits x from s l m (Read p) d p refl in
         stepped-by (w .what) p (w .is) (w .bytes) (v .0) (v .1) (endingAt close (p .next)) (eqb (p .next .kind) Comma) refl refl
-    stepped fits fit (Wrong r) d = λ f. refuses-look x r _ (reads-not form text fits x from s l m (Wrong r) d r refl fit)
+    stepped fits fit (Wrong r) d = λ f. refuses-look x r _ (reads-not form ed text fits x from s l m (Wrong r) d r refl fit)
 
 -- the first token of an item
-pub item-there : (text : List ℕ) (close at : ℕ) (a : Answer) → nextItem close (nextToken text at) ≡ Item a → Next text at a
+pub item-there : (ed : ℕ) (text : List ℕ) (close at : ℕ) (a : Answer) → nextItem close (nextToken ed text at) ≡ Item a → Next ed text at a
 unfolding Turned
-item-there text close at a e = subst (Turned text (λ t. unexpected t) close a at) e (turned text (λ t. unexpected t) close a at) .0
+item-there ed text close at a e = subst (Turned ed text (λ t. unexpected t) close a at) e (turned ed text (λ t. unexpected t) close a at) .0
 
 -- how answers go on
 then-none : (a : Ans Trees) → a ≡ then a (λ ts u. ok (joined none ts) u)
@@ -216,16 +216,16 @@ start-placed l m xs s s₀ r h e w =
     }
 
 -- a step, by what stands before the item
-module _ (form : ℕ) (text : List ℕ) (item : Reader) (close : ℕ) (o : Answer) (first : Bool) (s : Spot) (l : List ℕ) (b : Turn) where
-  pub steps-refused : (x : Refusal) → b ≡ Faulty x → Steps form text item close o first s l b (Stopped x) l
+module _ (form ed : ℕ) (text : List ℕ) (item : Reader) (close : ℕ) (o : Answer) (first : Bool) (s : Spot) (l : List ℕ) (b : Turn) where
+  pub steps-refused : (x : Refusal) → b ≡ Faulty x → Steps form ed text item close o first s l b (Stopped x) l
   unfolding Steps
   steps-refused x e = rw e (refl, refl)
 
-  pub steps-closes : (q : ℕ) → b ≡ Closes q → Steps form text item close o first s l b (Shut q) l
+  pub steps-closes : (q : ℕ) → b ≡ Closes q → Steps form ed text item close o first s l b (Shut q) l
   unfolding Steps
   steps-closes q e = rw e (refl, refl)
 
-  pub steps-item : (a : Answer) (r : Step) (m : List ℕ) → b ≡ Item a → Itemed form text item close o first s l a r m → Steps form text item close o first s l b r m
+  pub steps-item : (a : Answer) (r : Step) (m : List ℕ) → b ≡ Item a → Itemed form ed text item close o first s l a r m → Steps form ed text item close o first s l b r m
   unfolding Steps
   steps-item a r m e d = rw e d
 
@@ -236,16 +236,16 @@ Took (Last e q) = Unit {0}
 Took (Shut q) = ⊥
 Took (Stopped r) = ⊥
 
-module _ (form : ℕ) (text : List ℕ) (item : Reader) (close : ℕ) (o : Answer) where
+module _ (form ed : ℕ) (text : List ℕ) (item : Reader) (close : ℕ) (o : Answer) where
   abbrev whole : Ans Trees
-  whole = listBehind item close (held text o)
+  whole = listBehind item close (held ed text o)
 
   -- the list behind the items that were seen, which stand in the buffer from s₀ on; reading goes on at i
   pub record Going (s₀ : Spot) (l₀ : List ℕ) (i : ℕ) (s : Spot) (count : ℕ) (l : List ℕ) : Type 0 where
     pub seen : Trees
     pub fuel : ℕ
     pub enough : length text ≤ fuel + i
-    pub is : (Fits text o → whole ≡ then (onward text item close o fuel i) (λ ts u. ok (joined seen ts) u))
+    pub is : (Fits text o → whole ≡ then (onward ed text item close o fuel i) (λ ts u. ok (joined seen ts) u))
     pub counts : count ≡ countOf seen
     pub bytes : Placed l₀ s₀ (laidItems form seen) s l
     pub after : o .end ≤ i
@@ -260,9 +260,9 @@ module _ (form : ℕ) (text : List ℕ) (item : Reader) (close : ℕ) (o : Answe
           fuel = length text - o .end;
           enough = omega arith;
           is = λ fit.
-              ap (λ (u : Source). list item close (held text o) (suc (length (u .rest))) (lex u)) (held-after text o fit)
-              ∙ ap (λ (f : ℕ). onward text item close o f (o .end)) (length-drop (o .end) text)
-              ∙ then-none (onward text item close o (length text - o .end) (o .end));
+              ap (λ (u : Source). list item close (held ed text o) (suc (length (u .rest))) (lex u)) (held-after ed text o fit)
+              ∙ ap (λ (f : ℕ). onward ed text item close o f (o .end)) (length-drop (o .end) text)
+              ∙ then-none (onward ed text item close o (length text - o .end) (o .end));
           counts = refl;
           bytes = start-none l₀ s s₀ z;
           after = omega arith;
@@ -270,57 +270,57 @@ module _ (form : ℕ) (text : List ℕ) (item : Reader) (close : ℕ) (o : Answe
         }
 
     -- the list closes before q
-    closes-by : (ts : Trees) (q n : ℕ) (w : Spot) (m : List ℕ) (r : Listed) → (Fits text o → whole ≡ ok ts (opened text q)) → n ≡ countOf ts → Placed l₀ s₀ (laidItems form ts) w m → o .end ≤ q → q ≤ length text
-        → r ≡ closedAt q n w (nextToken text q) → ReadsAll form text (Fits text o) whole (o .end) s l₀ r m
+    closes-by : (ts : Trees) (q n : ℕ) (w : Spot) (m : List ℕ) (r : Listed) → (Fits text o → whole ≡ ok ts (opened ed text q)) → n ≡ countOf ts → Placed l₀ s₀ (laidItems form ts) w m → o .end ≤ q → q ≤ length text
+        → r ≡ closedAt q n w (nextToken ed text q) → ReadsAll form ed text (Fits text o) whole (o .end) s l₀ r m
     unfolding closedAt MeetsAll FollowsAll Refuses
-    closes-by ts q n w m r e c b g i x = subst (λ (y : Listed). ReadsAll form text (Fits text o) whole (o .end) s l₀ y m) (sym x) (go (nextToken text q) refl)
+    closes-by ts q n w m r e c b g i x = subst (λ (y : Listed). ReadsAll form ed text (Fits text o) whole (o .end) s l₀ y m) (sym x) (go (nextToken ed text q) refl)
       where
-        go : (y : Lexed) → nextToken text q ≡ y → ReadsAll form text (Fits text o) whole (o .end) s l₀ (closedAt q n w y) m
+        go : (y : Lexed) → nextToken ed text q ≡ y → ReadsAll form ed text (Fits text o) whole (o .end) s l₀ (closedAt q n w y) m
         go (Found t) v =
             record {
               meets = λ fit. record { what = ts; is = e fit; counts = c; bytes = start-placed l₀ m (laidItems form ts) s s₀ w h z b };
               goes = (g, v);
             }
-        go (Bad u) v = record { meets = λ fit. subst (λ (y : Ans Trees). Refuses y u) (sym (e fit)) (next-refused text q (fit .0) i u v); goes = tt }
+        go (Bad u) v = record { meets = λ fit. subst (λ (y : Ans Trees). Refuses y u) (sym (e fit)) (next-refused ed text q (fit .0) i u v); goes = tt }
 
     -- the list is refused
-    stops-by : (m : List ℕ) (r : Refusal) → (Fits text o → whole ≡ no r) → ReadsAll form text (Fits text o) whole (o .end) s l₀ (Broken r) m
+    stops-by : (m : List ℕ) (r : Refusal) → (Fits text o → whole ≡ no r) → ReadsAll form ed text (Fits text o) whole (o .end) s l₀ (Broken r) m
     unfolding MeetsAll FollowsAll Refuses
     stops-by m r e = record { meets = λ fit. subst (λ (y : Ans Trees). Refuses y r) (sym (e fit)) refl; goes = tt }
 
     module _ (i n : ℕ) (to : Spot) (l : List ℕ) (g : Going s₀ l₀ i to n l) where
       abbrev turn : Turn
-      turn = nextItem close (nextToken text i)
+      turn = nextItem close (nextToken ed text i)
 
-      list-refused : (r : Refusal) → turn ≡ Faulty r → ReadsAll form text (Fits text o) whole (o .end) s l₀ (Broken r) l
+      list-refused : (r : Refusal) → turn ≡ Faulty r → ReadsAll form ed text (Fits text o) whole (o .end) s l₀ (Broken r) l
       unfolding Turned then
       list-refused r e =
-          let d = subst (Turned text item close o i) e (turned text item close o i) in
+          let d = subst (Turned ed text item close o i) e (turned ed text item close o i) in
           stops-by l r (λ fit. g .is fit ∙ rw (d (fit .0) (g .within fit) (g .fuel)))
 
-      list-closes : (q : ℕ) (r : Listed) → turn ≡ Closes q → r ≡ closedAt q n to (nextToken text q) → ReadsAll form text (Fits text o) whole (o .end) s l₀ r l
+      list-closes : (q : ℕ) (r : Listed) → turn ≡ Closes q → r ≡ closedAt q n to (nextToken ed text q) → ReadsAll form ed text (Fits text o) whole (o .end) s l₀ r l
       unfolding Turned then
       list-closes q r e x =
-          let d = subst (Turned text item close o i) e (turned text item close o i) in
+          let d = subst (Turned ed text item close o i) e (turned ed text item close o i) in
           closes-by (g .seen) q n to l r
-          (λ fit. g .is fit ∙ rw (d .2 (g .fuel)) (ap (λ (ts : Trees). ok ts (opened text q)) (joined-none (g .seen))))
+          (λ fit. g .is fit ∙ rw (d .2 (g .fuel)) (ap (λ (ts : Trees). ok ts (opened ed text q)) (joined-none (g .seen))))
           (g .counts) (g .bytes) (omega (arith, g .after, d .0)) (d .1) x
 
       -- an item, which was laid down behind what parts it from the one before it
       module _ (a : Answer) (e : turn ≡ Item a) (p : Spot) (k : List ℕ) (y : Placed l to (cond (eqb n 0) [] (markIn form (bytes ", "))) p k) (t : Parsed) (m : List ℕ)
-          (w : Reads form text (Fits text a) (item (held text a)) (a .end) p k t m) where
-        abbrev item-here : Next text i a
-        item-here = item-there text close i a e
+          (w : Reads form ed text (Fits text a) (item (held ed text a)) (a .end) p k t m) where
+        abbrev item-here : Next ed text i a
+        item-here = item-there ed text close i a e
 
-        item-is : (f : ℕ) → onward text item close o f i ≡ rest text item close o f (item (held text a))
+        item-is : (f : ℕ) → onward ed text item close o f i ≡ rest ed text item close o f (item (held ed text a))
         unfolding Turned
-        item-is = subst (Turned text item close o i) e (turned text item close o i) .1
+        item-is = subst (Turned ed text item close o i) e (turned ed text item close o i) .1
 
         abbrev Done : Step → Type 0
-        Done = Stepped text item close o form (item (held text a)) (a .end) p k m
+        Done = Stepped ed text item close o form (item (held ed text a)) (a .end) p k m
 
         done : Done (afterItem close o t)
-        done = stepped text item close o form (item (held text a)) (a .end) p k m (Fits text a) (item-here .fits) t w
+        done = stepped ed text item close o form (item (held ed text a)) (a .end) p k m (Fits text a) (item-here .fits) t w
 
         -- the items with one more
         one-more : (x : Tree) (v : Spot) → Placed k p (laid form x) v m → Placed l₀ s₀ (laidItems form (behind (g .seen) x)) v m
@@ -335,19 +335,19 @@ module _ (form : ℕ) (text : List ℕ) (item : Reader) (close : ℕ) (o : Answe
         one-count : (x : Tree) (j : ℕ) → j ≡ oneMore n → j ≡ countOf (behind (g .seen) x)
         one-count x j c = c ∙ ap oneMore (g .counts) ∙ sym (count-behind (g .seen) x)
 
-        list-stopped : (r : Refusal) → afterItem close o t ≡ Stopped r → ReadsAll form text (Fits text o) whole (o .end) s l₀ (Broken r) m
+        list-stopped : (r : Refusal) → afterItem close o t ≡ Stopped r → ReadsAll form ed text (Fits text o) whole (o .end) s l₀ (Broken r) m
         unfolding Stepped then
         list-stopped r c =
             let d = subst Done c done in
             stops-by m r (λ fit. g .is fit ∙ rw (item-is (g .fuel) ∙ d (g .fuel)))
 
         module _ (v : Spot) (q j : ℕ) (b : j ≡ oneMore n) where
-          list-last : (r : Listed) → afterItem close o t ≡ Last v q → r ≡ closedAt q j v (nextToken text q) → ReadsAll form text (Fits text o) whole (o .end) s l₀ r m
+          list-last : (r : Listed) → afterItem close o t ≡ Last v q → r ≡ closedAt q j v (nextToken ed text q) → ReadsAll form ed text (Fits text o) whole (o .end) s l₀ r m
           unfolding Stepped then
           list-last r c x =
               let d = subst Done c done in
               closes-by (behind (g .seen) (d .what)) q j v m r
-              (λ fit. g .is fit ∙ rw (item-is (g .fuel) ∙ d .is (g .fuel)) (ap (λ (ts : Trees). ok ts (opened text q)) (joined-one (g .seen) (d .what))))
+              (λ fit. g .is fit ∙ rw (item-is (g .fuel) ∙ d .is (g .fuel)) (ap (λ (ts : Trees). ok ts (opened ed text q)) (joined-one (g .seen) (d .what))))
               (one-count (d .what) j b) (one-more (d .what) v (d .bytes)) (omega (arith, g .after, item-here .from, item-here .fits .1, d .after)) (d .within) x
 
           list-on : afterItem close o t ≡ Goes v q → (i < q) × (q ≤ length text)
@@ -363,8 +363,8 @@ module _ (form : ℕ) (text : List ℕ) (item : Reader) (close : ℕ) (o : Answe
                 seen = behind (g .seen) (d .0 .what);
                 fuel = g .fuel - 1;
                 enough = omega (arith, g .enough, item-here .from, item-here .fits .1, d .1);
-                is = λ fit. g .is fit ∙ rw (item-is (g .fuel) ∙ d .0 .is (g .fuel)) (then-behind (g .seen) (d .0 .what) (list item close (held text o) (g .fuel) (lex (opened text q))))
-                    ∙ ap (λ (x : ℕ). then (list item close (held text o) x (lex (opened text q))) (λ ts u. ok (joined (behind (g .seen) (d .0 .what)) ts) u)) u;
+                is = λ fit. g .is fit ∙ rw (item-is (g .fuel) ∙ d .0 .is (g .fuel)) (then-behind (g .seen) (d .0 .what) (list item close (held ed text o) (g .fuel) (lex (opened ed text q))))
+                    ∙ ap (λ (x : ℕ). then (list item close (held ed text o) x (lex (opened ed text q))) (λ ts u. ok (joined (behind (g .seen) (d .0 .what)) ts) u)) u;
                 counts = one-count (d .0 .what) j b;
                 bytes = one-more (d .0 .what) v (d .0 .bytes);
                 after = omega (arith, g .after, item-here .from, item-here .fits .1, d .1);
@@ -374,37 +374,37 @@ module _ (form : ℕ) (text : List ℕ) (item : Reader) (close : ℕ) (o : Answe
       -- a step, by what it gives
       module _ (c : Step) (m : List ℕ) where
         abbrev Is : Turn → Type 0
-        Is b = Steps form text item close o (eqb n 0) to l b c m
+        Is b = Steps form ed text item close o (eqb n 0) to l b c m
 
-        pub step-stopped : (r : Refusal) → Is turn → c ≡ Stopped r → ReadsAll form text (Fits text o) whole (o .end) s l₀ (Broken r) m
+        pub step-stopped : (r : Refusal) → Is turn → c ≡ Stopped r → ReadsAll form ed text (Fits text o) whole (o .end) s l₀ (Broken r) m
         unfolding Steps
         step-stopped r d e = go turn refl d
           where
-            go : (b : Turn) → turn ≡ b → Is b → ReadsAll form text (Fits text o) whole (o .end) s l₀ (Broken r) m
+            go : (b : Turn) → turn ≡ b → Is b → ReadsAll form ed text (Fits text o) whole (o .end) s l₀ (Broken r) m
             go (Item a) k w = list-stopped a k (w .from) (w .parted) (w .between) (w .part) m (w .reads) r (sym (w .is) ∙ e)
             go (Closes q) k w = let x : Shut q ≡ Stopped r = sym (w .0) ∙ e in let y : _≡_ {A = ℕ} 0 1 = cc in absurd (omega arith)
             go (Faulty x) k w =
                 let y : Stopped x ≡ Stopped r = sym (w .0) ∙ e in
                 let u : x ≡ r = cc in
-                subst (λ (v : List ℕ). ReadsAll form text (Fits text o) whole (o .end) s l₀ (Broken r) v) (sym (w .1)) (list-refused r (k ∙ ap Faulty u))
+                subst (λ (v : List ℕ). ReadsAll form ed text (Fits text o) whole (o .end) s l₀ (Broken r) v) (sym (w .1)) (list-refused r (k ∙ ap Faulty u))
 
-        pub step-closes : (q : ℕ) (r : Listed) → Is turn → c ≡ Shut q → r ≡ closedAt q n to (nextToken text q) → ReadsAll form text (Fits text o) whole (o .end) s l₀ r m
+        pub step-closes : (q : ℕ) (r : Listed) → Is turn → c ≡ Shut q → r ≡ closedAt q n to (nextToken ed text q) → ReadsAll form ed text (Fits text o) whole (o .end) s l₀ r m
         unfolding Steps Stepped
         step-closes q r d e x = go turn refl d
           where
-            go : (b : Turn) → turn ≡ b → Is b → ReadsAll form text (Fits text o) whole (o .end) s l₀ r m
+            go : (b : Turn) → turn ≡ b → Is b → ReadsAll form ed text (Fits text o) whole (o .end) s l₀ r m
             go (Item a) k w = absurd (subst (Done a k (w .from) (w .parted) (w .between) (w .part) m (w .reads)) (sym (w .is) ∙ e) (done a k (w .from) (w .parted) (w .between) (w .part) m (w .reads)))
             go (Closes q₂) k w =
                 let y : Shut q₂ ≡ Shut q = sym (w .0) ∙ e in
                 let u : q₂ ≡ q = cc in
-                subst (λ (v : List ℕ). ReadsAll form text (Fits text o) whole (o .end) s l₀ r v) (sym (w .1)) (list-closes q r (k ∙ ap Closes u) x)
+                subst (λ (v : List ℕ). ReadsAll form ed text (Fits text o) whole (o .end) s l₀ r v) (sym (w .1)) (list-closes q r (k ∙ ap Closes u) x)
             go (Faulty y) k w = let u : Stopped y ≡ Shut q = sym (w .0) ∙ e in let v : _≡_ {A = ℕ} 0 1 = cc in absurd (omega arith)
 
         -- an item was read
         record Had (v : Step) : Type 0 where
           a : Answer
           there : turn ≡ Item a
-          itemed : Itemed form text item close o (eqb n 0) to l a c m
+          itemed : Itemed form ed text item close o (eqb n 0) to l a c m
           same : afterItem close o (itemed .part) ≡ v
 
         had : (v : Step) → Took v → Is turn → c ≡ v → Had v
@@ -417,7 +417,7 @@ module _ (form : ℕ) (text : List ℕ) (item : Reader) (close : ℕ) (o : Answe
             go (Faulty x) k w = absurd (subst Took (sym e ∙ w .0) t)
 
         module _ (v : Spot) (q j : ℕ) (b : j ≡ oneMore n) (d : Is turn) where
-          pub step-last : (r : Listed) → c ≡ Last v q → r ≡ closedAt q j v (nextToken text q) → ReadsAll form text (Fits text o) whole (o .end) s l₀ r m
+          pub step-last : (r : Listed) → c ≡ Last v q → r ≡ closedAt q j v (nextToken ed text q) → ReadsAll form ed text (Fits text o) whole (o .end) s l₀ r m
           unfolding Took
           step-last r e x =
               let y = had (Last v q) tt d e in

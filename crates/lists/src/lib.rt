@@ -90,10 +90,10 @@ fn match_end(close: u8, t: Token) -> Ending
 }
 
 // What stands at an offset where an item is due.
-pub fn next_item(close: u8, text: &[u8], at: usize) -> Turn
-    ensures { λ r. ⌜ r ≡ nextItem close (nextToken (now (text .entry)) at) ⌝ }
+pub fn next_item(edition: u64, close: u8, text: &[u8], at: usize) -> Turn
+    ensures { λ r. ⌜ r ≡ nextItem close (nextToken edition (now (text .entry)) at) ⌝ }
 {
-    let l = tokens::next_token(text, at);
+    let l = tokens::next_token(edition, text, at);
     match l {
         Lexed::Refused(r) => Turn::Refused(r),
         Lexed::Found(t) => {
@@ -161,10 +161,10 @@ pub fn count_more(count: usize) -> usize
 }
 
 // The list that closes before q, with its bytes up to s, and the token that follows.
-pub fn close_list(text: &[u8], q: usize, count: usize, s: Spot) -> Listed
-    ensures { λ r. ⌜ r ≡ closedAt q count s (nextToken (now (text .entry)) q) ⌝ }
+pub fn close_list(edition: u64, text: &[u8], q: usize, count: usize, s: Spot) -> Listed
+    ensures { λ r. ⌜ r ≡ closedAt q count s (nextToken edition (now (text .entry)) q) ⌝ }
 {
-    let l = tokens::next_token(text, q);
+    let l = tokens::next_token(edition, text, q);
     match l {
         Lexed::Refused(r) => Listed::Refused(r),
         Lexed::Found(n) => Listed::All(Items {

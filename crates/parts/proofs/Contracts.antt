@@ -21,65 +21,65 @@ use Rattle.parts.specs.declared.Parsed.the-variants.{Read, Refused}
 use Rattle.parts.specs.code.Meets.{followedBy, Refuses, Had, Meets, Follows, Reads}
 use Rattle.parts.proofs.Held.{next-refused}
 
-module _ (form : ℕ) (text : List ℕ) (fits : Type 0) (x : Ans Tree) (from : ℕ) (s : Spot) (l m : List ℕ) where
+module _ (form ed : ℕ) (text : List ℕ) (fits : Type 0) (x : Ans Tree) (from : ℕ) (s : Spot) (l m : List ℕ) where
   -- it is refused, or the token behind it is
-  pub reads-refused : (r : Refusal) → (fits → Refuses x r) → Reads form text fits x from s l (Refused r) m
+  pub reads-refused : (r : Refusal) → (fits → Refuses x r) → Reads form ed text fits x from s l (Refused r) m
   unfolding Meets Follows
   reads-refused r h = record { meets = h; goes = tt }
 
   -- it is refused
-  pub reads-no : (r : Refusal) → (fits → x ≡ no r) → Reads form text fits x from s l (Refused r) m
+  pub reads-no : (r : Refusal) → (fits → x ≡ no r) → Reads form ed text fits x from s l (Refused r) m
   unfolding Meets Refuses Follows
   reads-no r h = record { meets = λ f. subst (λ (y : Ans Tree). Refuses y r) (sym (h f)) refl; goes = tt }
 
   -- something was read, and the token behind it
-  pub reads-read : (what : Tree) (q : ℕ) (n : Answer) (to : Spot) → from ≤ q → (fits → x ≡ ok what (opened text q)) → nextToken text q ≡ Found n → Placed l s (laid form what) to m
-      → Reads form text fits x from s l (Read (record { to = to; end = q; next = n })) m
+  pub reads-read : (what : Tree) (q : ℕ) (n : Answer) (to : Spot) → from ≤ q → (fits → x ≡ ok what (opened ed text q)) → nextToken ed text q ≡ Found n → Placed l s (laid form what) to m
+      → Reads form ed text fits x from s l (Read (record { to = to; end = q; next = n })) m
   unfolding Meets Follows
   reads-read what q n to h g e b = record { meets = λ f. record { what = what; is = g f; bytes = b }; goes = (h, e) }
 
   -- the same, where only tokens that fit tell what it is
-  pub reads-built : (p : Part) → (fits → Had form text x s l p m) → from ≤ p .end → nextToken text (p .end) ≡ Found (p .next) → Reads form text fits x from s l (Read p) m
+  pub reads-built : (p : Part) → (fits → Had form ed text x s l p m) → from ≤ p .end → nextToken ed text (p .end) ≡ Found (p .next) → Reads form ed text fits x from s l (Read p) m
   unfolding Meets Follows
   reads-built p h i e = record { meets = h; goes = (i, e) }
 
   -- something was read, and the token behind it is read last
-  pub reads-finished : (what : Tree) (q : ℕ) (to : Spot) (r : Parsed) → from ≤ q → (fits → (length text ≤ textLimit) × (q ≤ length text)) → (fits → x ≡ ok what (opened text q)) → Placed l s (laid form what) to m
-      → r ≡ followedBy to q (nextToken text q) → Reads form text fits x from s l r m
+  pub reads-finished : (what : Tree) (q : ℕ) (to : Spot) (r : Parsed) → from ≤ q → (fits → (length text ≤ textLimit) × (q ≤ length text)) → (fits → x ≡ ok what (opened ed text q)) → Placed l s (laid form what) to m
+      → r ≡ followedBy to q (nextToken ed text q) → Reads form ed text fits x from s l r m
   unfolding followedBy Meets Refuses Follows
-  reads-finished what q to r h i g b e = subst (λ (y : Parsed). Reads form text fits x from s l y m) (sym e) (go (nextToken text q) refl)
+  reads-finished what q to r h i g b e = subst (λ (y : Parsed). Reads form ed text fits x from s l y m) (sym e) (go (nextToken ed text q) refl)
     where
-      go : (y : Lexed) → nextToken text q ≡ y → Reads form text fits x from s l (followedBy to q y) m
+      go : (y : Lexed) → nextToken ed text q ≡ y → Reads form ed text fits x from s l (followedBy to q y) m
       go (Found n) z = reads-read what q n to h g z b
-      go (Bad r₂) z = record { meets = λ f. subst (λ (y : Ans Tree). Refuses y r₂) (sym (g f)) (next-refused text q (i f .0) (i f .1) r₂ z); goes = tt }
+      go (Bad r₂) z = record { meets = λ f. subst (λ (y : Ans Tree). Refuses y r₂) (sym (g f)) (next-refused ed text q (i f .0) (i f .1) r₂ z); goes = tt }
 
 -- the contract of another function, handed on
-pub reads-as : (form : ℕ) (text : List ℕ) (fits fits₂ : Type 0) (x x₂ : Ans Tree) (from from₂ : ℕ) (s : Spot) (l m : List ℕ) (r : Parsed) → from ≤ from₂ → (fits → fits₂) → (fits → x ≡ x₂)
-    → Reads form text fits₂ x₂ from₂ s l r m → Reads form text fits x from s l r m
+pub reads-as : (form ed : ℕ) (text : List ℕ) (fits fits₂ : Type 0) (x x₂ : Ans Tree) (from from₂ : ℕ) (s : Spot) (l m : List ℕ) (r : Parsed) → from ≤ from₂ → (fits → fits₂) → (fits → x ≡ x₂)
+    → Reads form ed text fits₂ x₂ from₂ s l r m → Reads form ed text fits x from s l r m
 unfolding Follows
-reads-as form text fits fits₂ x x₂ from from₂ s l m r h g e d =
+reads-as form ed text fits fits₂ x x₂ from from₂ s l m r h g e d =
     record {
-      meets = λ f. subst (λ (y : Ans Tree). Meets form text y s l r m) (sym (e f)) (d .meets (g f));
+      meets = λ f. subst (λ (y : Ans Tree). Meets form ed text y s l r m) (sym (e f)) (d .meets (g f));
       goes = go r (d .goes);
     }
   where
-    go : (r : Parsed) → Follows text from₂ r → Follows text from r
+    go : (r : Parsed) → Follows ed text from₂ r → Follows ed text from r
     go (Read p) z = (omega (arith, h, z .0), z .1)
     go (Refused r₂) z = tt
 
 -- a contract, opened by what the answer is
-module _ (form : ℕ) (text : List ℕ) (fits : Type 0) (x : Ans Tree) (from : ℕ) (s : Spot) (l m : List ℕ) (r : Parsed) (d : Reads form text fits x from s l r m) where
-  pub reads-had : (p : Part) → r ≡ Read p → fits → Had form text x s l p m
+module _ (form ed : ℕ) (text : List ℕ) (fits : Type 0) (x : Ans Tree) (from : ℕ) (s : Spot) (l m : List ℕ) (r : Parsed) (d : Reads form ed text fits x from s l r m) where
+  pub reads-had : (p : Part) → r ≡ Read p → fits → Had form ed text x s l p m
   unfolding Meets
-  reads-had p e f = subst (λ (y : Parsed). Meets form text x s l y m) e (d .meets f)
+  reads-had p e f = subst (λ (y : Parsed). Meets form ed text x s l y m) e (d .meets f)
 
-  pub reads-goes : (p : Part) → r ≡ Read p → (from ≤ p .end) × (nextToken text (p .end) ≡ Found (p .next))
+  pub reads-goes : (p : Part) → r ≡ Read p → (from ≤ p .end) × (nextToken ed text (p .end) ≡ Found (p .next))
   unfolding Follows
-  reads-goes p e = subst (λ (y : Parsed). Follows text from y) e (d .goes)
+  reads-goes p e = subst (λ (y : Parsed). Follows ed text from y) e (d .goes)
 
   pub reads-not : (q : Refusal) → r ≡ Refused q → fits → Refuses x q
   unfolding Meets
-  reads-not q e f = subst (λ (y : Parsed). Meets form text x s l y m) e (d .meets f)
+  reads-not q e f = subst (λ (y : Parsed). Meets form ed text x s l y m) e (d .meets f)
 
 -- a refusal, handed on: what was read was to stand in something else, or the token behind it was to be looked at
 pub refuses-ok : {A B : Type 0} (x : Ans A) (r : Refusal) (g : A → Source → B) → Refuses x r → Refuses (then x (λ y u. ok (g y u) u)) r

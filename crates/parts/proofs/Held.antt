@@ -17,48 +17,48 @@ use Rattle.answers.specs.Reading.{Ans, no, look, leafOf}
 use Rattle.forms.specs.code.Spots.{wordOf}
 use Rattle.parts.specs.code.Meets.{Fits, held}
 
-module _ (text : List ℕ) where
+module _ (ed : ℕ) (text : List ℕ) where
   -- n bytes on
-  pub past-opened : (n p q : ℕ) → p + n ≡ q → past n (opened text p) ≡ opened text q
+  pub past-opened : (n p q : ℕ) → p + n ≡ q → past n (opened ed text p) ≡ opened ed text q
   past-opened n p q h = rw (drop-drop n p text, h)
 
   module _ (a : Answer) (f : Fits text a) where
     held-to : a .start + (a .end - a .start) ≡ a .end
     held-to = omega (arith, f .1)
 
-    pub held-end : end (held text a) ≡ a .end
+    pub held-end : end (held ed text a) ≡ a .end
     held-end = held-to
 
-    pub held-after : after (held text a) ≡ opened text (a .end)
+    pub held-after : after (held ed text a) ≡ opened ed text (a .end)
     held-after = past-opened (a .end - a .start) (a .start) (a .end) held-to
 
-    pub held-leaf : (c : ℕ) → leafOf c (held text a) ≡ leaf c (a .start) (a .end) (wordOf text a)
+    pub held-leaf : (c : ℕ) → leafOf c (held ed text a) ≡ leaf c (a .start) (a .end) (wordOf text a)
     held-leaf c = rw held-to
 
   -- the token that is found at a place
   pub record Next (at : ℕ) (b : Answer) : Type 0 where
     pub fits : Fits text b
     pub from : at ≤ b .start
-    pub is : lex (opened text at) ≡ tok (held text b)
+    pub is : lex (opened ed text at) ≡ tok (held ed text b)
 
   takes-some : (k s n : ℕ) → (0 < k → 0 < n) → s + min 1 k ≤ s + n
   takes-some zero s n f = omega arith
   takes-some (suc k) s n f = let g = f (omega arith) in omega arith
 
   module _ (at : ℕ) (short : length text ≤ textLimit) (inside : at ≤ length text) where
-    token-next : (t : Token) → Standing (opened text at) t → lex (opened text at) ≡ tok t → Next at (tokenOf t)
+    token-next : (t : Token) → Standing (opened ed text at) t → lex (opened ed text at) ≡ tok t → Next at (tokenOf t)
     token-next t d l =
         let h : start t ≡ at + d .gap = ap (λ (u : Source). u .at) (d .here) in
         let w : d .gap + t .len ≤ length text - at = rw length-drop at (d .within) in
         let z : t .len ≡ start t + t .len - start t = omega arith in
-        let y : t .here ≡ opened text (start t) = d .here ∙ past-opened (d .gap) at (start t) (sym h) in
+        let y : t .here ≡ opened ed text (start t) = d .here ∙ past-opened (d .gap) at (start t) (sym h) in
         record {
           fits = (short, takes-some (t .kind) (start t) (t .len) (d .takes), omega arith);
           from = omega arith;
           is = l ∙ ap tok (λ i. record { kind = t .kind; here = y i; len = z i });
         }
 
-    scanned-next : (l : Scanned) → lex (opened text at) ≡ l → Sound (opened text at) l → (b : Answer) → answerOf l ≡ Found b → Next at b
+    scanned-next : (l : Scanned) → lex (opened ed text at) ≡ l → Sound (opened ed text at) l → (b : Answer) → answerOf l ≡ Found b → Next at b
     unfolding answerOf
     scanned-next (tok t) l d b h = let y : tokenOf t ≡ b = cc in subst (Next at) y (token-next t d l)
     scanned-next (bad r) l d b h = let z : _≡_ {A = ℕ} 0 1 = cc in absurd (omega arith)
@@ -68,23 +68,23 @@ module _ (text : List ℕ) where
     scanned-bad (tok t) r h = let z : _≡_ {A = ℕ} 0 1 = cc in absurd (omega arith)
     scanned-bad (bad r₂) r h = let y : r₂ ≡ r = cc in ap bad y
 
-    answer : answerOf (lex (opened text at)) ≡ nextToken text at
-    answer = sym (next-token-same text at ∙ admitted-in Bad text at (answerOf (lex (opened text at))) short inside)
+    answer : answerOf (lex (opened ed text at)) ≡ nextToken ed text at
+    answer = sym (next-token-same ed text at ∙ admitted-in Bad text at (answerOf (lex (opened ed text at))) short inside)
 
-    pub next-refused : (r : Refusal) → nextToken text at ≡ Bad r → lex (opened text at) ≡ bad r
-    next-refused r h = scanned-bad (lex (opened text at)) r (answer ∙ h)
+    pub next-refused : (r : Refusal) → nextToken ed text at ≡ Bad r → lex (opened ed text at) ≡ bad r
+    next-refused r h = scanned-bad (lex (opened ed text at)) r (answer ∙ h)
 
-  pub next-found : (at : ℕ) (b : Answer) → nextToken text at ≡ Found b → Next at b
+  pub next-found : (at : ℕ) (b : Answer) → nextToken ed text at ≡ Found b → Next at b
   next-found at b h =
-      let f = found-fits text at b h in
-      scanned-next at (f .0) (f .1) (lex (opened text at)) refl (lex-sound (opened text at)) b (answer at (f .0) (f .1) ∙ h)
+      let f = found-fits ed text at b h in
+      scanned-next at (f .0) (f .1) (lex (opened ed text at)) refl (lex-sound (opened ed text at)) b (answer at (f .0) (f .1) ∙ h)
 
   -- looking behind a token
   module _ {A : Type 0} (d : Answer) (f : Fits text d) (g : Token → Ans A) where
-    pub look-found : (b : Answer) → nextToken text (d .end) ≡ Found b → look (lex (after (held text d))) g ≡ g (held text b)
+    pub look-found : (b : Answer) → nextToken ed text (d .end) ≡ Found b → look (lex (after (held ed text d))) g ≡ g (held ed text b)
     unfolding look
     look-found b h = rw (held-after d f, next-found (d .end) b h .is)
 
-    pub look-refused : (r : Refusal) → nextToken text (d .end) ≡ Bad r → look (lex (after (held text d))) g ≡ no r
+    pub look-refused : (r : Refusal) → nextToken ed text (d .end) ≡ Bad r → look (lex (after (held ed text d))) g ≡ no r
     unfolding look
     look-refused r h = rw (held-after d f, next-refused (d .end) (f .0) (f .2) r h)

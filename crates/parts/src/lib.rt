@@ -14,9 +14,10 @@ use tokens::refusals::UNEXPECTED_TOKEN;
 // The most levels.
 pub const LEVELS: usize = 64;
 
-// What every function of the walk hands on: the form, and the levels that are left.
+// What every function of the walk hands on: the form, the edition, and the levels that are left.
 pub struct Way {
     pub form: u8,
+    pub edition: u64,
     pub left: usize,
 }
 
@@ -47,10 +48,10 @@ pub fn too_deep(t: Token) -> Parsed
 }
 
 // What ends at `end`, with its bytes up to `to`, and the token that follows it.
-pub fn finish(text: &[u8], end: usize, to: Spot) -> Parsed
-    ensures { λ r. ⌜ r ≡ followedBy to end (nextToken (now (text .entry)) end) ⌝ }
+pub fn finish(edition: u64, text: &[u8], end: usize, to: Spot) -> Parsed
+    ensures { λ r. ⌜ r ≡ followedBy to end (nextToken edition (now (text .entry)) end) ⌝ }
 {
-    let l = tokens::next_token(text, end);
+    let l = tokens::next_token(edition, text, end);
     match l {
         Lexed::Refused(r) => Parsed::Refused(r),
         Lexed::Found(n) => Parsed::Read(Part {

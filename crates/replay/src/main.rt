@@ -1,9 +1,9 @@
 // Replays a stored sample of the Rust's answers (oracle/README.md says how it is made) and counts
 // those that the calls answer otherwise. A line of the sample is one call, single blanks between:
-// - `t` for the token call or `c` for the comment call, the start offset, the result, the six numbers
-//   of the answer and the text;
-// - `r` for the read call or `d` for the display call, the item kind, the start offset, the room
-//   lent, the result, the six numbers, the text and the bytes that must be written: the tree or the
+// - `t` for the token call or `c` for the comment call, the edition, the start offset, the result, the
+//   six numbers of the answer and the text;
+// - `r` for the read call or `d` for the display call, the edition, the item kind, the start offset,
+//   the room lent, the result, the six numbers, the text and the bytes that must be written: the tree or the
 //   display line.
 // Texts and bytes are in hexadecimal, `-` for none.
 ghost use Prim.Native.Nat.{_≤_, _<_};
@@ -149,22 +149,23 @@ fn holds(line: &[u8]) -> bool {
     if is_of_item(line[0]) {
         return item_holds(line);
     }
-    let at = field_at(line, 2);
+    let edition = field_at(line, 2);
+    let at = field_at(line, edition.next);
     let due = expected_at(line, at.next);
     let mut text = [0u8; 128];
     let n = decode(line, due.next, line.len(), &mut text);
-    answers(line[0], &text[..n], at.value as usize, due)
+    answers(line[0], edition.value, &text[..n], at.value as usize, due)
 }
 
 // Whether the call gives this number and these values.
-fn answers(call: u8, text: &[u8], at: usize, due: Expected) -> bool {
+fn answers(call: u8, edition: u64, text: &[u8], at: usize, due: Expected) -> bool {
     let mut answer = [77u64; 6];
     if call == b't' {
-        let r = station::movesig_next_token(text, at, &mut answer);
+        let r = station::movesig_next_token(edition, text, at, &mut answer);
         return as_due(r, &answer, due);
     }
     if call == b'c' {
-        let r = station::movesig_next_comment(text, at, &mut answer);
+        let r = station::movesig_next_comment(edition, text, at, &mut answer);
         return as_due(r, &answer, due);
     }
     false
@@ -182,7 +183,8 @@ fn as_due(r: u32, answer: &[u64; 6], due: Expected) -> bool {
 fn item_holds(line: &[u8]) -> bool
     requires { ⌜ 2 ≤ length (now line) ⌝ }
 {
-    let kind = field_at(line, 2);
+    let edition = field_at(line, 2);
+    let kind = field_at(line, edition.next);
     let at = field_at(line, kind.next);
     let room = field_at(line, at.next);
     let due = expected_at(line, room.next);
@@ -197,6 +199,7 @@ fn item_holds(line: &[u8]) -> bool
     item_answers(
         line[0],
         kind.value,
+        edition.value,
         &text[..n],
         at.value as usize,
         room.value as usize,
@@ -209,6 +212,7 @@ fn item_holds(line: &[u8]) -> bool
 fn item_answers(
     call: u8,
     kind: u64,
+    edition: u64,
     text: &[u8],
     at: usize,
     room: usize,
@@ -221,7 +225,7 @@ fn item_answers(
     let mut out = [0u8; 2048];
     fill(&mut out);
     let mut answer = [77u64; 6];
-    let r = item_result(call, kind, text, at, &mut out[..room], &mut answer);
+    let r = item_result(call, kind, edition, text, at, &mut out[..room], &mut answer);
     if !as_due(r, &answer, due) {
         return false;
     }
@@ -232,15 +236,16 @@ fn item_answers(
 fn item_result(
     call: u8,
     kind: u64,
+    edition: u64,
     text: &[u8],
     at: usize,
     out: &mut [u8],
     answer: &mut [u64; 6],
 ) -> u32 {
     if call == b'd' {
-        return station::movesig_display(kind, text, at, out, answer);
+        return station::movesig_display(kind, edition, text, at, out, answer);
     }
-    station::movesig_read(kind, text, at, out, answer)
+    station::movesig_read(kind, edition, text, at, out, answer)
 }
 
 // The byte that stands at place i of the buffer before a call.
@@ -318,7 +323,7 @@ fn replayed(sample: &[u8]) -> Tally {
 }
 
 fn main() {
-    let mut sample = [0u8; 524288];
+    let mut sample = [0u8; 589824];
     let n = io::read_full(STDIN_FILENO, &mut sample);
     let t = replayed(&sample[..n]);
     io::print_decimal(STDOUT_FILENO, t.lines);

@@ -17,7 +17,7 @@ use Rattle.forms.specs.Line.{isField, isType, kindOfBuild, shown}
 use Rattle.forms.specs.Forms.{FormLine, head, markIn, laid, headed, laidItems}
 use Rattle.forms.proofs.Constructs.{Every as EachKind, laid-field, laid-struct, laid-struct-typed, laid-bind-list, laid-lambda-list}
 use Rattle.roundtrip.proofs.Words.{Stops, extends}
-use Rattle.roundtrip.proofs.Tokens.{Met, met-map, Near, at-once, blank, Word, Spelled, Good}
+use Rattle.roundtrip.proofs.Tokens.{Met, met-map, Editions, Rest, Near, at-once, blank, Word, Spelled, Good}
 use Rattle.roundtrip.proofs.Answers.{Gives, gives, gives-then, gives-look, gives-true, gives-false, gives-when, Every, then-every, look-every, when-every}
 use Rattle.roundtrip.proofs.Marks.{widens, isBar, lparen, lbrace, rbrace, colon, less, bar, Ends, ends}
 use Rattle.roundtrip.proofs.Lists.{All, all-map, rest, join, join-listed, Same, SameAll, structs, Reads, Opens, Begins, opened, Closed, closed-mark, closed-greater, list-reads, behind-sure}
@@ -76,171 +76,172 @@ module _ (s e : ℕ) where
   unfolding laid headed head
   lambda-line xs z = ap (λ (y : List ℕ). y ++ z) (laid-lambda-list FormLine s e xs) ∙ bars-line xs z
 
--- x is a binding, and a field, whose line reads back with n levels left
-record Bound (n : ℕ) (x : Tree) : Type 0 where
-  starts : (z : List ℕ) → Stops clashes (shown x ++ z)
-  reads : Reads (readBind n) (Begins firsts) x
-
-record Fielded (n : ℕ) (x : Tree) : Type 0 where
-  reads : Reads (readField n (readBind n)) (Begins λ k. eqb k Identifier) x
-  marked : isField (kindOfBuild (build x)) ≡ true
-
--- the items of a list of bindings, and of fields
-binds-open : (n close : ℕ) → firsts close ≡ false → (xs : Trees) → All (Bound n) xs → All (Reads (readBind n) (Opens close)) xs
-binds-open n close h = all-map (Bound n) (Reads (readBind n) (Opens close)) λ x d. opened (readBind n) firsts close h refl refl x (d .reads)
-
-fields-open : (n : ℕ) (xs : Trees) → All (Fielded n) xs → All (Reads (readField n (readBind n)) (Opens RBrace)) xs
-fields-open n = all-map (Fielded n) (Reads (readField n (readBind n)) (Opens RBrace)) λ x d. opened (readField n (readBind n)) (λ k. eqb k Identifier) RBrace refl refl refl x (d .reads)
-
 colon-stops : (s : List ℕ) → Stops extends (58 ∷ s)
 unfolding isName isLetter isDigit inRange
 colon-stops s = refl
 
-variable-back : (n : ℕ) (a : Token) → Spelled Identifier (word a) → Bound (suc n) (leafOf RecVariable a)
-unfolding readBind bindOver build
-variable-back n a m = record {
-  starts = λ z. rw (leaf-shown RecVariable a refl) (headed-starts (word a) z (m .0));
-  reads = λ u z d e. met-map (λ b i. (
-    rw (i .kind),
-    gives-true _ _ _ (rw (i .kind))
-        (gives-look _ (e .after (after b) (i .goes)) λ t x. gives-false _ _ _ x (gives _ _ (ap (spelled RecVariable) (i .spelt)) (i .goes))),
-  ))
-      (m .1 u z (rw (leaf-shown RecVariable a refl) at d) (e .stops));
-}
+module _ (es : Editions) where
+  -- x is a binding, and a field, whose line reads back with n levels left
+  record Bound (n : ℕ) (x : Tree) : Type 0 where
+    starts : (z : List ℕ) → Stops clashes (shown x ++ z)
+    reads : Reads es (readBind n) (Begins firsts) x
 
-field-back : (n s e : ℕ) (a : Token) (x : Tree) → Spelled Identifier (word a) → Bound (suc n) x → Fielded (suc n) (node RecField s e (more (leafOf RecName a) (more x none)))
-unfolding readField fieldOver build builds isField kindOfBuild
-field-back n s e a x m h = record {
-  marked = refl;
-  reads = λ u z d g. met-map (λ b i. (
-    rw (i .kind),
-    gives-true _ _ _ (rw (i .kind))
-        (gives-look _ (colon (after b) (32 ∷ (shown x ++ z)) (at-once (i .goes)) (shown x ++ z, refl)) λ t j. gives-true _ _ _ (rw (j .kind))
-        (gives-look _ (h .reads (after t) z (blank (j .goes)) g) λ c k. gives-then _ (k .1) λ y v l w.
-        gives _ _ (ap₂ (λ (p : List ℕ) (q : Build). made RecField (bmore (spelled RecName p) (bmore q bnone))) (i .spelt) l) w)),
-  ))
-      (m .1 u (58 ∷ 32 ∷ (shown x ++ z)) (subst (Near u) (field-line s e a x z) d) (colon-stops (32 ∷ (shown x ++ z))));
-}
+  record Fielded (n : ℕ) (x : Tree) : Type 0 where
+    reads : Reads es (readField n (readBind n)) (Begins λ k. eqb k Identifier) x
+    marked : isField (kindOfBuild (build x)) ≡ true
 
-closed-brace : (z : List ℕ) → Closed RBrace (125 ∷ z) z
-unfolding isName isLetter isDigit inRange
-closed-brace z = closed-mark rbrace refl refl z tt refl refl
+  -- the items of a list of bindings, and of fields
+  binds-open : (n close : ℕ) → firsts close ≡ false → (xs : Trees) → All (Bound n) xs → All (Reads es (readBind n) (Opens close)) xs
+  binds-open n close h = all-map (Bound n) (Reads es (readBind n) (Opens close)) λ x d. opened es (readBind n) firsts close h refl refl x (d .reads)
 
--- structs, over parts with n levels left
-module _ (n : ℕ) where
-  fields-back : (fs : Trees) → All (Fielded n) fs → (z : List ℕ) (t : Token) → Word LBrace (bytes "{") (join fs (125 ∷ z)) t → Gives (SameAll fs) z (fields (readType n) (readField n (readBind n)) t)
-  unfolding fields
-  fields-back fs a z t i = gives-true _ _ _ (rw (i .kind)) (list-reads (readField n (readBind n)) RBrace t refl (125 ∷ z) z (closed-brace z) fs (fields-open n fs a) (at-once (i .goes)))
+  fields-open : (n : ℕ) (xs : Trees) → All (Fielded n) xs → All (Reads es (readField n (readBind n)) (Opens RBrace)) xs
+  fields-open n = all-map (Fielded n) (Reads es (readField n (readBind n)) (Opens RBrace)) λ x d. opened es (readField n (readBind n)) (λ k. eqb k Identifier) RBrace refl refl refl x (d .reads)
 
-  -- a struct named c, whose line goes on with f
-  struct-like : (c x : Tree) (f : List ℕ → List ℕ) → ((z : List ℕ) → shown x ++ z ≡ shown c ++ f z) → Chain c → ((z : List ℕ) → Ends isColons (f z)) → ((z : List ℕ) (v : Source) → v .rest ≡ f z → Met Structs (lex v))
-      → ((b : Token) (y : Tree) → Same c y → (z : List ℕ) (v : Source) → v .rest ≡ f z → Gives (Same x) z (structOver (readType n) (readField n (readBind n)) b y v)) → Bound (suc n) x
-  unfolding readBind bindOver unpacked
-  struct-like c x f l h e g k = record {
-    starts = λ z. rw (l z) (h .starts (f z));
-    reads = λ u z d _. met-map (λ b i. (
-      i .first,
-      let o : Gives (Same x) z (unpacked (readType n) (readField n (readBind n)) b) = gives-then _ (i .back) λ y v j w. k b y j z v w in
-          gives-when _ _ _ (λ q. gives-look _ (i .ahead (g z) q) λ t r. gives-true _ _ _ r o) λ _. o,
+  variable-back : (n : ℕ) (a : Token) → Spelled es Identifier (word a) → Bound (suc n) (leafOf RecVariable a)
+  unfolding readBind bindOver build
+  variable-back n a m = record {
+    starts = λ z. rw (leaf-shown RecVariable a refl) (headed-starts (word a) z (m .0));
+    reads = λ u z d e. met-map (λ b i. (
+      rw (i .kind),
+      gives-true _ _ _ (rw (i .kind))
+          (gives-look _ (e .after (after b) (i .goes)) λ t x. gives-false _ _ _ x (gives _ _ (ap (spelled RecVariable) (i .spelt)) (i .goes))),
     ))
-        (h .reads u (f z) (subst (Near u) (l z) d) (e z));
+        (m .1 u z (rw (leaf-shown RecVariable a refl) at d) (e .stops));
   }
 
-  struct-back : (s e : ℕ) (c : Tree) (fs : Trees) → Chain c → All (Fielded n) fs → Bound (suc n) (node RecStruct s e (more c fs))
-  unfolding structOver build builds isName isLetter isDigit inRange
-  struct-back s e c fs h a =
-      struct-like c (node RecStruct s e (more c fs)) (λ z. 32 ∷ braced fs z) (struct-line s e c fs) h (λ z. ends isColons lbrace (join fs (125 ∷ z)) _ tt refl refl refl λ u. blank)
-      (λ z v i. met-map (λ t j. rw (j .kind)) (lbrace v (join fs (125 ∷ z)) (blank i) tt)) λ b y g z v i.
-      gives-look _ (lbrace v (join fs (125 ∷ z)) (blank i) tt) λ o j. gives-false _ _ _ (rw (j .kind)) (gives-then _ (fields-back fs a z o j) λ ys w k q.
-      gives _ _ (ap₂ (λ (p : Build) (r : Builds). made RecStruct (bmore p r)) g k) q)
+  field-back : (n s e : ℕ) (a : Token) (x : Tree) → Spelled es Identifier (word a) → Bound (suc n) x → Fielded (suc n) (node RecField s e (more (leafOf RecName a) (more x none)))
+  unfolding readField fieldOver build builds isField kindOfBuild
+  field-back n s e a x m h = record {
+    marked = refl;
+    reads = λ u z d g. met-map (λ b i. (
+      rw (i .kind),
+      gives-true _ _ _ (rw (i .kind))
+          (gives-look _ (colon es (after b) (32 ∷ (shown x ++ z)) (at-once (i .goes)) (shown x ++ z, refl)) λ t j. gives-true _ _ _ (rw (j .kind))
+          (gives-look _ (h .reads (after t) z (blank (j .goes)) g) λ c k. gives-then _ (k .1) λ y v l w.
+          gives _ _ (ap₂ (λ (p : List ℕ) (q : Build). made RecField (bmore (spelled RecName p) (bmore q bnone))) (i .spelt) l) w)),
+    ))
+        (m .1 u (58 ∷ 32 ∷ (shown x ++ z)) (subst (Near es u) (field-line s e a x z) d) (colon-stops (32 ∷ (shown x ++ z))));
+  }
 
-  types-opens : (ts : Trees) (y : List ℕ) → All (Typed n) ts → Stops widens (join ts (62 ∷ y))
-  types-opens none y a = refl
-  types-opens (more t ts) y a = angle-opens n t ts (62 ∷ y) a
+  closed-brace : (z : List ℕ) → Closed es RBrace (125 ∷ z) z
+  unfolding isName isLetter isDigit inRange
+  closed-brace z = closed-mark es (rbrace es) refl refl z tt refl refl
 
-  typed-back : (s e : ℕ) (c : Tree) (ts fs : Trees) → Chain c → All (Typed n) ts → All (Fielded n) fs → Bound (suc n) (node RecStructTyped s e (more c (joined ts fs)))
-  unfolding structOver build builds isName isLetter isDigit inRange
-  typed-back s e c ts fs h a b =
-      let y : List ℕ → List ℕ = λ z. 32 ∷ braced fs z in
-      struct-like c (node RecStructTyped s e (more c (joined ts fs))) (withTypes ts fs)
-      (typed-line s e c ts fs (kinds-of isType ts (all-map (Typed n) _ (λ t d. d .noField) ts a)) (kinds-of isField fs (all-map (Fielded n) _ (λ t d. d .marked) fs b))) h
-      (λ z. ends isColons less (join ts (62 ∷ y z)) _ (types-opens ts (y z) a) refl refl refl λ u. at-once)
-      (λ z v i. met-map (λ t j. rw (j .kind)) (less v (join ts (62 ∷ y z)) (at-once i) (types-opens ts (y z) a))) λ o x g z v i.
-      gives-look _ (less v (join ts (62 ∷ y z)) (at-once i) (types-opens ts (y z) a)) λ o j. gives-true _ _ _ (rw (j .kind))
-      (gives-then _ (list-reads (readType n) Greater o refl (62 ∷ y z) (y z) (closed-greater (y z) refl) ts (types-open n Greater (λ v. refl) ts a) (at-once (j .goes))) λ xs w k q.
-      gives-look _ (lbrace w (join fs (125 ∷ z)) (blank q) tt) λ p l. gives-then _ (fields-back fs b z p l) λ ys m r r₂.
-      gives _ _ (ap₂ (λ (v : Build) (w : Builds). made RecStructTyped (bmore v w)) g (joined-same xs ys ts fs k r)) r₂)
+  -- structs, over parts with n levels left
+  module _ (n : ℕ) where
+    fields-back : (fs : Trees) → All (Fielded n) fs → (z : List ℕ) (t : Token) → Word es LBrace (bytes "{") (join fs (125 ∷ z)) t → Gives es (SameAll fs) z (fields (readType n) (readField n (readBind n)) t)
+    unfolding fields
+    fields-back fs a z t i = gives-true _ _ _ (rw (i .kind)) (list-reads es (readField n (readBind n)) RBrace t refl (125 ∷ z) z (closed-brace z) fs (fields-open n fs a) (at-once (i .goes)))
 
--- what reading with n levels left is sure of
-SureBind : ℕ → Type 0
-SureBind n = (a : Token) → Good a → Every (Bound n) (readBind n a)
+    -- a struct named c, whose line goes on with f
+    struct-like : (c x : Tree) (f : List ℕ → List ℕ) → ((z : List ℕ) → shown x ++ z ≡ shown c ++ f z) → Chain es c → ((z : List ℕ) → Ends es isColons (f z)) → ((z : List ℕ) (v : Source) → Rest es v (f z) → Met Structs (lex v))
+        → ((b : Token) (y : Tree) → Same c y → (z : List ℕ) (v : Source) → Rest es v (f z) → Gives es (Same x) z (structOver (readType n) (readField n (readBind n)) b y v)) → Bound (suc n) x
+    unfolding readBind bindOver unpacked
+    struct-like c x f l h e g k = record {
+      starts = λ z. rw (l z) (h .starts (f z));
+      reads = λ u z d _. met-map (λ b i. (
+        i .first,
+        let o : Gives es (Same x) z (unpacked (readType n) (readField n (readBind n)) b) = gives-then _ (i .back) λ y v j w. k b y j z v w in
+            gives-when _ _ _ (λ q. gives-look _ (i .ahead (g z) q) λ t r. gives-true _ _ _ r o) λ _. o,
+      ))
+          (h .reads u (f z) (subst (Near es u) (l z) d) (e z));
+    }
 
-field-sure : (n : ℕ) → SureBind n → (a : Token) → Good a → Every (Fielded n) (readField n (readBind n) a)
-unfolding SureBind readField fieldOver
-field-sure zero ih a g = tt
-field-sure (suc n) ih a g =
-    when-every _ _ _ _
-    (λ c. let i = identifier a g c in
-    look-every _ (after a) _ λ t _. when-every _ _ _ _
-    (λ _. look-every _ (after t) _ λ b h. then-every (Bound (suc n)) _ _ _ (ih b h) λ x u k. field-back n _ _ a x i k)
-    λ _. field-back n _ _ a (leafOf RecVariable a) i (variable-back n a i))
-    λ _. tt
+    struct-back : (s e : ℕ) (c : Tree) (fs : Trees) → Chain es c → All (Fielded n) fs → Bound (suc n) (node RecStruct s e (more c fs))
+    unfolding structOver build builds isName isLetter isDigit inRange
+    struct-back s e c fs h a =
+        struct-like c (node RecStruct s e (more c fs)) (λ z. 32 ∷ braced fs z) (struct-line s e c fs) h (λ z. ends es isColons (lbrace es) (join fs (125 ∷ z)) _ tt refl refl refl λ u. blank)
+        (λ z v i. met-map (λ t j. rw (j .kind)) (lbrace es v (join fs (125 ∷ z)) (blank i) tt)) λ b y g z v i.
+        gives-look _ (lbrace es v (join fs (125 ∷ z)) (blank i) tt) λ o j. gives-false _ _ _ (rw (j .kind)) (gives-then _ (fields-back fs a z o j) λ ys w k q.
+        gives _ _ (ap₂ (λ (p : Build) (r : Builds). made RecStruct (bmore p r)) g k) q)
 
-module _ (n : ℕ) (ih : SureBind n) where
-  fields-sure : (t : Token) → Every (All (Fielded n)) (fields (readType n) (readField n (readBind n)) t)
-  unfolding fields
-  fields-sure t = when-every _ _ _ _ (λ _. behind-sure (readField n (readBind n)) RBrace t (Fielded n) λ a g _. field-sure n ih a g) λ _. tt
+    types-opens : (ts : Trees) (y : List ℕ) → All (Typed es n) ts → Stops widens (join ts (62 ∷ y))
+    types-opens none y a = refl
+    types-opens (more t ts) y a = angle-opens es n t ts (62 ∷ y) a
 
-  unpacked-sure : (a : Token) → Good a → Every (Bound (suc n)) (unpacked (readType n) (readField n (readBind n)) a)
-  unfolding unpacked structOver
-  unpacked-sure a g =
-      then-every Chain _ _ _ (chain-sure a g) λ c u h. look-every _ u _ λ o _.
-      when-every _ _ _ _
-      (λ _. then-every (All (Typed n)) _ _ _ (behind-sure (readType n) Greater o (Typed n) λ b i _. type-sure n b i) λ ts v k. look-every _ v _ λ t _.
-      then-every (All (Fielded n)) _ _ _ (fields-sure t) λ fs w l. typed-back n _ _ c ts fs h k l)
-      λ _. then-every (All (Fielded n)) _ _ _ (fields-sure o) λ fs v k. struct-back n _ _ c fs h k
+    typed-back : (s e : ℕ) (c : Tree) (ts fs : Trees) → Chain es c → All (Typed es n) ts → All (Fielded n) fs → Bound (suc n) (node RecStructTyped s e (more c (joined ts fs)))
+    unfolding structOver build builds isName isLetter isDigit inRange
+    typed-back s e c ts fs h a b =
+        let y : List ℕ → List ℕ = λ z. 32 ∷ braced fs z in
+        struct-like c (node RecStructTyped s e (more c (joined ts fs))) (withTypes ts fs)
+        (typed-line s e c ts fs (kinds-of isType ts (all-map (Typed es n) _ (λ t d. d .noField) ts a)) (kinds-of isField fs (all-map (Fielded n) _ (λ t d. d .marked) fs b))) h
+        (λ z. ends es isColons (less es) (join ts (62 ∷ y z)) _ (types-opens ts (y z) a) refl refl refl λ u. at-once)
+        (λ z v i. met-map (λ t j. rw (j .kind)) (less es v (join ts (62 ∷ y z)) (at-once i) (types-opens ts (y z) a))) λ o x g z v i.
+        gives-look _ (less es v (join ts (62 ∷ y z)) (at-once i) (types-opens ts (y z) a)) λ o j. gives-true _ _ _ (rw (j .kind))
+        (gives-then _ (list-reads es (readType n) Greater o refl (62 ∷ y z) (y z) (closed-greater es (y z) refl) ts (types-open es n Greater (λ v. refl) ts a) (at-once (j .goes))) λ xs w k q.
+        gives-look _ (lbrace es w (join fs (125 ∷ z)) (blank q) tt) λ p l. gives-then _ (fields-back fs b z p l) λ ys m r r₂.
+        gives _ _ (ap₂ (λ (v : Build) (w : Builds). made RecStructTyped (bmore v w)) g (joined-same xs ys ts fs k r)) r₂)
 
-  over-sure : (a : Token) → Good a → Every (Bound (suc n)) (bindOver (readType n) (readField n (readBind n)) a)
-  unfolding bindOver
-  over-sure a g =
-      when-every _ _ _ _
-      (λ c. look-every _ (after a) _ λ t _. when-every _ _ _ _ (λ _. unpacked-sure a g) λ _. variable-back n a (identifier a g c))
-      λ _. unpacked-sure a g
+  -- what reading with n levels left is sure of
+  SureBind : ℕ → Type 0
+  SureBind n = (a : Token) → Good es a → Every es (Bound n) (readBind n a)
 
-bind-sure : (n : ℕ) → SureBind n
-unfolding SureBind readBind
-bind-sure zero a g = tt
-bind-sure (suc n) a g = over-sure n (bind-sure n) a g
+  field-sure : (n : ℕ) → SureBind n → (a : Token) → Good es a → Every es (Fielded n) (readField n (readBind n) a)
+  unfolding SureBind readField fieldOver
+  field-sure zero ih a g = tt
+  field-sure (suc n) ih a g =
+      when-every es _ _ _ _
+      (λ c. let i = identifier es a g c in
+      look-every es _ (after a) (g .0) _ λ t o. when-every es _ _ _ _
+      (λ _. look-every es _ (after t) (o .0) _ λ b h. then-every es (Bound (suc n)) _ _ _ (ih b h) λ x u e k. (e, field-back n _ _ a x i k))
+      λ _. (g .0, field-back n _ _ a (leafOf RecVariable a) i (variable-back n a i)))
+      λ _. tt
 
-binds-sure : (close : ℕ) (o : Token) → Every (All (Bound levels)) (listBehind (readBind levels) close o)
-unfolding SureBind
-binds-sure close o = behind-sure (readBind levels) close o (Bound levels) λ a g _. bind-sure levels a g
+  module _ (n : ℕ) (ih : SureBind n) where
+    fields-sure : (t : Token) → Good es t → Every es (All (Fielded n)) (fields (readType n) (readField n (readBind n)) t)
+    unfolding fields
+    fields-sure t e = when-every es _ _ _ _ (λ _. behind-sure es (readField n (readBind n)) RBrace t (Fielded n) (λ a g _. field-sure n ih a g) (e .0)) λ _. tt
 
--- the two lists
-abbrev pub ListBack : Tree → Type 0
-ListBack x = (u : Source) (z : List ℕ) → Near u (shown x ++ z) → Met (λ (a : Token). Gives (Same x) z (readBindList a)) (lex u)
+    unpacked-sure : (a : Token) → Good es a → Every es (Bound (suc n)) (unpacked (readType n) (readField n (readBind n)) a)
+    unfolding unpacked structOver
+    unpacked-sure a g =
+        then-every es (Chain es) _ _ _ (chain-sure es a g) λ c u e h. look-every es _ u e _ λ o p.
+        when-every es _ _ _ _
+        (λ _. then-every es (All (Typed es n)) _ _ _ (behind-sure es (readType n) Greater o (Typed es n) (λ b i _. type-sure es n b i) (p .0)) λ ts v q k. look-every es _ v q _ λ t r.
+        then-every es (All (Fielded n)) _ _ _ (fields-sure t r) λ fs w j l. (j, typed-back n _ _ c ts fs h k l))
+        λ _. then-every es (All (Fielded n)) _ _ _ (fields-sure o p) λ fs v q k. (q, struct-back n _ _ c fs h k)
 
-list-back : (s e : ℕ) (xs : Trees) → All (Bound levels) xs → ListBack (node RecBindList s e xs)
-unfolding readBindList build
-list-back s e xs h u z d =
-    met-map (λ a i. gives-true _ _ _ (rw (i .kind)) (gives-then _ (list-reads (readBind levels) RParen a refl (41 ∷ z) z (closed-close z) xs (binds-open levels RParen refl xs h) (at-once (i .goes))) λ ys v j k. gives _ _ (ap (made RecBindList) j) k))
-    (lparen u (join xs (41 ∷ z)) (subst (Near u) (list-line s e xs z) d) tt)
+    over-sure : (a : Token) → Good es a → Every es (Bound (suc n)) (bindOver (readType n) (readField n (readBind n)) a)
+    unfolding bindOver
+    over-sure a g =
+        when-every es _ _ _ _
+        (λ c. look-every es _ (after a) (g .0) _ λ t _. when-every es _ _ _ _ (λ _. unpacked-sure a g) λ _. (g .0, variable-back n a (identifier es a g c)))
+        λ _. unpacked-sure a g
 
-pub list-sure : (a : Token) → Good a → Every ListBack (readBindList a)
-unfolding readBindList SureBind
-list-sure a g =
-    when-every _ _ _ _ (λ _. then-every (All (Bound levels)) _ _ _ (binds-sure RParen a) λ xs u h. list-back _ _ xs h)
-    λ _. then-every (Bound levels) _ _ _ (bind-sure levels a g) λ x u h. list-back _ _ (more x none) (h, tt)
+  bind-sure : (n : ℕ) → SureBind n
+  unfolding SureBind readBind
+  bind-sure zero a g = tt
+  bind-sure (suc n) a g = over-sure n (bind-sure n) a g
 
-abbrev pub LambdaBack : Tree → Type 0
-LambdaBack x = (u : Source) (z : List ℕ) → Near u (shown x ++ z) → Stops isBar z → Met (λ (a : Token). Gives (Same x) z (readLambdaList a)) (lex u)
+  binds-sure : (close : ℕ) (o : Token) → Good es o → Every es (All (Bound levels)) (listBehind (readBind levels) close o)
+  unfolding SureBind
+  binds-sure close o e = behind-sure es (readBind levels) close o (Bound levels) (λ a g _. bind-sure levels a g) (e .0)
 
-lambda-back : (s e : ℕ) (xs : Trees) → All (Bound levels) xs → LambdaBack (node RecLambdaBindList s e xs)
-unfolding readLambdaList build
-lambda-back s e xs h u z d g =
-    met-map (λ a i. gives-true _ _ _ (rw (i .kind)) (gives-then _ (list-reads (readBind levels) Pipe a refl (124 ∷ z) z (closed-bar z g) xs (binds-open levels Pipe refl xs h) (inner-near (after a) xs _ (i .goes))) λ ys v j k. gives _ _ (ap (made RecLambdaBindList) j) k))
-    (bar u (inner xs (124 ∷ z)) (subst (Near u) (lambda-line s e xs z) d) (bar-opens (Bound levels) (λ x i. i .starts) xs (124 ∷ z) h))
+  -- the two lists
+  abbrev pub ListBack : Tree → Type 0
+  ListBack x = (u : Source) (z : List ℕ) → Near es u (shown x ++ z) → Met (λ (a : Token). Gives es (Same x) z (readBindList a)) (lex u)
 
-pub lambda-sure : (a : Token) → Every LambdaBack (readLambdaList a)
-unfolding readLambdaList
-lambda-sure a = when-every _ _ _ _ (λ _. then-every (All (Bound levels)) _ _ _ (binds-sure Pipe a) λ xs u h. lambda-back _ _ xs h) λ _. tt
+  list-back : (s e : ℕ) (xs : Trees) → All (Bound levels) xs → ListBack (node RecBindList s e xs)
+  unfolding readBindList build
+  list-back s e xs h u z d =
+      met-map (λ a i. gives-true _ _ _ (rw (i .kind)) (gives-then _ (list-reads es (readBind levels) RParen a refl (41 ∷ z) z (closed-close es z) xs (binds-open levels RParen refl xs h) (at-once (i .goes))) λ ys v j k. gives _ _ (ap (made RecBindList) j) k))
+      (lparen es u (join xs (41 ∷ z)) (subst (Near es u) (list-line s e xs z) d) tt)
+
+  pub list-sure : (a : Token) → Good es a → Every es ListBack (readBindList a)
+  unfolding readBindList SureBind
+  list-sure a g =
+      when-every es _ _ _ _ (λ _. then-every es (All (Bound levels)) _ _ _ (binds-sure RParen a g) λ xs u e h. (e, list-back _ _ xs h))
+      λ _. then-every es (Bound levels) _ _ _ (bind-sure levels a g) λ x u e h. (e, list-back _ _ (more x none) (h, tt))
+
+  abbrev pub LambdaBack : Tree → Type 0
+  LambdaBack x = (u : Source) (z : List ℕ) → Near es u (shown x ++ z) → Stops isBar z → Met (λ (a : Token). Gives es (Same x) z (readLambdaList a)) (lex u)
+
+  lambda-back : (s e : ℕ) (xs : Trees) → All (Bound levels) xs → LambdaBack (node RecLambdaBindList s e xs)
+  unfolding readLambdaList build
+  lambda-back s e xs h u z d g =
+      met-map (λ a i. gives-true _ _ _ (rw (i .kind)) (gives-then _ (list-reads es (readBind levels) Pipe a refl (124 ∷ z) z (closed-bar es z g) xs (binds-open levels Pipe refl xs h) (inner-near es (after a) xs _ (i .goes))) λ ys v j k. gives _ _ (ap (made RecLambdaBindList) j) k))
+      (bar es u (inner xs (124 ∷ z)) (subst (Near es u) (lambda-line s e xs z) d) (bar-opens (Bound levels) (λ x i. i .starts) xs (124 ∷ z) h))
+
+  pub lambda-sure : (a : Token) → Good es a → Every es LambdaBack (readLambdaList a)
+  unfolding readLambdaList
+  lambda-sure a g = when-every es _ _ _ _ (λ _. then-every es (All (Bound levels)) _ _ _ (binds-sure Pipe a g) λ xs u e h. (e, lambda-back _ _ xs h)) λ _. tt

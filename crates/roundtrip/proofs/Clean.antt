@@ -30,6 +30,7 @@ use Rattle.frames.proofs.Faithful.{readRefusals, item-refusals}
 use Rattle.frames.proofs.Words.{item-readable, clean-words, shown-words}
 use Rattle.calls.specs.Calls.{tooLong, roomed, written, unlessSpoiled, unspoiled, read, display, displayBuffer}
 use Rattle.calls.proofs.Room.{roomed-fits}
+use Rattle.roundtrip.proofs.Tokens.{own}
 use Rattle.roundtrip.proofs.Answers.{Gives, gives}
 use Rattle.roundtrip.proofs.Lists.{Same}
 use Rattle.roundtrip.proofs.Round.{reading, item-alone}
@@ -54,56 +55,56 @@ unspoiled-item (item x u) t n e = go (spoiled x) refl e
 unspoiled-item (refused r) t n e = absurd (subst IsItem (sym e) tt)
 
 -- where an item is clean, its line shows
-item-shows : (kind : ℕ) (text : List ℕ) (at : ℕ) (t : Tree) (n : Token) → readItem kind text at ≡ item t n → spoiled t ≡ clean → allOf shows (shown t) ≡ true
-item-shows kind text at t n e c = line-shows t (clean-words t (item-readable kind text at t n e) c)
+item-shows : (kind ed : ℕ) (text : List ℕ) (at : ℕ) (t : Tree) (n : Token) → readItem kind ed text at ≡ item t n → spoiled t ≡ clean → allOf shows (shown t) ≡ true
+item-shows kind ed text at t n e c = line-shows t (clean-words t (item-readable kind ed text at t n e) c)
 
 -- every byte of an accepted display is from 32 to 126
-pub clean-line : (kind : ℕ) (text : List ℕ) (at room : ℕ) (t : Tree) (n : Token) → display kind text at room ≡ item t n → allOf shows (shown t) ≡ true
+pub clean-line : (kind ed : ℕ) (text : List ℕ) (at room : ℕ) (t : Tree) (n : Token) → display kind ed text at room ≡ item t n → allOf shows (shown t) ≡ true
 unfolding display
-clean-line kind text at room t n e =
-    let d = unspoiled-item (readItem kind text at) t n (roomed-fits FormLine room (unspoiled (readItem kind text at)) t n e .0) in
-    item-shows kind text at t n (d .0) (d .1)
+clean-line kind ed text at room t n e =
+    let d = unspoiled-item (readItem kind ed text at) t n (roomed-fits FormLine room (unspoiled (readItem kind ed text at)) t n e .0) in
+    item-shows kind ed text at t n (d .0) (d .1)
 
 -- so are all bytes that a display changes
-pub clean-buffer : (kind : ℕ) (text : List ℕ) (at : ℕ) (out : List ℕ) (k : ℕ) → (getD (displayBuffer kind text at out) k 0 ≡ getD out k 0 → ⊥) → shows (getD (displayBuffer kind text at out) k 0) ≡ true
+pub clean-buffer : (kind ed : ℕ) (text : List ℕ) (at : ℕ) (out : List ℕ) (k : ℕ) → (getD (displayBuffer kind ed text at out) k 0 ≡ getD out k 0 → ⊥) → shows (getD (displayBuffer kind ed text at out) k 0) ≡ true
 unfolding displayBuffer written laid
-clean-buffer kind text at out k h = go (display kind text at (length out)) refl h
+clean-buffer kind ed text at out k h = go (display kind ed text at (length out)) refl h
   where
-    go : (i : Item) → display kind text at (length out) ≡ i → (getD (written FormLine i out) k 0 ≡ getD out k 0 → ⊥) → shows (getD (written FormLine i out) k 0) ≡ true
+    go : (i : Item) → display kind ed text at (length out) ≡ i → (getD (written FormLine i out) k 0 ≡ getD out k 0 → ⊥) → shows (getD (written FormLine i out) k 0) ≡ true
     go (refused r) e g = absurd (g refl)
     go (item t n) e g = at-byte (ltb k (length (shown t))) refl
       where
         at-byte : (b : Bool) → ltb k (length (shown t)) ≡ b → shows (getD (written FormLine (item t n) out) k 0) ≡ true
         at-byte true l =
             let m = ltb-true k (length (shown t)) l in
-            rw (List·getD-append (shown t) (drop (length (shown t)) out) 0 k m) (all-at shows (shown t) k (clean-line kind text at (length out) t n e) m)
+            rw (List·getD-append (shown t) (drop (length (shown t)) out) 0 k m) (all-at shows (shown t) k (clean-line kind ed text at (length out) t n e) m)
         at-byte false l =
             let m = ltb-false k (length (shown t)) l in
             let z : length (shown t) + (k - length (shown t)) ≡ k = omega arith in
             absurd (g (ap (λ (j : ℕ). getD (written FormLine (item t n) out) j 0) (sym z) ∙ getD-append-add (shown t) (drop (length (shown t)) out) (k - length (shown t)) 0 ∙ getD-drop (length (shown t)) out (k - length (shown t)) 0 ∙ ap (λ (j : ℕ). getD out j 0) z))
 
 -- of all that a read gives, what is clean and nothing else has a line of such bytes: 18 refuses no line that could be shown
-shows-again : (kind : ℕ) (t : Tree) (a : Ans Tree) → reading kind (shown t) ≡ a → Gives (Same t) [] a → allOf shows (shown t) ≡ true → spoiled t ≡ clean
-shows-again kind t a e (gives y u b g) h = build-spoiled y t b .0 (words-clean y (shown-words kind (opened (shown t) 0) u y h e))
+shows-again : (kind ed : ℕ) (t : Tree) (a : Ans Tree) → reading ed kind (shown t) ≡ a → Gives (own ed) (Same t) [] a → allOf shows (shown t) ≡ true → spoiled t ≡ clean
+shows-again kind ed t a e (gives y u b g) h = build-spoiled y t b .0 (words-clean y (shown-words kind (opened ed (shown t) 0) u y h e))
 
-pub exactly : (kind : ℕ) (text : List ℕ) (at : ℕ) (t : Tree) (n : Token) → readItem kind text at ≡ item t n → (spoiled t ≡ clean) ↔ (allOf shows (shown t) ≡ true)
-exactly kind text at t n e = (item-shows kind text at t n e, shows-again kind t (reading kind (shown t)) refl (item-alone kind text at t n e .1))
+pub exactly : (kind ed : ℕ) (text : List ℕ) (at : ℕ) (t : Tree) (n : Token) → readItem kind ed text at ≡ item t n → (spoiled t ≡ clean) ↔ (allOf shows (shown t) ≡ true)
+exactly kind ed text at t n e = (item-shows kind ed text at t n e, shows-again kind ed t (reading ed kind (shown t)) refl (item-alone (own ed) kind text at t n e .2))
 
-pub read-exactly : (kind : ℕ) (text : List ℕ) (at room : ℕ) (t : Tree) (n : Token) → read kind text at room ≡ item t n → (spoiled t ≡ clean) ↔ (allOf shows (shown t) ≡ true)
+pub read-exactly : (kind ed : ℕ) (text : List ℕ) (at room : ℕ) (t : Tree) (n : Token) → read kind ed text at room ≡ item t n → (spoiled t ≡ clean) ↔ (allOf shows (shown t) ≡ true)
 unfolding read
-read-exactly kind text at room t n e = exactly kind text at t n (roomed-fits FormStored room (readItem kind text at) t n e .0)
+read-exactly kind ed text at room t n e = exactly kind ed text at t n (roomed-fits FormStored room (readItem kind ed text at) t n e .0)
 
 -- what a display that is refused with 18 at b tells: its read is accepted, room set aside, and b is the first byte of a string of it that
 -- is under 32 or 127
-pub record SpoiledAt (kind : ℕ) (text : List ℕ) (at b : ℕ) : Type 0 where
+pub record SpoiledAt (kind ed : ℕ) (text : List ℕ) (at b : ℕ) : Type 0 where
   pub tree : Tree
   pub next : Token
-  pub isItem : readItem kind text at ≡ item tree next
+  pub isItem : readItem kind ed text at ≡ item tree next
   pub isSpoiled : spoiled tree ≡ some b
 
-module _ (kind : ℕ) (text : List ℕ) (at room : ℕ) where
+module _ (kind ed : ℕ) (text : List ℕ) (at room : ℕ) where
   abbrev pub Refused : ℕ → Type 0
-  Refused b = (r : Refusal) × (display kind text at room ≡ refused r) × (r .number ≡ LineSpoiled) × (r .place .start ≡ b)
+  Refused b = (r : Refusal) × (display kind ed text at room ≡ refused r) × (r .number ≡ LineSpoiled) × (r .place .start ≡ b)
 
   same-refusal : (r q : Refusal) → refused r ≡ refused q → r ≡ q
   same-refusal r q e = ap of e
@@ -112,31 +113,31 @@ module _ (kind : ℕ) (text : List ℕ) (at room : ℕ) where
       of (item x t) = r
       of (refused s) = s
 
-  told : (b : ℕ) → Refused b → SpoiledAt kind text at b
+  told : (b : ℕ) → Refused b → SpoiledAt kind ed text at b
   unfolding display unspoiled unlessSpoiled roomed when among
-  told b d = go (readItem kind text at) refl (d .1)
+  told b d = go (readItem kind ed text at) refl (d .1)
     where
-      room-only : (c : Bool) (t : Tree) (n : Token) → when c (λ _. refused (refusal 4 0 0)) (λ _. item t n) ≡ refused (d .0) → SpoiledAt kind text at b
+      room-only : (c : Bool) (t : Tree) (n : Token) → when c (λ _. refused (refusal 4 0 0)) (λ _. item t n) ≡ refused (d .0) → SpoiledAt kind ed text at b
       room-only true t n h = let z : _≡_ {A = ℕ} 4 18 = ap (λ (r : Refusal). r .number) (same-refusal (refusal 4 0 0) (d .0) h) ∙ d .2 in absurd (omega arith)
       room-only false t n h = absurd (subst IsItem h tt)
 
-      of-item : (t : Tree) (n : Token) → readItem kind text at ≡ item t n → (o : Option ℕ) → spoiled t ≡ o → roomed FormLine room (unlessSpoiled o (item t n)) ≡ refused (d .0) → SpoiledAt kind text at b
+      of-item : (t : Tree) (n : Token) → readItem kind ed text at ≡ item t n → (o : Option ℕ) → spoiled t ≡ o → roomed FormLine room (unlessSpoiled o (item t n)) ≡ refused (d .0) → SpoiledAt kind ed text at b
       of-item t n e clean c h = room-only (tooLong FormLine room (length (laid FormLine t))) t n h
       of-item t n e (some p) c h =
           let z : p ≡ b = ap (λ (r : Refusal). r .place .start) (same-refusal (refusal LineSpoiled p (p + 1)) (d .0) h) ∙ d .3 in
           record { tree = t; next = n; isItem = e; isSpoiled = c ∙ ap some z }
 
-      go : (i : Item) → readItem kind text at ≡ i → roomed FormLine room (unspoiled i) ≡ refused (d .0) → SpoiledAt kind text at b
+      go : (i : Item) → readItem kind ed text at ≡ i → roomed FormLine room (unspoiled i) ≡ refused (d .0) → SpoiledAt kind ed text at b
       go (item t n) e h = of-item t n e (spoiled t) refl h
       go (refused q) e h =
           let z : q .number ≡ 18 = ap (λ (r : Refusal). r .number) (same-refusal q (d .0) h) ∙ d .2 in
-          false-true _ (subst (λ (m : ℕ). among readRefusals m ≡ true) z (item-refusals kind text at q e))
+          false-true _ (subst (λ (m : ℕ). among readRefusals m ≡ true) z (item-refusals kind ed text at q e))
 
   -- its places are (b,b+1) twice
-  pub spoiled-places : (b : ℕ) → SpoiledAt kind text at b → display kind text at room ≡ refused (refusal LineSpoiled b (b + 1))
+  pub spoiled-places : (b : ℕ) → SpoiledAt kind ed text at b → display kind ed text at room ≡ refused (refusal LineSpoiled b (b + 1))
   unfolding display unspoiled unlessSpoiled roomed
   spoiled-places b d = ap (λ (i : Item). roomed FormLine room (unspoiled i)) (d .isItem) ∙ ap (λ (o : Option ℕ). roomed FormLine room (unlessSpoiled o (item (d .tree) (d .next)))) (d .isSpoiled)
 
   -- a display is refused with 18 at b exactly where this holds
-  pub spoiled-exactly : (b : ℕ) → Refused b ↔ SpoiledAt kind text at b
+  pub spoiled-exactly : (b : ℕ) → Refused b ↔ SpoiledAt kind ed text at b
   spoiled-exactly b = (told b, λ d. (refusal LineSpoiled b (b + 1), spoiled-places b d, refl, refl))

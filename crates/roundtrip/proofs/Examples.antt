@@ -9,11 +9,11 @@ use Rattle.gap.specs.Comments.{inside, lineText, lineComment, blockComment, par
 use Rattle.gap.specs.Gap.{gap}
 use Rattle.gap.specs.LineFeed.{holdsLineFeed, lineFeed}
 use Rattle.words.specs.Tables.{keywords, longMarks, doubleMarks, singleMarks, marks}
-use Rattle.words.specs.Search.{same, lookup, kindOf, longest, markOf, frontLen, suffixes, suffixLen}
+use Rattle.words.specs.Search.{same, lookup, kindOf, longest, markOf, frontLen, suffixes1, suffixesOf, suffixLen}
 use Rattle.words.specs.Quote.{endsLine, quoteFrom}
-use Rattle.tokens.specs.Token.{typed, decimal, hexTyped, hexLen, hexNumber, number, stringBy, string, opensString, stringRefusal, name, word, mark, findToken, placed, behindGap, lex as lexFrom}
+use Rattle.tokens.specs.Token.{typed, digitsLen, moreDigits, moreHex, decimalLen, decimal, hexTyped, hexLen, hexNumber, number, stringBy, string, opensString, stringRefusal, name, word, mark, findToken, placed, behindGap, lex as lexFrom}
 use Rattle.tokens.specs.Answers.{tokenNumber, tokenValues}
-use Rattle.tokens.specs.Calls.{admitted, lexed, nextToken, lineFeedBefore, advanced}
+use Rattle.tokens.specs.Calls.{admitted, lexed, nextToken, lineFeedBefore, advanced, admittedIn, tokenCall}
 use Rattle.records.specs.Tree.{build, builds, behind, joined}
 use Rattle.records.specs.Stored.{two, span, header}
 use Rattle.sources.specs.Source.{scanned, lex}
@@ -29,14 +29,18 @@ use Rattle.forms.specs.Spoiled.{spoils, spoiledWord, firstOf, spoiled, spoiledA
 use Rattle.calls.specs.Calls.{limitOf, roomed, written, unlessSpoiled, unspoiled, answeredIn, read as readCall, readBuffer, answered, readNumber, readValues, display as displayCall, displayBuffer, displayed, displayNumber, displayValues}
 use Rattle.roundtrip.specs.Examples.{expected, given, examples}
 
--- the definitions by which a gap and a word are found; a token; an item; its bytes and answer; and what spoils a line
+-- the definitions by which a gap and a word are found; a token; its answer; an item; its bytes and answer; and what spoils a line
 unfoldable scanning : Unit {0}
 unfolding begins inRange isDigit isHex isLetter isName isAscii inLine runLen isSpace isBlank slashes opens closes docLine docBlock inside lineText lineComment blockComment partAt gap holdsLineFeed lineFeed
 scanning = tt
 
 unfoldable lexing : Unit {0}
-unfolding keywords longMarks doubleMarks singleMarks marks same lookup kindOf longest markOf frontLen suffixes suffixLen endsLine quoteFrom typed decimal hexTyped hexLen hexNumber number stringBy string opensString stringRefusal name word mark findToken placed behindGap lexFrom tokenNumber tokenValues admitted lexed nextToken scanned lex lineFeedBefore advanced
+unfolding keywords longMarks doubleMarks singleMarks marks same lookup kindOf longest markOf frontLen suffixes1 suffixesOf suffixLen endsLine quoteFrom typed digitsLen moreDigits moreHex decimalLen decimal hexTyped hexLen hexNumber number stringBy string opensString stringRefusal name word mark findToken placed behindGap lexFrom
 lexing = tt
+
+unfoldable telling : Unit {0}
+unfolding tokenNumber tokenValues admitted lexed nextToken scanned lex lineFeedBefore advanced admittedIn tokenCall
+telling = tt
 
 unfoldable reading : Unit {0}
 unfolding then look when closed list listBehind lastPart thirdPart secondPart chain leafKind leafValue addressValue value bracketed brackets reference function withArguments named typeOver readType fields structOver unpacked bindOver fieldOver readField readBind readBindList readLambdaList readKind followed finished readItem behind joined
@@ -51,5 +55,5 @@ unfolding spoils spoiledWord firstOf spoiled spoiledAll unlessSpoiled unspoiled
 spoiling = tt
 
 pub examples-hold : map given examples ≡ map expected examples
-unfolding given examples scanning lexing reading calling spoiling
+unfolding given examples scanning lexing telling reading calling spoiling
 examples-hold = refl

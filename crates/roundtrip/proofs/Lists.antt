@@ -16,8 +16,8 @@ use Rattle.answers.specs.Reading.{ok, no, then, look, when, closed, refusedBefo
 use Rattle.forms.specs.Line.{shown}
 use Rattle.forms.specs.Forms.{FormLine, markIn, laid, listedRest, laidItems}
 use Rattle.roundtrip.proofs.Words.{Stops, extends, differs}
-use Rattle.roundtrip.proofs.Tokens.{Met, met-map, Near, at-once, blank, near-long, Stands, Good}
-use Rattle.roundtrip.proofs.Answers.{Gives, gives, Shuts, Stays, gives-then, gives-look, gives-true, gives-false, gives-stays, gives-shuts, Every, then-every, look-every, when-every, closed-every}
+use Rattle.roundtrip.proofs.Tokens.{Met, met-map, Editions, Rest, Near, at-once, blank, near-long, Stands, Good}
+use Rattle.roundtrip.proofs.Answers.{Gives, gives, Shuts, Stays, Here, gives-then, gives-look, gives-true, gives-false, gives-stays, gives-shuts, Every, then-every, look-every, when-every, closed-every}
 use Rattle.roundtrip.proofs.Marks.{isEqual, comma, greater, Ends, ends, ends-greater}
 
 abbrev pub All : (Tree → Type 0) → Trees → Type 0
@@ -58,10 +58,6 @@ SameAll ts xs = builds xs ≡ builds ts
 abbrev pub structs : ℕ → Bool
 structs k = eqb k LBrace || eqb k Less || eqb k ColonColon
 
--- the line of x reads back, and F holds of its first token
-abbrev pub Reads : Reader → (Token → Type 0) → Tree → Type 0
-Reads item F x = (u : Source) (z : List ℕ) → Near u (shown x ++ z) → Ends structs z → Met (λ (a : Token). F a × Gives (Same x) z (item a)) (lex u)
-
 -- a token that neither closes a list nor is a comma
 pub record Opens (close : ℕ) (t : Token) : Type 0 where
   pub stays : Stays close t
@@ -71,87 +67,92 @@ pub record Opens (close : ℕ) (t : Token) : Type 0 where
 abbrev pub Begins : (ℕ → Bool) → Token → Type 0
 Begins F t = F (t .kind) ≡ true
 
--- the items of a list, where neither what closes it nor a comma is of the class of tokens that begin them
-pub opened : (item : Reader) (F : ℕ → Bool) (close : ℕ) → F close ≡ false → F GreaterGreater ≡ false → F Comma ≡ false → (x : Tree) → Reads item (Begins F) x → Reads item (Opens close) x
-opened item F close h i j x d u z n e = met-map (λ t g. (opens t (g .0), g .1)) (d u z n e)
-  where
-    opens : (t : Token) → F (t .kind) ≡ true → Opens close t
-    opens t k =
-        record {
-          stays = record { noClose = differs F close (t .kind) h k; noShift = rw (differs F GreaterGreater (t .kind) i k) (and-false (eqb close Greater)) };
-          noComma = differs F Comma (t .kind) j k;
-        }
+module _ (es : Editions) where
+  -- the line of x reads back, and F holds of its first token
+  abbrev pub Reads : Reader → (Token → Type 0) → Tree → Type 0
+  Reads item F x = (u : Source) (z : List ℕ) → Near es u (shown x ++ z) → Ends es structs z → Met (λ (a : Token). F a × Gives es (Same x) z (item a)) (lex u)
 
--- y is a closing mark and z
-pub record Closed (close : ℕ) (y z : List ℕ) : Type 0 where
-  pub isEnd : Ends structs y
-  pub closes : (u : Source) → Near u y → Met (Shuts close z) (lex u)
+  -- the items of a list, where neither what closes it nor a comma is of the class of tokens that begin them
+  pub opened : (item : Reader) (F : ℕ → Bool) (close : ℕ) → F close ≡ false → F GreaterGreater ≡ false → F Comma ≡ false → (x : Tree) → Reads item (Begins F) x → Reads item (Opens close) x
+  opened item F close h i j x d u z n e = met-map (λ t g. (opens t (g .0), g .1)) (d u z n e)
+    where
+      opens : (t : Token) → F (t .kind) ≡ true → Opens close t
+      opens t k =
+          record {
+            stays = record { noClose = differs F close (t .kind) h k; noShift = rw (differs F GreaterGreater (t .kind) i k) (and-false (eqb close Greater)) };
+            noComma = differs F Comma (t .kind) j k;
+          }
 
-pub closed-mark : {S : List ℕ → Type 0} {k : ℕ} {w : List ℕ} → Stands S k w → eqb k k ≡ true → structs k ≡ false → (z : List ℕ) → S z → Stops extends (w ++ z) → Stops isEqual (w ++ z) → Closed k (w ++ z) z
-unfolding closed when
-closed-mark {S} {k} m e h z s i j = record {
-  isEnd = ends structs m z _ s h i j (λ u. at-once);
-  closes = λ u n. met-map (λ t d. record { to = after t; rest = d .goes; shuts = λ f g. rw (d .kind, e) }) (m u z n s);
-}
+  -- y is a closing mark and z
+  pub record Closed (close : ℕ) (y z : List ℕ) : Type 0 where
+    pub isEnd : Ends es structs y
+    pub closes : (u : Source) → Near es u y → Met (Shuts es close z) (lex u)
 
-pub closed-greater : (z : List ℕ) → Stops isEqual z → Closed Greater (62 ∷ z) z
-unfolding closed when
-closed-greater z h = record {
-  isEnd = ends-greater structs refl refl z h;
-  closes = λ u n. greater (Shuts Greater z) u z n h (λ t d. record { to = after t; rest = d .goes; shuts = λ f g. rw (d .kind) }) λ y t e d.
-      record { to = split t; rest = ap (drop 1) (d .here) ∙ sym e; shuts = λ f g. rw (d .kind) };
-}
+  pub closed-mark : {S : List ℕ → Type 0} {k : ℕ} {w : List ℕ} → Stands es S k w → eqb k k ≡ true → structs k ≡ false → (z : List ℕ) → S z → Stops extends (w ++ z) → Stops isEqual (w ++ z) → Closed k (w ++ z) z
+  unfolding closed when
+  closed-mark {S} {k} m e h z s i j = record {
+    isEnd = ends es structs m z _ s h i j (λ u. at-once);
+    closes = λ u n. met-map (λ t d. record { to = after t; rest = d .goes; shuts = λ f g. rw (d .kind, e) }) (m u z n s);
+  }
 
-module _ (item : Reader) (close : ℕ) (o : Token) (commaOpen : eqb Comma close ≡ false) (y z : List ℕ) (cl : Closed close y z) where
-  Back : Trees → Type 0
-  Back ts = (f : ℕ) (u : Source) → Near u (join ts y) → length (join ts y) < f → Gives (SameAll ts) z (list item close o f (lex u))
+  pub closed-greater : (z : List ℕ) → Stops isEqual z → Closed Greater (62 ∷ z) z
+  unfolding closed when
+  closed-greater z h = record {
+    isEnd = ends-greater es structs refl refl z h;
+    closes = λ u n. greater es (Shuts es Greater z) u z n h (λ t d. record { to = after t; rest = d .goes; shuts = λ f g. rw (d .kind) }) λ y t e d.
+        record { to = split t; rest = (d .here .0, ap (drop 1) (d .here .1) ∙ sym e); shuts = λ f g. rw (d .kind) };
+  }
 
-  rest-ends : (ts : Trees) → Ends structs (rest ts y)
-  unfolding isName isLetter isDigit inRange
-  rest-ends none = cl .isEnd
-  rest-ends (more t ts) = ends structs comma _ _ tt refl refl refl (λ u. at-once)
+  module _ (item : Reader) (close : ℕ) (o : Token) (commaOpen : eqb Comma close ≡ false) (y z : List ℕ) (cl : Closed close y z) where
+    Back : Trees → Type 0
+    Back ts = (f : ℕ) (u : Source) → Near es u (join ts y) → length (join ts y) < f → Gives es (SameAll ts) z (list item close o f (lex u))
 
-  comma-stays : (t : Token) → t .kind ≡ Comma → Stays close t
-  comma-stays t e = record { noClose = rw (e, commaOpen); noShift = rw e (and-false (eqb close Greater)) }
+    rest-ends : (ts : Trees) → Ends es structs (rest ts y)
+    unfolding isName isLetter isDigit inRange
+    rest-ends none = cl .isEnd
+    rest-ends (more t ts) = ends es structs (comma es) _ _ tt refl refl refl (λ u. at-once)
 
-  -- what follows an item
-  after-back : (x t : Tree) → build x ≡ build t → (ts : Trees) → Back ts → (f : ℕ) → length (rest ts y) ≤ f → (u : Source) → u .rest ≡ rest ts y
-      → Gives (SameAll (more t ts)) z (look (lex u) λ a. closed close a (λ v. ok (more x none) v) λ _. when (eqb (a .kind) Comma) (λ _. then (list item close o f (lex (after a))) λ xs v. ok (more x xs) v) λ _. no (refusedBefore ListNotClosed a o))
-  unfolding Back builds
-  after-back x t e none ih f h u i = gives-look _ (cl .closes u (at-once i)) λ a s. gives-shuts _ _ s (gives _ _ (ap (λ b. bmore b (builds none)) e) (s .rest))
-  after-back x t e (more t₂ ts) ih f h u i =
-      gives-look _ (comma u _ (at-once i) tt) λ a d. gives-stays close a _ _ (comma-stays a (d .kind)) (gives-true _ _ _ (rw (d .kind))
-      (gives-then _ (ih f (after a) (blank (d .goes)) (omega arith)) λ xs v g j. gives _ _ (ap₂ bmore e g) j))
+    comma-stays : (t : Token) → t .kind ≡ Comma → Stays close t
+    comma-stays t e = record { noClose = rw (e, commaOpen); noShift = rw e (and-false (eqb close Greater)) }
 
-  list-back : (ts : Trees) → All (Reads item (Opens close)) ts → Back ts
-  unfolding Back list builds
-  list-back none a zero u n h = absurd (omega arith)
-  list-back none a (suc f) u n h = gives-look _ (cl .closes u n) λ t s. gives-shuts _ _ s (gives none _ refl (s .rest))
-  list-back (more t ts) a zero u n h = absurd (omega arith)
-  list-back (more t ts) a (suc f) u n h =
-      gives-look _ (a .0 u (rest ts y) n (rest-ends ts)) λ b d.
-      gives-stays close b _ _ (d .0 .stays) (gives-false _ _ _ (d .0 .noComma)
-      (gives-then _ (d .1) λ x v e i. after-back x t e ts (list-back ts (a .1)) f (omega (arith, length-append (shown t) (rest ts y))) v i))
+    -- what follows an item
+    after-back : (x t : Tree) → build x ≡ build t → (ts : Trees) → Back ts → (f : ℕ) → length (rest ts y) ≤ f → (u : Source) → Rest es u (rest ts y)
+        → Gives es (SameAll (more t ts)) z (look (lex u) λ a. closed close a (λ v. ok (more x none) v) λ _. when (eqb (a .kind) Comma) (λ _. then (list item close o f (lex (after a))) λ xs v. ok (more x xs) v) λ _. no (refusedBefore ListNotClosed a o))
+    unfolding Back builds
+    after-back x t e none ih f h u i = gives-look _ (cl .closes u (at-once i)) λ a s. gives-shuts _ _ s (gives _ _ (ap (λ b. bmore b (builds none)) e) (s .rest))
+    after-back x t e (more t₂ ts) ih f h u i =
+        gives-look _ (comma es u _ (at-once i) tt) λ a d. gives-stays close a _ _ (comma-stays a (d .kind)) (gives-true _ _ _ (rw (d .kind))
+        (gives-then _ (ih f (after a) (blank (d .goes)) (omega arith)) λ xs v g j. gives _ _ (ap₂ bmore e g) j))
 
-  -- the list behind its opening mark
-  pub list-reads : (ts : Trees) → All (Reads item (Opens close)) ts → Near (after o) (join ts y) → Gives (SameAll ts) z (listBehind item close o)
-  unfolding Back listBehind
-  list-reads ts a n = list-back ts a (suc (length (after o .rest))) (after o) n (omega (arith, near-long n))
+    list-back : (ts : Trees) → All (Reads item (Opens close)) ts → Back ts
+    unfolding Back list builds
+    list-back none a zero u n h = absurd (omega arith)
+    list-back none a (suc f) u n h = gives-look _ (cl .closes u n) λ t s. gives-shuts _ _ s (gives none _ refl (s .rest))
+    list-back (more t ts) a zero u n h = absurd (omega arith)
+    list-back (more t ts) a (suc f) u n h =
+        gives-look _ (a .0 u (rest ts y) n (rest-ends ts)) λ b d.
+        gives-stays close b _ _ (d .0 .stays) (gives-false _ _ _ (d .0 .noComma)
+        (gives-then _ (d .1) λ x v e i. after-back x t e ts (list-back ts (a .1)) f (omega (arith, length-append (shown t) (rest ts y))) v i))
 
--- what is sure of each item is sure of all
-module _ (item : Reader) (close : ℕ) (o : Token) (P : Tree → Type 0) (one : (t : Token) → Good t → eqb (t .kind) close ≡ false → Every P (item t)) where
-  list-sure : (f : ℕ) (u : Source) → Every (All P) (list item close o f (lex u))
-  unfolding list
-  list-sure zero u = tt
-  list-sure (suc f) u =
-      look-every _ u _ λ t g.
-      closed-every _ close t _ _ (λ v. tt) λ x.
-      when-every _ _ _ _ (λ c. tt) λ c.
-      then-every P _ _ _ (one t g x) λ a v h.
-      look-every _ v _ λ t₂ g₂.
-      closed-every _ close t₂ _ _ (λ w. (h, tt)) λ x₂.
-      when-every _ _ _ _ (λ c₂. then-every (All P) _ _ _ (list-sure f (after t₂)) λ ts w i. (h, i)) λ c₂. tt
+    -- the list behind its opening mark
+    pub list-reads : (ts : Trees) → All (Reads item (Opens close)) ts → Near es (after o) (join ts y) → Gives es (SameAll ts) z (listBehind item close o)
+    unfolding Back listBehind
+    list-reads ts a n = list-back ts a (suc (length (after o .rest))) (after o) n (omega (arith, near-long n))
 
-  pub behind-sure : Every (All P) (listBehind item close o)
-  unfolding listBehind
-  behind-sure = list-sure (suc (length (after o .rest))) (after o)
+  -- what is sure of each item is sure of all
+  module _ (item : Reader) (close : ℕ) (o : Token) (P : Tree → Type 0) (one : (t : Token) → Good es t → eqb (t .kind) close ≡ false → Every es P (item t)) where
+    list-sure : (f : ℕ) (u : Source) → Here es u → Every es (All P) (list item close o f (lex u))
+    unfolding list
+    list-sure zero u e = tt
+    list-sure (suc f) u e =
+        look-every es _ u e _ λ t g.
+        closed-every es _ close t g _ _ (λ v q. (q, tt)) λ x.
+        when-every es _ _ _ _ (λ c. tt) λ c.
+        then-every es P _ _ _ (one t g x) λ a v q h.
+        look-every es _ v q _ λ t₂ g₂.
+        closed-every es _ close t₂ g₂ _ _ (λ w r. (r, (h, tt))) λ x₂.
+        when-every es _ _ _ _ (λ c₂. then-every es (All P) _ _ _ (list-sure f (after t₂) (g₂ .0)) λ ts w r i. (r, (h, i))) λ c₂. tt
+
+    pub behind-sure : Here es (after o) → Every es (All P) (listBehind item close o)
+    unfolding listBehind
+    behind-sure e = list-sure (suc (length (after o .rest))) (after o) e

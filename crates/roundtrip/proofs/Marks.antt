@@ -17,7 +17,7 @@ use Rattle.words.specs.Kinds.{EOF, Amp, AmpMut, LParen, RParen, Comma, Colon, C
 use Rattle.tokens.specs.Token.{mark, findToken, tok as found, placed, behindGap, lex as lexFrom}
 use Rattle.sources.specs.Source.{Source, Token, after, lex}
 use Rattle.roundtrip.proofs.Words.{Stops, extends}
-use Rattle.roundtrip.proofs.Tokens.{Met, met-map, Near, at-once, blank, Word, Stands, stands}
+use Rattle.roundtrip.proofs.Tokens.{Met, met-map, Editions, Rest, Near, at-once, Word, Stands, stands}
 
 -- the definitions by which a mark is found
 unfoldable pub lexer : Unit {0}
@@ -40,104 +40,106 @@ isBar b = eqb b 124
 abbrev pub isEqual : ℕ → Bool
 isEqual b = eqb b 61
 
-pub eof : Stands (λ z. z ≡ []) EOF []
-unfolding lexer
-eof = stands (λ z. z ≡ []) EOF [] λ z s. rw s
-
-pub comma : Stands Always Comma (bytes ",")
-unfolding lexer
-comma = stands Always Comma (bytes ",") λ z s. refl
-
-pub lparen : Stands Always LParen (bytes "(")
-unfolding lexer
-lparen = stands Always LParen (bytes "(") λ z s. refl
-
-pub rparen : Stands Always RParen (bytes ")")
-unfolding lexer
-rparen = stands Always RParen (bytes ")") λ z s. refl
-
-pub lbrace : Stands Always LBrace (bytes "{")
-unfolding lexer
-lbrace = stands Always LBrace (bytes "{") λ z s. refl
-
-pub rbrace : Stands Always RBrace (bytes "}")
-unfolding lexer
-rbrace = stands Always RBrace (bytes "}") λ z s. refl
-
-pub at-sign : Stands Always AtSign (bytes "@")
-unfolding lexer
-at-sign = stands Always AtSign (bytes "@") λ z s. refl
-
-pub colons : Stands Always ColonColon (bytes "::")
-unfolding lexer
-colons = stands Always ColonColon (bytes "::") λ z s. refl
-
-pub colon : Stands Blank Colon (bytes ":")
-unfolding lexer
-colon = stands Blank Colon (bytes ":") λ z s. rw (s .1) refl
-
-pub amp : Stands Blank Amp (bytes "&")
-unfolding lexer
-amp = stands Blank Amp (bytes "&") λ z s. rw (s .1) refl
-
-pub amp-mut : Stands Always AmpMut (bytes "&mut ")
-unfolding lexer
-amp-mut = stands Always AmpMut (bytes "&mut ") λ z s. refl
-
-less-from : (z : List ℕ) → Stops widens z → lexFrom 0 (60 ∷ z) ≡ found Less 0 1 (60 ∷ []) z
-unfolding lexer
-less-from [] s = refl
-less-from (b ∷ z) s = rw (or-left (eqb b 60) (eqb b 61) s, or-right (eqb b 60) (eqb b 61) s)
-
-pub less : Stands (Stops widens) Less (bytes "<")
-less = stands (Stops widens) Less (bytes "<") less-from
-
-bar-from : (z : List ℕ) → Stops isBar z → lexFrom 0 (124 ∷ z) ≡ found Pipe 0 1 (124 ∷ []) z
-unfolding lexer
-bar-from [] s = refl
-bar-from (b ∷ z) s = rw s
-
-pub bar : Stands (Stops isBar) Pipe (bytes "|")
-bar = stands (Stops isBar) Pipe (bytes "|") bar-from
-
--- `>` or `>>`, by what is behind it
+-- what makes a longer mark of `>`
 abbrev lengthens : ℕ → Bool
 lengthens b = eqb b 61 || eqb b 62
 
-greater-from : (z : List ℕ) → Stops lengthens z → lexFrom 0 (62 ∷ z) ≡ found Greater 0 1 (62 ∷ []) z
-unfolding lexer
-greater-from [] s = refl
-greater-from (b ∷ z) s = rw (or-left (eqb b 61) (eqb b 62) s, or-right (eqb b 61) (eqb b 62) s)
+module _ (es : Editions) where
+  pub eof : Stands es (λ z. z ≡ []) EOF []
+  unfolding lexer
+  eof = stands es (λ z. z ≡ []) EOF [] λ z s. rw s
 
-shift : Stands Always GreaterGreater (bytes ">>")
-unfolding lexer
-shift = stands Always GreaterGreater (bytes ">>") λ z s. refl
+  pub comma : Stands es Always Comma (bytes ",")
+  unfolding lexer
+  comma = stands es Always Comma (bytes ",") λ z s. refl
 
-pub greater : (P : Token → Type 0) (u : Source) (z : List ℕ) → Near u (62 ∷ z) → Stops isEqual z → ((t : Token) → Word Greater (bytes ">") z t → P t)
-    → ((y : List ℕ) (t : Token) → z ≡ 62 ∷ y → Word GreaterGreater (bytes ">>") y t → P t) → Met P (lex u)
-greater P u [] n s f g = met-map f (stands (Stops lengthens) Greater (bytes ">") greater-from u [] n tt)
-greater P u (b ∷ z) n s f g = go (eqb b 62) refl
-  where
-    go : (c : Bool) → eqb b 62 ≡ c → Met P (lex u)
-    go true e =
-        let d : b ≡ 62 = eqb-true b 62 e in
-        met-map (λ t. g z t (ap (λ (a : ℕ). a ∷ z) d)) (shift u z (subst (λ (a : ℕ). Near u (62 ∷ a ∷ z)) d n) tt)
-    go false e = met-map f (stands (Stops lengthens) Greater (bytes ">") greater-from u (b ∷ z) n (rw (s, e)))
+  pub lparen : Stands es Always LParen (bytes "(")
+  unfolding lexer
+  lparen = stands es Always LParen (bytes "(") λ z s. refl
+
+  pub rparen : Stands es Always RParen (bytes ")")
+  unfolding lexer
+  rparen = stands es Always RParen (bytes ")") λ z s. refl
+
+  pub lbrace : Stands es Always LBrace (bytes "{")
+  unfolding lexer
+  lbrace = stands es Always LBrace (bytes "{") λ z s. refl
+
+  pub rbrace : Stands es Always RBrace (bytes "}")
+  unfolding lexer
+  rbrace = stands es Always RBrace (bytes "}") λ z s. refl
+
+  pub at-sign : Stands es Always AtSign (bytes "@")
+  unfolding lexer
+  at-sign = stands es Always AtSign (bytes "@") λ z s. refl
+
+  pub colons : Stands es Always ColonColon (bytes "::")
+  unfolding lexer
+  colons = stands es Always ColonColon (bytes "::") λ z s. refl
+
+  pub colon : Stands es Blank Colon (bytes ":")
+  unfolding lexer
+  colon = stands es Blank Colon (bytes ":") λ z s. rw (s .1) refl
+
+  pub amp : Stands es Blank Amp (bytes "&")
+  unfolding lexer
+  amp = stands es Blank Amp (bytes "&") λ z s. rw (s .1) refl
+
+  pub amp-mut : Stands es Always AmpMut (bytes "&mut ")
+  unfolding lexer
+  amp-mut = stands es Always AmpMut (bytes "&mut ") λ z s. refl
+
+  less-from : (z : List ℕ) → Stops widens z → lexFrom (es .back) 0 (60 ∷ z) ≡ found Less 0 1 (60 ∷ []) z
+  unfolding lexer
+  less-from [] s = refl
+  less-from (b ∷ z) s = rw (or-left (eqb b 60) (eqb b 61) s, or-right (eqb b 60) (eqb b 61) s)
+
+  pub less : Stands es (Stops widens) Less (bytes "<")
+  less = stands es (Stops widens) Less (bytes "<") less-from
+
+  bar-from : (z : List ℕ) → Stops isBar z → lexFrom (es .back) 0 (124 ∷ z) ≡ found Pipe 0 1 (124 ∷ []) z
+  unfolding lexer
+  bar-from [] s = refl
+  bar-from (b ∷ z) s = rw s
+
+  pub bar : Stands es (Stops isBar) Pipe (bytes "|")
+  bar = stands es (Stops isBar) Pipe (bytes "|") bar-from
+
+  -- `>` or `>>`, by what is behind it
+  greater-from : (z : List ℕ) → Stops lengthens z → lexFrom (es .back) 0 (62 ∷ z) ≡ found Greater 0 1 (62 ∷ []) z
+  unfolding lexer
+  greater-from [] s = refl
+  greater-from (b ∷ z) s = rw (or-left (eqb b 61) (eqb b 62) s, or-right (eqb b 61) (eqb b 62) s)
+
+  shift : Stands es Always GreaterGreater (bytes ">>")
+  unfolding lexer
+  shift = stands es Always GreaterGreater (bytes ">>") λ z s. refl
+
+  pub greater : (P : Token → Type 0) (u : Source) (z : List ℕ) → Near es u (62 ∷ z) → Stops isEqual z → ((t : Token) → Word es Greater (bytes ">") z t → P t)
+      → ((y : List ℕ) (t : Token) → z ≡ 62 ∷ y → Word es GreaterGreater (bytes ">>") y t → P t) → Met P (lex u)
+  greater P u [] n s f g = met-map f (stands es (Stops lengthens) Greater (bytes ">") greater-from u [] n tt)
+  greater P u (b ∷ z) n s f g = go (eqb b 62) refl
+    where
+      go : (c : Bool) → eqb b 62 ≡ c → Met P (lex u)
+      go true e =
+          let d : b ≡ 62 = eqb-true b 62 e in
+          met-map (λ t. g z t (ap (λ (a : ℕ). a ∷ z) d)) (shift u z (subst (λ (a : ℕ). Near es u (62 ∷ a ∷ z)) d n) tt)
+      go false e = met-map f (stands es (Stops lengthens) Greater (bytes ">") greater-from u (b ∷ z) n (rw (s, e)))
 
 -- what ends an item: no byte that goes on with its last word or with a closing `>`, and behind it no token that goes on with the item
-pub record Ends (f : ℕ → Bool) (z : List ℕ) : Type 0 where
+pub record Ends (es : Editions) (f : ℕ → Bool) (z : List ℕ) : Type 0 where
   pub stops : Stops extends z
   pub noEqual : Stops isEqual z
-  pub after : (u : Source) → u .rest ≡ z → Met (λ (t : Token). f (t .kind) ≡ false) (lex u)
+  pub after : (u : Source) → Rest es u z → Met (λ (t : Token). f (t .kind) ≡ false) (lex u)
 
-module _ (f : ℕ → Bool) where
-  other-kind : {k : ℕ} {w z : List ℕ} → f k ≡ false → (t : Token) → Word k w z t → f (t .kind) ≡ false
+module _ (es : Editions) (f : ℕ → Bool) where
+  other-kind : {k : ℕ} {w z : List ℕ} → f k ≡ false → (t : Token) → Word es k w z t → f (t .kind) ≡ false
   other-kind h t i = ap f (i .kind) ∙ h
 
   -- a mark that does not go on, at once or behind a blank
-  pub ends : {S : List ℕ → Type 0} {k : ℕ} {w : List ℕ} → Stands S k w → (y z : List ℕ) → S y → f k ≡ false → Stops extends z → Stops isEqual z → ((u : Source) → u .rest ≡ z → Near u (w ++ y)) → Ends f z
+  pub ends : {S : List ℕ → Type 0} {k : ℕ} {w : List ℕ} → Stands es S k w → (y z : List ℕ) → S y → f k ≡ false → Stops extends z → Stops isEqual z → ((u : Source) → Rest es u z → Near es u (w ++ y)) → Ends es f z
   ends m y z s h i j n = record { stops = i; noEqual = j; after = λ u e. met-map (other-kind h) (m u y (n u e) s) }
 
-  pub ends-greater : f Greater ≡ false → f GreaterGreater ≡ false → (z : List ℕ) → Stops isEqual z → Ends f (62 ∷ z)
+  pub ends-greater : f Greater ≡ false → f GreaterGreater ≡ false → (z : List ℕ) → Stops isEqual z → Ends es f (62 ∷ z)
   unfolding isName isLetter isDigit inRange
-  ends-greater h i z s = record { stops = refl; noEqual = refl; after = λ u e. greater _ u z (at-once e) s (other-kind h) λ y t d. other-kind i t }
+  ends-greater h i z s = record { stops = refl; noEqual = refl; after = λ u e. greater es _ u z (at-once e) s (other-kind h) λ y t d. other-kind i t }

@@ -21,7 +21,7 @@ use Rattle.forms.specs.Forms.{FormLine, head, markIn, spelt, laid, headed}
 use Rattle.forms.proofs.Constructs.{laid-leaf, laid-two, laid-three, laid-pair, laid-address}
 use Rattle.roundtrip.specs.Arguments.{Bracketed, BracketedAll}
 use Rattle.roundtrip.proofs.Words.{Stops, extends, differs, Headed, wordy}
-use Rattle.roundtrip.proofs.Tokens.{Met, met-map, Near, at-once, Spelled, Good}
+use Rattle.roundtrip.proofs.Tokens.{Met, met-map, Editions, Rest, Near, at-once, Spelled, Good}
 use Rattle.roundtrip.proofs.Answers.{Gives, gives, gives-look, gives-true, gives-false, Every, look-every, when-every}
 use Rattle.roundtrip.proofs.Marks.{widens, isBar, at-sign, colons, Ends}
 use Rattle.roundtrip.proofs.Lists.{Same}
@@ -42,18 +42,6 @@ unfolding isName isLetter isDigit inRange
 headed-starts [] z h = absurd h
 headed-starts (a ∷ w) z h = rw (differs isName 60 a refl h, differs isName 61 a refl h, differs isName 124 a refl h)
 
--- a is read as the name c, before z
-pub record Named (c : Tree) (z : List ℕ) (a : Token) : Type 0 where
-  pub first : isFirst a ≡ true
-  pub back : Gives (Same c) z (chain a)
-  pub ahead : (((v : Source) → v .rest ≡ z → Met Structs (lex v)) → eqb (a .kind) Identifier ≡ true → Met Structs (lex (after a)))
-
--- the line of c reads back as a name
-pub record Chain (c : Tree) : Type 0 where
-  pub bracketed : Bracketed (build c)
-  pub starts : (z : List ℕ) → Stops clashes (shown c ++ z)
-  pub reads : (u : Source) (z : List ℕ) → Near u (shown c ++ z) → Ends isColons z → Met (Named c z) (lex u)
-
 -- leaves
 pub leaf-shown : (c : ℕ) (t : Token) → eqb c RecUnit ≡ false → shown (leafOf c t) ≡ word t
 unfolding laid spelt
@@ -70,99 +58,13 @@ part-same : (t t₂ : Token) → t₂ .kind ≡ t .kind → word t₂ ≡ word t
 unfolding build
 part-same t t₂ e g = rw (e, g)
 
--- one part
-chain-one : (a : Token) → Spelled Identifier (word a) → Chain (leafOf RecOnePart a)
-unfolding chain build Bracketed
-chain-one a n = record {
-  bracketed = tt;
-  starts = λ z. rw (leaf-shown RecOnePart a refl) (headed-starts (word a) z (n .0));
-  reads = λ u z d e. met-map (λ b i. record {
-    first = rw (i .kind);
-    back = gives-true _ _ _ (rw (i .kind)) (gives-look _ (e .after (after b) (i .goes)) λ t x. gives-false _ _ _ x (gives-true _ _ _ (rw (i .kind)) (gives _ _ (ap (spelled RecOnePart) (i .spelt)) (i .goes))));
-    ahead = λ h _. h (after b) (i .goes);
-  }) (n .1 u z (rw (leaf-shown RecOnePart a refl) at d) (e .stops));
-}
-
 colons-stop : (s : List ℕ) → Stops extends (58 ∷ 58 ∷ s)
 unfolding isName isLetter isDigit inRange
 colons-stop s = refl
 
--- a name that begins with the parts a and b, by what its line has behind them and by how that is read
-module _ (a b : Token) (f : isFirst a ≡ true) (n : Spelled (a .kind) (word a)) (m : Spelled Identifier (word b)) where
-  chain-from : (c : Tree) (r : List ℕ → List ℕ) → Bracketed (build c) → ((z : List ℕ) → shown c ++ z ≡ word a ++ (58 ∷ 58 ∷ (word b ++ r z))) → ((z : List ℕ) → Ends isColons z → Stops extends (r z))
-      → ((z : List ℕ) → Ends isColons z → (a₂ b₂ : Token) → build (firstPart a₂) ≡ build (firstPart a) → word b₂ ≡ word b → after b₂ .rest ≡ r z → Gives (Same c) z (thirdPart a₂ b₂)) → Chain c
-  unfolding chain secondPart
-  chain-from c r p l s k = record {
-    bracketed = p;
-    starts = λ z. rw (l z) (headed-starts (word a) _ (n .0));
-    reads = λ u z d e. met-map (λ a₂ i. record {
-      first = rw (i .kind) f;
-      back = gives-true _ _ _ (rw (i .kind) f) (gives-look _ (colons (after a₂) _ (at-once (i .goes)) tt) λ t j. gives-true _ _ _ (rw (j .kind))
-          (gives-look _ (m .1 (after t) (r z) (at-once (j .goes)) (s z e)) λ b₂ h. gives-true _ _ _ (rw (h .kind)) (k z e a₂ b₂ (part-same a a₂ (i .kind) (i .spelt)) (h .spelt) (h .goes))));
-      ahead = λ h _. met-map (λ t j. rw (j .kind)) (colons (after a₂) _ (at-once (i .goes)) tt);
-    }) (n .1 u (58 ∷ 58 ∷ (word b ++ r z)) (subst (Near u) (l z) d) (colons-stop (word b ++ r z)));
-  }
-
-  two-line : (k s e : ℕ) → ((x y : Tree) → shown (node k s e (more x (more y none))) ≡ shown x ++ (58 ∷ 58 ∷ shown y)) → (z : List ℕ) → shown (node k s e (more (firstPart a) (more (leafOf RecName b) none))) ++ z ≡ word a ++ (58 ∷ 58 ∷ (word b ++ z))
-  two-line k s e h z = rw (h (firstPart a) (leafOf RecName b), part-shown a, leaf-shown RecName b refl) (append-assoc (word a) (58 ∷ 58 ∷ word b) z)
-
-  chain-two : Chain (pairOf RecTwoPart a b)
-  unfolding thirdPart build builds Bracketed BracketedAll laid headed head markIn
-  chain-two =
-      chain-from (pairOf RecTwoPart a b) (λ z. z) (λ x. false-true _ x, (tt, (tt, tt))) (two-line RecTwoPart _ _ (laid-two FormLine _ _)) (λ z e. e .stops) λ z e a₂ b₂ g h i.
-      gives-look _ (e .after (after b₂) i) λ t x. gives-false _ _ _ x (gives _ _ (ap₂ (λ (v : Build) (w : List ℕ). made RecTwoPart (bmore v (bmore (spelled RecName w) bnone))) g h) i)
-
-  three-line : (c : Token) (z : List ℕ) → shown (threeOf a b c) ++ z ≡ word a ++ (58 ∷ 58 ∷ (word b ++ (58 ∷ 58 ∷ (word c ++ z))))
-  unfolding laid headed head markIn
-  three-line c z =
-      ap (λ (x : List ℕ). x ++ z) (laid-three FormLine _ _ (pairOf RecPair a b) (leafOf RecName c))
-      ∙ append-assoc (shown (pairOf RecPair a b)) (58 ∷ 58 ∷ shown (leafOf RecName c)) z
-      ∙ two-line RecPair _ _ (laid-pair FormLine _ _) _ ∙ ap (λ (x : List ℕ). word a ++ (58 ∷ 58 ∷ (word b ++ (58 ∷ 58 ∷ (x ++ z))))) (leaf-shown RecName c refl)
-
-  chain-three : (c : Token) → Spelled Identifier (word c) → Chain (threeOf a b c)
-  unfolding thirdPart lastPart build builds Bracketed BracketedAll
-  chain-three c o =
-      chain-from (threeOf a b c) (λ z. 58 ∷ 58 ∷ (word c ++ z)) (λ x. false-true _ x, ((λ x. false-true _ x, (tt, (tt, tt))), (tt, tt))) (three-line c) (λ z e. colons-stop (word c ++ z)) λ z e a₂ b₂ g h i.
-      gives-look _ (colons (after b₂) _ (at-once i) tt) λ t j. gives-true _ _ _ (rw (j .kind))
-      (gives-look _ (o .1 (after t) z (at-once (j .goes)) (e .stops)) λ c₂ v. gives-true _ _ _ (rw (v .kind))
-      (gives _ _ (rw (g, h, v .spelt)) (v .goes)))
-
--- a token of a kind that is a word
-pub identifier : (t : Token) → Good t → eqb (t .kind) Identifier ≡ true → Spelled Identifier (word t)
-identifier t g c = let e : t .kind ≡ Identifier = eqb-true (t .kind) Identifier c in subst (λ (k : ℕ). Spelled k (word t)) e (g (rw e refl))
-
-first-word : (t : Token) → Good t → isFirst t ≡ true → Spelled (t .kind) (word t)
-first-word t g c = g (rw c)
-
-pub chain-sure : (a : Token) → Good a → Every Chain (chain a)
-unfolding chain secondPart thirdPart lastPart
-chain-sure a g =
-    when-every _ _ _ _
-    (λ f. let n = first-word a g f in
-    look-every _ (after a) _ λ d _. when-every _ _ _ _
-    (λ _. look-every _ (after d) _ λ b h. when-every _ _ _ _
-    (λ i. let m = identifier b h i in
-    look-every _ (after b) _ λ d₂ _. when-every _ _ _ _
-    (λ _. look-every _ (after d₂) _ λ c j. when-every _ _ _ _ (λ k. chain-three a b f n m c (identifier c j k)) λ _. tt)
-    λ _. chain-two a b f n m)
-    λ _. tt)
-    λ _. when-every _ _ _ _ (λ i. chain-one a (identifier a g i)) λ _. tt)
-    λ _. tt
-
--- values
-abbrev pub ValueBack : Tree → Type 0
-ValueBack x = (u : Source) (z : List ℕ) → Near u (shown x ++ z) → Ends isColons z → Met (λ (a : Token). Gives (Same x) z (value a)) (lex u)
-
 at-line : (s e : ℕ) (a : Token) → shown (node RecAddressValue s e (more (firstPart a) none)) ≡ 64 ∷ word a
 unfolding laid headed head markIn
 at-line s e a = laid-address FormLine s e (firstPart a) ∙ ap (_∷_ 64) (part-shown a)
-
-at-back : (s e : ℕ) (a : Token) → isFirst a ≡ true → Spelled (a .kind) (word a) → ValueBack (node RecAddressValue s e (more (firstPart a) none))
-unfolding value addressValue build builds
-at-back s e a f n u z d h =
-    met-map (λ t i. gives-true _ _ _ (rw (i .kind)) (gives-look _ (n .1 (after t) z (at-once (i .goes)) (h .stops)) λ a₂ j.
-    gives-true _ _ _ (rw (j .kind) f) (gives _ _ (ap (λ (b : Build). made RecAddressValue (bmore b bnone)) (part-same a a₂ (j .kind) (j .spelt))) (j .goes))))
-    (at-sign u (word a ++ z) (rw (at-line s e a) at d) tt)
 
 -- a value of one token: its record's kind is no unit's, and tells that the token is a word
 abbrev Leaf : ℕ → ℕ → Type 0
@@ -182,16 +84,115 @@ leaf-word k b = go (eqb k 55) refl (eqb k 43) refl (eqb k 1) refl (eqb k 2) refl
     go false e₁ false e₂ false e₃ false e₄ true e₅ false = (refl, λ _. rw (eqb-true k 3 e₅) refl)
     go false e₁ false e₂ false e₃ false e₄ false e₅ x₆ = (refl, λ h. false-true _ (sym h))
 
-leaf-back : (t : Token) → Spelled (t .kind) (word t) → eqb (t .kind) AtSign ≡ false → eqb (valueKind t) 0 ≡ false → ValueBack (leafOf (valueKind t) t)
-unfolding value leafValue build
-leaf-back t n a h u z d e =
-    met-map (λ t₂ i. gives-false _ _ _ (rw (i .kind) a) (gives-false _ _ _ (rw (i .kind, i .spelt) h)
-    (gives-look _ (e .after (after t₂) (i .goes)) λ t₃ x. gives-false _ _ _ (rw x (and-false (eqb (t₂ .kind) NumValue))) (gives _ _ (rw (i .kind, i .spelt)) (i .goes)))))
-    (n .1 u z (rw (leaf-shown (valueKind t) t (leaf-word (t .kind) (getD (word t) 0 0) .0)) at d) (e .stops))
+module _ (es : Editions) where
+  -- a is read as the name c, before z
+  pub record Named (c : Tree) (z : List ℕ) (a : Token) : Type 0 where
+    pub first : isFirst a ≡ true
+    pub back : Gives es (Same c) z (chain a)
+    pub ahead : (((v : Source) → Rest es v z → Met Structs (lex v)) → eqb (a .kind) Identifier ≡ true → Met Structs (lex (after a)))
 
-pub value-sure : (t : Token) → Good t → Every ValueBack (value t)
-unfolding value addressValue leafValue
-value-sure t g =
-    when-every _ _ _ _ (λ _. look-every _ (after t) _ λ a h. when-every _ _ _ _ (λ f. at-back _ _ a f (first-word a h f)) λ _. tt) λ a.
-    when-every _ _ _ _ (λ _. tt) λ c.
-    look-every _ (after t) _ λ d _. when-every _ _ _ _ (λ _. tt) λ _. leaf-back t (g (leaf-word (t .kind) (getD (word t) 0 0) .1 c)) a c
+  -- the line of c reads back as a name
+  pub record Chain (c : Tree) : Type 0 where
+    pub bracketed : Bracketed (build c)
+    pub starts : (z : List ℕ) → Stops clashes (shown c ++ z)
+    pub reads : (u : Source) (z : List ℕ) → Near es u (shown c ++ z) → Ends es isColons z → Met (Named c z) (lex u)
+
+  -- one part
+  chain-one : (a : Token) → Spelled es Identifier (word a) → Chain (leafOf RecOnePart a)
+  unfolding chain build Bracketed
+  chain-one a n = record {
+    bracketed = tt;
+    starts = λ z. rw (leaf-shown RecOnePart a refl) (headed-starts (word a) z (n .0));
+    reads = λ u z d e. met-map (λ b i. record {
+      first = rw (i .kind);
+      back = gives-true _ _ _ (rw (i .kind)) (gives-look _ (e .after (after b) (i .goes)) λ t x. gives-false _ _ _ x (gives-true _ _ _ (rw (i .kind)) (gives _ _ (ap (spelled RecOnePart) (i .spelt)) (i .goes))));
+      ahead = λ h _. h (after b) (i .goes);
+    }) (n .1 u z (rw (leaf-shown RecOnePart a refl) at d) (e .stops));
+  }
+
+  -- a name that begins with the parts a and b, by what its line has behind them and by how that is read
+  module _ (a b : Token) (f : isFirst a ≡ true) (n : Spelled es (a .kind) (word a)) (m : Spelled es Identifier (word b)) where
+    chain-from : (c : Tree) (r : List ℕ → List ℕ) → Bracketed (build c) → ((z : List ℕ) → shown c ++ z ≡ word a ++ (58 ∷ 58 ∷ (word b ++ r z))) → ((z : List ℕ) → Ends es isColons z → Stops extends (r z))
+        → ((z : List ℕ) → Ends es isColons z → (a₂ b₂ : Token) → build (firstPart a₂) ≡ build (firstPart a) → word b₂ ≡ word b → Rest es (after b₂) (r z) → Gives es (Same c) z (thirdPart a₂ b₂)) → Chain c
+    unfolding chain secondPart
+    chain-from c r p l s k = record {
+      bracketed = p;
+      starts = λ z. rw (l z) (headed-starts (word a) _ (n .0));
+      reads = λ u z d e. met-map (λ a₂ i. record {
+        first = rw (i .kind) f;
+        back = gives-true _ _ _ (rw (i .kind) f) (gives-look _ (colons es (after a₂) _ (at-once (i .goes)) tt) λ t j. gives-true _ _ _ (rw (j .kind))
+            (gives-look _ (m .1 (after t) (r z) (at-once (j .goes)) (s z e)) λ b₂ h. gives-true _ _ _ (rw (h .kind)) (k z e a₂ b₂ (part-same a a₂ (i .kind) (i .spelt)) (h .spelt) (h .goes))));
+        ahead = λ h _. met-map (λ t j. rw (j .kind)) (colons es (after a₂) _ (at-once (i .goes)) tt);
+      }) (n .1 u (58 ∷ 58 ∷ (word b ++ r z)) (subst (Near es u) (l z) d) (colons-stop (word b ++ r z)));
+    }
+
+    two-line : (k s e : ℕ) → ((x y : Tree) → shown (node k s e (more x (more y none))) ≡ shown x ++ (58 ∷ 58 ∷ shown y)) → (z : List ℕ) → shown (node k s e (more (firstPart a) (more (leafOf RecName b) none))) ++ z ≡ word a ++ (58 ∷ 58 ∷ (word b ++ z))
+    two-line k s e h z = rw (h (firstPart a) (leafOf RecName b), part-shown a, leaf-shown RecName b refl) (append-assoc (word a) (58 ∷ 58 ∷ word b) z)
+
+    chain-two : Chain (pairOf RecTwoPart a b)
+    unfolding thirdPart build builds Bracketed BracketedAll laid headed head markIn
+    chain-two =
+        chain-from (pairOf RecTwoPart a b) (λ z. z) (λ x. false-true _ x, (tt, (tt, tt))) (two-line RecTwoPart _ _ (laid-two FormLine _ _)) (λ z e. e .stops) λ z e a₂ b₂ g h i.
+        gives-look _ (e .after (after b₂) i) λ t x. gives-false _ _ _ x (gives _ _ (ap₂ (λ (v : Build) (w : List ℕ). made RecTwoPart (bmore v (bmore (spelled RecName w) bnone))) g h) i)
+
+    three-line : (c : Token) (z : List ℕ) → shown (threeOf a b c) ++ z ≡ word a ++ (58 ∷ 58 ∷ (word b ++ (58 ∷ 58 ∷ (word c ++ z))))
+    unfolding laid headed head markIn
+    three-line c z =
+        ap (λ (x : List ℕ). x ++ z) (laid-three FormLine _ _ (pairOf RecPair a b) (leafOf RecName c))
+        ∙ append-assoc (shown (pairOf RecPair a b)) (58 ∷ 58 ∷ shown (leafOf RecName c)) z
+        ∙ two-line RecPair _ _ (laid-pair FormLine _ _) _ ∙ ap (λ (x : List ℕ). word a ++ (58 ∷ 58 ∷ (word b ++ (58 ∷ 58 ∷ (x ++ z))))) (leaf-shown RecName c refl)
+
+    chain-three : (c : Token) → Spelled es Identifier (word c) → Chain (threeOf a b c)
+    unfolding thirdPart lastPart build builds Bracketed BracketedAll
+    chain-three c o =
+        chain-from (threeOf a b c) (λ z. 58 ∷ 58 ∷ (word c ++ z)) (λ x. false-true _ x, ((λ x. false-true _ x, (tt, (tt, tt))), (tt, tt))) (three-line c) (λ z e. colons-stop (word c ++ z)) λ z e a₂ b₂ g h i.
+        gives-look _ (colons es (after b₂) _ (at-once i) tt) λ t j. gives-true _ _ _ (rw (j .kind))
+        (gives-look _ (o .1 (after t) z (at-once (j .goes)) (e .stops)) λ c₂ v. gives-true _ _ _ (rw (v .kind))
+        (gives _ _ (rw (g, h, v .spelt)) (v .goes)))
+
+  -- a token of a kind that is a word
+  pub identifier : (t : Token) → Good es t → eqb (t .kind) Identifier ≡ true → Spelled es Identifier (word t)
+  identifier t g c = let e : t .kind ≡ Identifier = eqb-true (t .kind) Identifier c in subst (λ (k : ℕ). Spelled es k (word t)) e (g .1 (rw e refl))
+
+  first-word : (t : Token) → Good es t → isFirst t ≡ true → Spelled es (t .kind) (word t)
+  first-word t g c = g .1 (rw c)
+
+  pub chain-sure : (a : Token) → Good es a → Every es Chain (chain a)
+  unfolding chain secondPart thirdPart lastPart
+  chain-sure a g =
+      when-every es _ _ _ _
+      (λ f. let n = first-word a g f in
+      look-every es _ (after a) (g .0) _ λ d o. when-every es _ _ _ _
+      (λ _. look-every es _ (after d) (o .0) _ λ b h. when-every es _ _ _ _
+      (λ i. let m = identifier b h i in
+      look-every es _ (after b) (h .0) _ λ d₂ o₂. when-every es _ _ _ _
+      (λ _. look-every es _ (after d₂) (o₂ .0) _ λ c j. when-every es _ _ _ _ (λ k. (j .0, chain-three a b f n m c (identifier c j k))) λ _. tt)
+      λ _. (h .0, chain-two a b f n m))
+      λ _. tt)
+      λ _. when-every es _ _ _ _ (λ i. (g .0, chain-one a (identifier a g i))) λ _. tt)
+      λ _. tt
+
+  -- values
+  abbrev pub ValueBack : Tree → Type 0
+  ValueBack x = (u : Source) (z : List ℕ) → Near es u (shown x ++ z) → Ends es isColons z → Met (λ (a : Token). Gives es (Same x) z (value a)) (lex u)
+
+  at-back : (s e : ℕ) (a : Token) → isFirst a ≡ true → Spelled es (a .kind) (word a) → ValueBack (node RecAddressValue s e (more (firstPart a) none))
+  unfolding value addressValue build builds
+  at-back s e a f n u z d h =
+      met-map (λ t i. gives-true _ _ _ (rw (i .kind)) (gives-look _ (n .1 (after t) z (at-once (i .goes)) (h .stops)) λ a₂ j.
+      gives-true _ _ _ (rw (j .kind) f) (gives _ _ (ap (λ (b : Build). made RecAddressValue (bmore b bnone)) (part-same a a₂ (j .kind) (j .spelt))) (j .goes))))
+      (at-sign es u (word a ++ z) (rw (at-line s e a) at d) tt)
+
+  leaf-back : (t : Token) → Spelled es (t .kind) (word t) → eqb (t .kind) AtSign ≡ false → eqb (valueKind t) 0 ≡ false → ValueBack (leafOf (valueKind t) t)
+  unfolding value leafValue build
+  leaf-back t n a h u z d e =
+      met-map (λ t₂ i. gives-false _ _ _ (rw (i .kind) a) (gives-false _ _ _ (rw (i .kind, i .spelt) h)
+      (gives-look _ (e .after (after t₂) (i .goes)) λ t₃ x. gives-false _ _ _ (rw x (and-false (eqb (t₂ .kind) NumValue))) (gives _ _ (rw (i .kind, i .spelt)) (i .goes)))))
+      (n .1 u z (rw (leaf-shown (valueKind t) t (leaf-word (t .kind) (getD (word t) 0 0) .0)) at d) (e .stops))
+
+  pub value-sure : (t : Token) → Good es t → Every es ValueBack (value t)
+  unfolding value addressValue leafValue
+  value-sure t g =
+      when-every es _ _ _ _ (λ _. look-every es _ (after t) (g .0) _ λ a h. when-every es _ _ _ _ (λ f. (h .0, at-back _ _ a f (first-word a h f))) λ _. tt) λ a.
+      when-every es _ _ _ _ (λ _. tt) λ c.
+      look-every es _ (after t) (g .0) _ λ d _. when-every es _ _ _ _ (λ _. tt) λ _. (g .0, leaf-back t (g .1 (leaf-word (t .kind) (getD (word t) 0 0) .1 c)) a c)

@@ -64,7 +64,7 @@ module _ (i : Lent) (t : Tree) (n : Token) where
   unfolding answered answeredIn readValues
   read-values e = rw e
 
-  tree-written : readOf i ≡ item t n → readBuffer (i .kind) (i .text) (i .at) (i .forTree) ≡ stored t ++ drop (length (stored t)) (i .forTree)
+  tree-written : readOf i ≡ item t n → readBuffer (i .kind) (i .edition) (i .text) (i .at) (i .forTree) ≡ stored t ++ drop (length (stored t)) (i .forTree)
   unfolding read readBuffer written
   tree-written e = rw (e, laid-stored t)
 
@@ -76,7 +76,7 @@ module _ (i : Lent) (t : Tree) (n : Token) where
   unfolding displayed displayValues laid
   display-values e = rw e
 
-  line-written : displayOf i ≡ item t n → displayBuffer (i .kind) (i .text) (i .at) (i .forLine) ≡ shown t ++ drop (length (shown t)) (i .forLine)
+  line-written : displayOf i ≡ item t n → displayBuffer (i .kind) (i .edition) (i .text) (i .at) (i .forLine) ≡ shown t ++ drop (length (shown t)) (i .forLine)
   unfolding display displayBuffer written laid
   line-written e = rw e
 
@@ -85,38 +85,38 @@ module _ (i : Lent) (t : Tree) (n : Token) where
 
 -- the item, its two answers, and that both fit
 record Known (i : Lent) (t : Tree) (n : Token) : Type 0 where
-  isItem : readItem (i .kind) (i .text) (i .at) ≡ item t n
+  isItem : readItem (i .kind) (i .edition) (i .text) (i .at) ≡ item t n
   isClean : spoiled t ≡ clean
   isShown : displayOf i ≡ item t n
   treeFits : (length (stored t) ≤ length (i .forTree)) × (length (stored t) ≤ limitOf FormStored)
   lineFits : (length (shown t) ≤ length (i .forLine)) × (length (shown t) ≤ limitOf FormLine)
 
 -- the display of a clean item looks at its room alone
-shown-clean : (room kind : ℕ) (text : List ℕ) (at : ℕ) (t : Tree) (n : Token) → readItem kind text at ≡ item t n → spoiled t ≡ clean → display kind text at room ≡ roomed FormLine room (item t n)
+shown-clean : (room kind ed : ℕ) (text : List ℕ) (at : ℕ) (t : Tree) (n : Token) → readItem kind ed text at ≡ item t n → spoiled t ≡ clean → display kind ed text at room ≡ roomed FormLine room (item t n)
 unfolding display unspoiled unlessSpoiled
-shown-clean room kind text at t n e c = ap (λ (j : Item). roomed FormLine room (unspoiled j)) e ∙ ap (λ (o : Option ℕ). roomed FormLine room (unlessSpoiled o (item t n))) c
+shown-clean room kind ed text at t n e c = ap (λ (j : Item). roomed FormLine room (unspoiled j)) e ∙ ap (λ (o : Option ℕ). roomed FormLine room (unlessSpoiled o (item t n))) c
 
 known : (i : Lent) (t : Tree) (n : Token) → Accepted i t n → Known i t n
 unfolding read display unspoiled unlessSpoiled laid
 known i t n a =
     let m : ℕ = length (i .forLine) in
-    let r = roomed-fits FormStored (length (i .forTree)) (readItem (i .kind) (i .text) (i .at)) t n (a .isRead) in
+    let r = roomed-fits FormStored (length (i .forTree)) (readItem (i .kind) (i .edition) (i .text) (i .at)) t n (a .isRead) in
     let h : NotRefused (roomed FormLine m (unlessSpoiled (spoiled t) (item t n))) = subst (λ (j : Item). NotRefused (roomed FormLine m (unspoiled j))) (r .0) (a .isShown) in
     let c : spoiled t ≡ clean = clean-shown FormLine m t n (spoiled t) h in
     let g : NotRefused (roomed FormLine m (item t n)) = subst (λ (o : Option ℕ). NotRefused (roomed FormLine m (unlessSpoiled o (item t n)))) c h in
-    let d : displayOf i ≡ item t n = shown-clean m (i .kind) (i .text) (i .at) t n (r .0) c ∙ not-refused FormLine m t n g in
-    let l = roomed-fits FormLine m (unspoiled (readItem (i .kind) (i .text) (i .at))) t n d in
+    let d : displayOf i ≡ item t n = shown-clean m (i .kind) (i .edition) (i .text) (i .at) t n (r .0) c ∙ not-refused FormLine m t n g in
+    let l = roomed-fits FormLine m (unspoiled (readItem (i .kind) (i .edition) (i .text) (i .at))) t n d in
     let s : length (laid FormStored t) ≡ length (stored t) = ap length (laid-stored t) in
     record { isItem = r .0; isClean = c; isShown = d; treeFits = (omega (arith, r .1), omega (arith, r .2)); lineFits = (l .1, l .2) }
 
 -- a clean item with room for its tree and its line
-accept : (i : Lent) (t : Tree) (n : Token) → readItem (i .kind) (i .text) (i .at) ≡ item t n → spoiled t ≡ clean → (length (stored t) ≤ length (i .forTree)) × (length (stored t) ≤ limitOf FormStored)
+accept : (i : Lent) (t : Tree) (n : Token) → readItem (i .kind) (i .edition) (i .text) (i .at) ≡ item t n → spoiled t ≡ clean → (length (stored t) ≤ length (i .forTree)) × (length (stored t) ≤ limitOf FormStored)
     → (length (shown t) ≤ length (i .forLine)) × (length (shown t) ≤ limitOf FormLine) → (readOf i ≡ item t n) × (displayOf i ≡ item t n)
 unfolding read laid
 accept i t n e c g h =
     let s : length (laid FormStored t) ≡ length (stored t) = ap length (laid-stored t) in (
       ap (roomed FormStored (length (i .forTree))) e ∙ room-for FormStored (length (i .forTree)) t n (omega (arith, g .0)) (omega (arith, g .1)),
-      shown-clean (length (i .forLine)) (i .kind) (i .text) (i .at) t n e c ∙ room-for FormLine (length (i .forLine)) t n (h .0) (h .1),
+      shown-clean (length (i .forLine)) (i .kind) (i .edition) (i .text) (i .at) t n e c ∙ room-for FormLine (length (i .forLine)) t n (h .0) (h .1),
     )
 
 -- a line is never too long for a text
@@ -124,14 +124,14 @@ line-text : limitOf FormLine ≤ textLimit
 unfolding limitOf
 line-text = omega arith
 
--- two accepted items of one kind have the same line exactly when their builds are equal
+-- two accepted items of one kind, whatever the edition of each, have the same line exactly when their builds are equal
 pub lines-builds : (i j : Lent) (t u : Tree) (n m : Token) → i .kind ≡ j .kind → Accepted i t n → Accepted j u m → (lineOf i ≡ lineOf j) ↔ (build t ≡ build u)
 lines-builds i j t u n m k a b =
     let x = known i t n a in
     let y = known j u m b in
     let l = line-is i t n (x .isShown) in
     let r = line-is j u m (y .isShown) in
-    let s = same-lines (j .kind) (i .text) (j .text) (i .at) (j .at) t u n m (rw k at (x .isItem)) (y .isItem) in
+    let s = same-lines (j .kind) (i .edition) (j .edition) (i .text) (j .text) (i .at) (j .at) t u n m (rw k at (x .isItem)) (y .isItem) in
     (λ e. s .0 (sym l ∙ e ∙ r), λ e. l ∙ s .1 e ∙ sym r)
 
 -- the length that the display answers is the line's; the item's own buffers have room for its tree and its line
@@ -143,15 +143,15 @@ own-room i t n a =
     let k = known i t n a in
     (rw (tree-length i t n (a .isRead)) (k .treeFits .0), rw (line-length i t n (k .isShown)) (k .lineFits .0))
 
--- every accepted item's line, read back from 0 as that kind, is accepted to its last byte, with the same build and the same line, in any
--- buffers that are as long as the item's tree and line
+-- every accepted item's line, read back from 0 as that kind in its edition, is accepted to its last byte, with the same build and the
+-- same line, in any buffers that are as long as the item's tree and line
 module _ (i : Lent) (t : Tree) (n : Token) (a : Accepted i t n) (out lineOut : List ℕ) (g : treeLength i ≤ length out) (h : lineLength i ≤ length lineOut) where
   pub reads-back : ReadBack i t (lineBack i out lineOut)
   reads-back =
       let j : Lent = lineBack i out lineOut in
       let k = known i t n a in
       let l = line-is i t n (k .isShown) in
-      let b = again (i .kind) (i .text) (i .at) t n (k .isItem) (omega (arith, k .lineFits .1, line-text)) in
+      let b = again (i .kind) (i .edition) (i .text) (i .at) t n (k .isItem) (omega (arith, k .lineFits .1, line-text)) in
       let s : length (stored (b .tree)) ≡ treeLength i = b .sameSize ∙ sym (tree-length i t n (a .isRead)) in
       let m : shown (b .tree) ≡ lineOf i = b .sameLine ∙ sym l in
       let v : length (shown (b .tree)) ≡ lineLength i = ap length m ∙ line-counted i t n a in
@@ -205,5 +205,5 @@ shown-item (refused r) h e = never-0 ⊥ displayRefusals (r .number) refl e (h r
 
 pub accepted-by-numbers : (i : Lent) → readNumber (answered (readOf i)) ≡ 0 → displayNumber (displayed (displayOf i)) ≡ 0 → (t : Tree) × (n : Token) × Accepted i t n
 accepted-by-numbers i g h =
-    let r = read-item (readOf i) (read-refusals (i .kind) (i .text) (i .at) (length (i .forTree))) g in
-    (r .0, r .1, record { isRead = r .2; isShown = shown-item (displayOf i) (display-refusals (i .kind) (i .text) (i .at) (length (i .forLine))) h })
+    let r = read-item (readOf i) (read-refusals (i .kind) (i .edition) (i .text) (i .at) (length (i .forTree))) g in
+    (r .0, r .1, record { isRead = r .2; isShown = shown-item (displayOf i) (display-refusals (i .kind) (i .edition) (i .text) (i .at) (length (i .forLine))) h })

@@ -19,7 +19,7 @@ use Rattle.forms.specs.Forms.{FormLine, head, markIn, laid, headed, laidItems, 
 use Rattle.forms.proofs.Constructs.{laid-ref, laid-ref-mut, laid-unit, laid-brackets, laid-tuple, laid-type, laid-function}
 use Rattle.roundtrip.specs.Arguments.{isFunction, NoneBare, Bracketed, BracketedAll}
 use Rattle.roundtrip.proofs.Words.{Stops, stops-less, differs}
-use Rattle.roundtrip.proofs.Tokens.{Met, met-map, Near, at-once, blank, Good}
+use Rattle.roundtrip.proofs.Tokens.{Met, met-map, Editions, Rest, Near, at-once, blank, Good}
 use Rattle.roundtrip.proofs.Answers.{Gives, gives, gives-then, gives-look, gives-true, gives-false, Every, map-every, then-every, look-every, when-every}
 use Rattle.roundtrip.proofs.Marks.{widens, isBar, lparen, rparen, amp, amp-mut, less, bar, Ends, ends}
 use Rattle.roundtrip.proofs.Lists.{All, all-map, rest, join, join-listed, Same, SameAll, structs, Reads, Opens, Begins, opened, Closed, closed-mark, closed-greater, list-reads, behind-sure}
@@ -62,10 +62,6 @@ abbrev pub inner : Trees → List ℕ → List ℕ
 inner none y = 32 ∷ y
 inner (more t ts) y = join (more t ts) y
 
-pub inner-near : (u : Source) (ts : Trees) (y : List ℕ) → u .rest ≡ inner ts y → Near u (join ts y)
-inner-near u none y e = blank e
-inner-near u (more t ts) y e = at-once e
-
 pub bars-line : (ts : Trees) (y : List ℕ) → inBars FormLine ts ++ y ≡ 124 ∷ inner ts (124 ∷ y)
 unfolding inBars markIn
 bars-line none y = refl
@@ -100,67 +96,15 @@ beginsType v k = firsts k || (eqb k LParen || (eqb k Amp || (eqb k AmpMut || (eq
 abbrev typeClashes : Bool → ℕ → Bool
 typeClashes v b = widens b || (not v && isBar b)
 
--- t is a type whose line reads back with n levels left
-pub record Typed (n : ℕ) (t : Tree) : Type 0 where
-  pub starts : (z : List ℕ) → Stops (typeClashes (isFunction (build t))) (shown t ++ z)
-  pub reads : Reads (readType n) (Begins (beginsType (isFunction (build t)))) t
-  pub noField : isType (kindOfBuild (build t)) ≡ true
-  pub bracketed : Bracketed (build t)
-
--- an argument of a function type is none itself, as it stands
-abbrev Argument : ℕ → Tree → Type 0
-Argument n t = Typed n t × (isFunction (build t) ≡ false)
-
--- the items of a list of types
-module _ (n : ℕ) where
-  pub types-open : (close : ℕ) → ((v : Bool) → beginsType v close ≡ false) → (ts : Trees) → All (Typed n) ts → All (Reads (readType n) (Opens close)) ts
-  types-open close h = all-map (Typed n) (Reads (readType n) (Opens close)) λ t d. opened (readType n) (beginsType (isFunction (build t))) close (h _) refl refl t (d .reads)
-
-  arguments-open : (ts : Trees) → All (Argument n) ts → All (Reads (readType n) (Opens Pipe)) ts
-  arguments-open = all-map (Argument n) (Reads (readType n) (Opens Pipe)) λ t d. opened (readType n) (beginsType (isFunction (build t))) Pipe (rw (d .1)) refl refl t (d .0 .reads)
-
-  -- what stands behind a `<`
-  pub angle-opens : (t : Tree) (ts : Trees) (y : List ℕ) → All (Typed n) (more t ts) → Stops widens (join (more t ts) y)
-  angle-opens t ts y a = stops-less widens _ (λ b h. or-left (widens b) (not (isFunction (build t)) && isBar b) h) (join (more t ts) y) (a .0 .starts (rest ts y))
-
 -- what stands behind a `|`
 pub bar-opens : (P : Tree → Type 0) → ((t : Tree) → P t → (z : List ℕ) → Stops clashes (shown t ++ z)) → (ts : Trees) (y : List ℕ) → All P ts → Stops isBar (inner ts y)
 bar-opens P f none y a = refl
 bar-opens P f (more t ts) y a = stops-less isBar clashes (λ b h. or-right (widens b) (isBar b) h) (join (more t ts) y) (f t (a .0) (rest ts y))
 
--- an end of a type ends its name too
-to-colons : {z : List ℕ} → Ends structs z → Ends isColons z
-to-colons d = record { stops = d .stops; noEqual = d .noEqual; after = λ u e. met-map (λ t x. or-right (eqb (t .kind) LBrace || eqb (t .kind) Less) (eqb (t .kind) ColonColon) x) (d .after u e) }
-
--- closing marks
-pub closed-close : (z : List ℕ) → Closed RParen (41 ∷ z) z
-unfolding isName isLetter isDigit inRange
-closed-close z = closed-mark rparen refl refl z tt refl refl
-
-pub closed-bar : (z : List ℕ) → Stops isBar z → Closed Pipe (124 ∷ z) z
-unfolding isName isLetter isDigit inRange
-closed-bar z h = closed-mark bar refl refl z h refl refl
-
 -- builds in which no function type stands among the arguments of another
 no-function : (k : ℕ) (bs : Builds) → eqb k RecFunction ≡ false → BracketedAll bs → Bracketed (made k bs)
 unfolding Bracketed
 no-function k bs h a = (λ y. false-true _ (sym h ∙ y), a)
-
-all-bracketed : (n : ℕ) (ts : Trees) → All (Typed n) ts → BracketedAll (builds ts)
-unfolding BracketedAll builds
-all-bracketed n none a = tt
-all-bracketed n (more t ts) a = (a .0 .bracketed, all-bracketed n ts (a .1))
-
-none-bare : (n : ℕ) (ts : Trees) (t : Tree) → All (Argument n) ts → NoneBare (builds (behind ts t))
-unfolding NoneBare behind builds
-none-bare n none t a = tt
-none-bare n (more u none) t a = (a .0 .1, tt)
-none-bare n (more u (more v ts)) t a = (a .0 .1, none-bare n (more v ts) t (a .1))
-
-behind-bracketed : (n : ℕ) (ts : Trees) (t : Tree) → All (Argument n) ts → Bracketed (build t) → BracketedAll (builds (behind ts t))
-unfolding BracketedAll behind builds
-behind-bracketed n none t a h = (h, tt)
-behind-bracketed n (more u ts) t a h = (a .0 .0 .bracketed, behind-bracketed n ts t (a .1) h)
 
 grouped-bracketed : (bs : Builds) → BracketedAll bs → Bracketed (grouped bs)
 unfolding grouped Bracketed
@@ -174,130 +118,187 @@ grouped-kind bnone = (refl, refl)
 grouped-kind (bmore b bnone) = (refl, refl)
 grouped-kind (bmore b (bmore c bs)) = (refl, refl)
 
--- each form of a type, over parts with n levels left
-module _ (n : ℕ) where
-  angled-ends : (ts : Trees) (z : List ℕ) → All (Typed n) ts → Ends structs z → Ends isColons (angled ts z)
+module _ (es : Editions) where
+  pub inner-near : (u : Source) (ts : Trees) (y : List ℕ) → Rest es u (inner ts y) → Near es u (join ts y)
+  inner-near u none y e = blank e
+  inner-near u (more t ts) y e = at-once e
+
+  -- t is a type whose line reads back with n levels left
+  pub record Typed (n : ℕ) (t : Tree) : Type 0 where
+    pub starts : (z : List ℕ) → Stops (typeClashes (isFunction (build t))) (shown t ++ z)
+    pub reads : Reads es (readType n) (Begins (beginsType (isFunction (build t)))) t
+    pub noField : isType (kindOfBuild (build t)) ≡ true
+    pub bracketed : Bracketed (build t)
+
+  -- an argument of a function type is none itself, as it stands
+  abbrev Argument : ℕ → Tree → Type 0
+  Argument n t = Typed n t × (isFunction (build t) ≡ false)
+
+  -- the items of a list of types
+  module _ (n : ℕ) where
+    pub types-open : (close : ℕ) → ((v : Bool) → beginsType v close ≡ false) → (ts : Trees) → All (Typed n) ts → All (Reads es (readType n) (Opens close)) ts
+    types-open close h = all-map (Typed n) (Reads es (readType n) (Opens close)) λ t d. opened es (readType n) (beginsType (isFunction (build t))) close (h _) refl refl t (d .reads)
+
+    arguments-open : (ts : Trees) → All (Argument n) ts → All (Reads es (readType n) (Opens Pipe)) ts
+    arguments-open = all-map (Argument n) (Reads es (readType n) (Opens Pipe)) λ t d. opened es (readType n) (beginsType (isFunction (build t))) Pipe (rw (d .1)) refl refl t (d .0 .reads)
+
+    -- what stands behind a `<`
+    pub angle-opens : (t : Tree) (ts : Trees) (y : List ℕ) → All (Typed n) (more t ts) → Stops widens (join (more t ts) y)
+    angle-opens t ts y a = stops-less widens _ (λ b h. or-left (widens b) (not (isFunction (build t)) && isBar b) h) (join (more t ts) y) (a .0 .starts (rest ts y))
+
+  -- an end of a type ends its name too
+  to-colons : {z : List ℕ} → Ends es structs z → Ends es isColons z
+  to-colons d = record { stops = d .stops; noEqual = d .noEqual; after = λ u e. met-map (λ t x. or-right (eqb (t .kind) LBrace || eqb (t .kind) Less) (eqb (t .kind) ColonColon) x) (d .after u e) }
+
+  -- closing marks
+  pub closed-close : (z : List ℕ) → Closed es RParen (41 ∷ z) z
   unfolding isName isLetter isDigit inRange
-  angled-ends none z a d = to-colons d
-  angled-ends (more t ts) z a d = ends isColons less (join (more t ts) (62 ∷ z)) _ (angle-opens n t ts (62 ∷ z) a) refl refl refl λ u. at-once
+  closed-close z = closed-mark es (rparen es) refl refl z tt refl refl
 
-  arguments-back : (s e : ℕ) (c : Tree) (ts : Trees) → All (Typed n) ts → (b : Token) (x : Tree) → Same c x → (z : List ℕ) → Ends structs z → (u : Source) → u .rest ≡ angled ts z
-      → Gives (Same (node RecType s e (more c ts))) z (withArguments (readType n) b x u)
-  unfolding withArguments build builds
-  arguments-back s e c none a b x g z d u h =
-      gives-look _ (d .after u h) λ o y.
-      gives-false _ _ _ (or-right (eqb (o .kind) LBrace) (eqb (o .kind) Less) (or-left (eqb (o .kind) LBrace || eqb (o .kind) Less) (eqb (o .kind) ColonColon) y)) (gives _ _ (ap (λ (v : Build). made RecType (bmore v bnone)) g) h)
-  arguments-back s e c (more t ts) a b x g z d u h =
-      gives-look _ (less u (join (more t ts) (62 ∷ z)) (at-once h) (angle-opens n t ts (62 ∷ z) a)) λ o i. gives-true _ _ _ (rw (i .kind))
-      (gives-then _ (list-reads (readType n) Greater o refl (62 ∷ z) z (closed-greater z (d .noEqual)) (more t ts) (types-open n Greater (λ v. refl) (more t ts) a) (at-once (i .goes))) λ xs v j k.
-      gives _ _ (ap₂ (λ (v : Build) (w : Builds). made RecType (bmore v w)) g j) k)
+  pub closed-bar : (z : List ℕ) → Stops isBar z → Closed es Pipe (124 ∷ z) z
+  unfolding isName isLetter isDigit inRange
+  closed-bar z h = closed-mark es (bar es) refl refl z h refl refl
 
-  -- a token that begins a name is no mark
-  name-back : {P : Tree → Type 0} {z : List ℕ} (b : Token) → isFirst b ≡ true → Gives P z (named (readType n) b) → Gives P z (typeOver (readType n) b)
-  unfolding typeOver
-  name-back b f h =
-      let no : (k : ℕ) → firsts k ≡ false → eqb (b .kind) k ≡ false = λ k e. differs firsts k (b .kind) e f in
-      gives-false _ _ _ (no LParen refl) (gives-false _ _ _ (no Amp refl) (gives-false _ _ _ (no AmpMut refl) (gives-false _ _ _ (no Pipe refl) h)))
+  all-bracketed : (n : ℕ) (ts : Trees) → All (Typed n) ts → BracketedAll (builds ts)
+  unfolding BracketedAll builds
+  all-bracketed n none a = tt
+  all-bracketed n (more t ts) a = (a .0 .bracketed, all-bracketed n ts (a .1))
 
-  type-back : (s e : ℕ) (c : Tree) (ts : Trees) → Chain c → All (Typed n) ts → Typed (suc n) (node RecType s e (more c ts))
-  unfolding readType named build builds isType isField kindOfBuild BracketedAll
-  type-back s e c ts h a = record {
-    starts = λ z. rw (type-line s e c ts z) (h .starts (angled ts z));
-    noField = refl;
-    bracketed = no-function RecType _ refl (h .bracketed, all-bracketed n ts a);
-    reads = λ u z d g. met-map (λ b i. (rw (i .first), name-back b (i .first) (gives-then _ (i .back) λ x v j k. arguments-back s e c ts a b x j z g v k)))
-        (h .reads u (angled ts z) (subst (Near u) (type-line s e c ts z) d) (angled-ends ts z a g));
-  }
+  none-bare : (n : ℕ) (ts : Trees) (t : Tree) → All (Argument n) ts → NoneBare (builds (behind ts t))
+  unfolding NoneBare behind builds
+  none-bare n none t a = tt
+  none-bare n (more u none) t a = (a .0 .1, tt)
+  none-bare n (more u (more v ts)) t a = (a .0 .1, none-bare n (more v ts) t (a .1))
 
-  group-back : (b : Token) (v : Source) (ts : Trees) → All (Typed n) ts → Typed (suc n) (bracketed b v ts)
-  unfolding readType typeOver brackets
-  group-back b v ts a = record {
-    starts = λ z. rw (group-line b v ts z, bracketed-build b v ts, grouped-kind (builds ts) .0) refl;
-    noField = rw (bracketed-build b v ts) (grouped-kind (builds ts) .1);
-    bracketed = rw (bracketed-build b v ts) (grouped-bracketed (builds ts) (all-bracketed n ts a));
-    reads = λ u z d e. met-map (λ c i. (
-      rw (i .kind),
-      gives-true _ _ _ (rw (i .kind))
-          (gives-then _ (list-reads (readType n) RParen c refl (41 ∷ z) z (closed-close z) ts (types-open n RParen (λ v. refl) ts a) (at-once (i .goes))) λ xs w g h.
-          gives _ _ (bracketed-build c w xs ∙ ap grouped g ∙ sym (bracketed-build b v ts)) h),
-    ))
-        (lparen u (join ts (41 ∷ z)) (subst (Near u) (group-line b v ts z) d) tt);
-  }
+  behind-bracketed : (n : ℕ) (ts : Trees) (t : Tree) → All (Argument n) ts → Bracketed (build t) → BracketedAll (builds (behind ts t))
+  unfolding BracketedAll behind builds
+  behind-bracketed n none t a h = (h, tt)
+  behind-bracketed n (more u ts) t a h = (a .0 .0 .bracketed, behind-bracketed n ts t (a .1) h)
 
-  -- a reference of kind c, whose mark m is a token of kind k
-  reference-back : (c k s e : ℕ) (t : Tree) → Typed n t → (m : List ℕ) → ((z : List ℕ) → shown (node c s e (more t none)) ++ z ≡ m ++ (shown t ++ z)) → ((z : List ℕ) → Stops clashes (m ++ z))
-      → eqb c RecFunction ≡ false → isType c ≡ true → beginsType false k ≡ true → ((a : Token) → a .kind ≡ k → typeOver (readType n) a ≡ reference (readType n) c a)
-      → ((u : Source) (z : List ℕ) → Near u (m ++ z) → Met (λ (a : Token). (a .kind ≡ k) × Near (after a) z) (lex u)) → Typed (suc n) (node c s e (more t none))
-  unfolding readType reference build builds kindOfBuild BracketedAll
-  reference-back c k s e t h m l y p q f r w = record {
-    starts = λ z. rw (p, l z) (y (shown t ++ z));
-    noField = q;
-    bracketed = no-function c _ p (h .bracketed, tt);
-    reads = λ u z d g. met-map (λ a i. (
-      rw (p, i .0) f,
-      rw (r a (i .0)) (gives-look _ (h .reads (after a) z (i .1) g) λ b j. gives-then _ (j .1) λ x v y w.
-          gives _ _ (ap (λ (q : Build). made c (bmore q bnone)) y) w),
-    )) (w u (shown t ++ z) (subst (Near u) (l z) d));
-  }
+  -- each form of a type, over parts with n levels left
+  module _ (n : ℕ) where
+    angled-ends : (ts : Trees) (z : List ℕ) → All (Typed n) ts → Ends es structs z → Ends es isColons (angled ts z)
+    unfolding isName isLetter isDigit inRange
+    angled-ends none z a d = to-colons d
+    angled-ends (more t ts) z a d = ends es isColons (less es) (join (more t ts) (62 ∷ z)) _ (angle-opens n t ts (62 ∷ z) a) refl refl refl λ u. at-once
 
-  ref-back : (s e : ℕ) (t : Tree) → Typed n t → Typed (suc n) (node RecRef s e (more t none))
-  unfolding typeOver when laid headed head markIn isType isField
-  ref-back s e t h =
-      reference-back RecRef Amp s e t h (bytes "& ") (λ z. ap (λ (x : List ℕ). x ++ z) (laid-ref FormLine s e t)) (λ z. refl) refl refl refl (λ a i. rw i) λ u z d.
-      met-map (λ a i. (i .kind, blank (i .goes))) (amp u (32 ∷ z) d (z, refl))
+    arguments-back : (s e : ℕ) (c : Tree) (ts : Trees) → All (Typed n) ts → (b : Token) (x : Tree) → Same c x → (z : List ℕ) → Ends es structs z → (u : Source) → Rest es u (angled ts z)
+        → Gives es (Same (node RecType s e (more c ts))) z (withArguments (readType n) b x u)
+    unfolding withArguments build builds
+    arguments-back s e c none a b x g z d u h =
+        gives-look _ (d .after u h) λ o y.
+        gives-false _ _ _ (or-right (eqb (o .kind) LBrace) (eqb (o .kind) Less) (or-left (eqb (o .kind) LBrace || eqb (o .kind) Less) (eqb (o .kind) ColonColon) y)) (gives _ _ (ap (λ (v : Build). made RecType (bmore v bnone)) g) h)
+    arguments-back s e c (more t ts) a b x g z d u h =
+        gives-look _ (less es u (join (more t ts) (62 ∷ z)) (at-once h) (angle-opens n t ts (62 ∷ z) a)) λ o i. gives-true _ _ _ (rw (i .kind))
+        (gives-then _ (list-reads es (readType n) Greater o refl (62 ∷ z) z (closed-greater es z (d .noEqual)) (more t ts) (types-open n Greater (λ v. refl) (more t ts) a) (at-once (i .goes))) λ xs v j k.
+        gives _ _ (ap₂ (λ (v : Build) (w : Builds). made RecType (bmore v w)) g j) k)
 
-  mut-back : (s e : ℕ) (t : Tree) → Typed n t → Typed (suc n) (node RecRefMut s e (more t none))
-  unfolding typeOver when laid headed head markIn isType isField
-  mut-back s e t h =
-      reference-back RecRefMut AmpMut s e t h (bytes "&mut ") (λ z. ap (λ (x : List ℕ). x ++ z) (laid-ref-mut FormLine s e t)) (λ z. refl) refl refl refl (λ a i. rw i) λ u z d.
-      met-map (λ a i. (i .kind, at-once (i .goes))) (amp-mut u z d tt)
+    -- a token that begins a name is no mark
+    name-back : {P : Tree → Type 0} {z : List ℕ} (b : Token) → isFirst b ≡ true → Gives es P z (named (readType n) b) → Gives es P z (typeOver (readType n) b)
+    unfolding typeOver
+    name-back b f h =
+        let no : (k : ℕ) → firsts k ≡ false → eqb (b .kind) k ≡ false = λ k e. differs firsts k (b .kind) e f in
+        gives-false _ _ _ (no LParen refl) (gives-false _ _ _ (no Amp refl) (gives-false _ _ _ (no AmpMut refl) (gives-false _ _ _ (no Pipe refl) h)))
 
-  function-back : (s e : ℕ) (ts : Trees) (t : Tree) → All (Argument n) ts → Typed n t → Typed (suc n) (node RecFunction s e (behind ts t))
-  unfolding readType typeOver function build isType isField kindOfBuild Bracketed
-  function-back s e ts t a h = record {
-    starts = λ z. rw (function-line s e ts t z) refl;
-    noField = refl;
-    bracketed = (λ _. none-bare n ts t a, behind-bracketed n ts t a (h .bracketed));
-    reads = λ u z d g. met-map (λ b i. (
-      rw (i .kind),
-      gives-false _ _ _ (rw (i .kind)) (gives-false _ _ _ (rw (i .kind)) (gives-false _ _ _ (rw (i .kind)) (gives-true _ _ _ (rw (i .kind))
-          (gives-then _ (list-reads (readType n) Pipe b refl (124 ∷ 32 ∷ (shown t ++ z)) (32 ∷ (shown t ++ z)) (closed-bar (32 ∷ (shown t ++ z)) refl) ts (arguments-open n ts a) (inner-near (after b) ts _ (i .goes))) λ xs v j k.
-          gives-look _ (h .reads v z (blank k) g) λ c l. gives-then _ (l .1) λ x w y q. gives _ _ (ap (made RecFunction) (behind-same xs ts x t j y)) q)))),
-    ))
-        (bar u (inner ts (124 ∷ 32 ∷ (shown t ++ z))) (subst (Near u) (function-line s e ts t z) d) (bar-opens (Argument n) (λ t d. rw (d .1) at (d .0 .starts)) ts (124 ∷ 32 ∷ (shown t ++ z)) a));
-  }
+    type-back : (s e : ℕ) (c : Tree) (ts : Trees) → Chain es c → All (Typed n) ts → Typed (suc n) (node RecType s e (more c ts))
+    unfolding readType named build builds isType isField kindOfBuild BracketedAll
+    type-back s e c ts h a = record {
+      starts = λ z. rw (type-line s e c ts z) (h .starts (angled ts z));
+      noField = refl;
+      bracketed = no-function RecType _ refl (h .bracketed, all-bracketed n ts a);
+      reads = λ u z d g. met-map (λ b i. (rw (i .first), name-back b (i .first) (gives-then _ (i .back) λ x v j k. arguments-back s e c ts a b x j z g v k)))
+          (h .reads u (angled ts z) (subst (Near es u) (type-line s e c ts z) d) (angled-ends ts z a g));
+    }
 
--- what reading from the token a with n levels left is sure of
-abbrev Sure : ℕ → Token → Tree → Type 0
-Sure n a t = Typed n t × (eqb (a .kind) Pipe ≡ false → isFunction (build t) ≡ false)
+    group-back : (b : Token) (v : Source) (ts : Trees) → All (Typed n) ts → Typed (suc n) (bracketed b v ts)
+    unfolding readType typeOver brackets
+    group-back b v ts a = record {
+      starts = λ z. rw (group-line b v ts z, bracketed-build b v ts, grouped-kind (builds ts) .0) refl;
+      noField = rw (bracketed-build b v ts) (grouped-kind (builds ts) .1);
+      bracketed = rw (bracketed-build b v ts) (grouped-bracketed (builds ts) (all-bracketed n ts a));
+      reads = λ u z d e. met-map (λ c i. (
+        rw (i .kind),
+        gives-true _ _ _ (rw (i .kind))
+            (gives-then _ (list-reads es (readType n) RParen c refl (41 ∷ z) z (closed-close z) ts (types-open n RParen (λ v. refl) ts a) (at-once (i .goes))) λ xs w g h.
+            gives _ _ (bracketed-build c w xs ∙ ap grouped g ∙ sym (bracketed-build b v ts)) h),
+      ))
+          (lparen es u (join ts (41 ∷ z)) (subst (Near es u) (group-line b v ts z) d) tt);
+    }
 
-module _ (n : ℕ) (ih : (a : Token) → Good a → Every (Sure n a) (readType n a)) where
-  typed-sure : (a : Token) → Good a → Every (Typed n) (readType n a)
-  typed-sure a g = map-every (Sure n a) (Typed n) (readType n a) (λ t h. h .0) (ih a g)
+    -- a reference of kind c, whose mark m is a token of kind k
+    reference-back : (c k s e : ℕ) (t : Tree) → Typed n t → (m : List ℕ) → ((z : List ℕ) → shown (node c s e (more t none)) ++ z ≡ m ++ (shown t ++ z)) → ((z : List ℕ) → Stops clashes (m ++ z))
+        → eqb c RecFunction ≡ false → isType c ≡ true → beginsType false k ≡ true → ((a : Token) → a .kind ≡ k → typeOver (readType n) a ≡ reference (readType n) c a)
+        → ((u : Source) (z : List ℕ) → Near es u (m ++ z) → Met (λ (a : Token). (a .kind ≡ k) × Near es (after a) z) (lex u)) → Typed (suc n) (node c s e (more t none))
+    unfolding readType reference build builds kindOfBuild BracketedAll
+    reference-back c k s e t h m l y p q f r w = record {
+      starts = λ z. rw (p, l z) (y (shown t ++ z));
+      noField = q;
+      bracketed = no-function c _ p (h .bracketed, tt);
+      reads = λ u z d g. met-map (λ a i. (
+        rw (p, i .0) f,
+        rw (r a (i .0)) (gives-look _ (h .reads (after a) z (i .1) g) λ b j. gives-then _ (j .1) λ x v y w.
+            gives _ _ (ap (λ (q : Build). made c (bmore q bnone)) y) w),
+      )) (w u (shown t ++ z) (subst (Near es u) (l z) d));
+    }
 
-  types-sure : (close : ℕ) (o : Token) → Every (All (Typed n)) (listBehind (readType n) close o)
-  types-sure close o = behind-sure (readType n) close o (Typed n) λ a g _. typed-sure a g
+    ref-back : (s e : ℕ) (t : Tree) → Typed n t → Typed (suc n) (node RecRef s e (more t none))
+    unfolding typeOver when laid headed head markIn isType isField
+    ref-back s e t h =
+        reference-back RecRef Amp s e t h (bytes "& ") (λ z. ap (λ (x : List ℕ). x ++ z) (laid-ref FormLine s e t)) (λ z. refl) refl refl refl (λ a i. rw i) λ u z d.
+        met-map (λ a i. (i .kind, blank (i .goes))) (amp es u (32 ∷ z) d (z, refl))
 
-  arguments-sure : (o : Token) → Every (All (Argument n)) (listBehind (readType n) Pipe o)
-  arguments-sure o = behind-sure (readType n) Pipe o (Argument n) λ a g x. map-every (Sure n a) (Argument n) (readType n a) (λ t h. (h .0, h .1 x)) (ih a g)
+    mut-back : (s e : ℕ) (t : Tree) → Typed n t → Typed (suc n) (node RecRefMut s e (more t none))
+    unfolding typeOver when laid headed head markIn isType isField
+    mut-back s e t h =
+        reference-back RecRefMut AmpMut s e t h (bytes "&mut ") (λ z. ap (λ (x : List ℕ). x ++ z) (laid-ref-mut FormLine s e t)) (λ z. refl) refl refl refl (λ a i. rw i) λ u z d.
+        met-map (λ a i. (i .kind, at-once (i .goes))) (amp-mut es u z d tt)
 
-  over-sure : (a : Token) → Good a → Every (Sure (suc n) a) (typeOver (readType n) a)
-  unfolding typeOver brackets reference function named withArguments build kindOfBuild
-  over-sure a g =
-      when-every _ _ _ _ (λ _. then-every (All (Typed n)) _ _ _ (types-sure RParen a) λ ts u h. (group-back n a u ts h, λ _. rw (bracketed-build a u ts) (grouped-kind (builds ts) .0))) λ _.
-      when-every _ _ _ _ (λ _. look-every _ (after a) _ λ b i. then-every (Typed n) _ _ _ (typed-sure b i) λ t u h. (ref-back n _ _ t h, λ _. refl)) λ _.
-      when-every _ _ _ _ (λ _. look-every _ (after a) _ λ b i. then-every (Typed n) _ _ _ (typed-sure b i) λ t u h. (mut-back n _ _ t h, λ _. refl)) λ _.
-      when-every _ _ _ _
-      (λ c. then-every (All (Argument n)) _ _ _ (arguments-sure a) λ ts u h. look-every _ u _ λ b i. then-every (Typed n) _ _ _ (typed-sure b i) λ t v j.
-      (function-back n _ _ ts t h j, λ x. false-true _ (sym x ∙ c))) λ _.
-      then-every Chain _ _ _ (chain-sure a g) λ c u h. look-every _ u _ λ o _.
-      when-every _ _ _ _ (λ _. then-every (All (Typed n)) _ _ _ (types-sure Greater o) λ ts v j. (type-back n _ _ c ts h j, λ _. refl)) λ _.
-      (type-back n _ _ c none h tt, λ _. refl)
+    function-back : (s e : ℕ) (ts : Trees) (t : Tree) → All (Argument n) ts → Typed n t → Typed (suc n) (node RecFunction s e (behind ts t))
+    unfolding readType typeOver function build isType isField kindOfBuild Bracketed
+    function-back s e ts t a h = record {
+      starts = λ z. rw (function-line s e ts t z) refl;
+      noField = refl;
+      bracketed = (λ _. none-bare n ts t a, behind-bracketed n ts t a (h .bracketed));
+      reads = λ u z d g. met-map (λ b i. (
+        rw (i .kind),
+        gives-false _ _ _ (rw (i .kind)) (gives-false _ _ _ (rw (i .kind)) (gives-false _ _ _ (rw (i .kind)) (gives-true _ _ _ (rw (i .kind))
+            (gives-then _ (list-reads es (readType n) Pipe b refl (124 ∷ 32 ∷ (shown t ++ z)) (32 ∷ (shown t ++ z)) (closed-bar (32 ∷ (shown t ++ z)) refl) ts (arguments-open n ts a) (inner-near (after b) ts _ (i .goes))) λ xs v j k.
+            gives-look _ (h .reads v z (blank k) g) λ c l. gives-then _ (l .1) λ x w y q. gives _ _ (ap (made RecFunction) (behind-same xs ts x t j y)) q)))),
+      ))
+          (bar es u (inner ts (124 ∷ 32 ∷ (shown t ++ z))) (subst (Near es u) (function-line s e ts t z) d) (bar-opens (Argument n) (λ t d. rw (d .1) at (d .0 .starts)) ts (124 ∷ 32 ∷ (shown t ++ z)) a));
+    }
 
-both-sure : (n : ℕ) (a : Token) → Good a → Every (Sure n a) (readType n a)
-unfolding readType
-both-sure zero a g = tt
-both-sure (suc n) a g = over-sure n (both-sure n) a g
+  -- what reading from the token a with n levels left is sure of
+  abbrev Sure : ℕ → Token → Tree → Type 0
+  Sure n a t = Typed n t × (eqb (a .kind) Pipe ≡ false → isFunction (build t) ≡ false)
 
-pub type-sure : (n : ℕ) (a : Token) → Good a → Every (Typed n) (readType n a)
-type-sure n = typed-sure n (both-sure n)
+  module _ (n : ℕ) (ih : (a : Token) → Good es a → Every es (Sure n a) (readType n a)) where
+    typed-sure : (a : Token) → Good es a → Every es (Typed n) (readType n a)
+    typed-sure a g = map-every es (Sure n a) (Typed n) (readType n a) (λ t h. h .0) (ih a g)
+
+    types-sure : (close : ℕ) (o : Token) → Good es o → Every es (All (Typed n)) (listBehind (readType n) close o)
+    types-sure close o e = behind-sure es (readType n) close o (Typed n) (λ a g _. typed-sure a g) (e .0)
+
+    arguments-sure : (o : Token) → Good es o → Every es (All (Argument n)) (listBehind (readType n) Pipe o)
+    arguments-sure o e = behind-sure es (readType n) Pipe o (Argument n) (λ a g x. map-every es (Sure n a) (Argument n) (readType n a) (λ t h. (h .0, h .1 x)) (ih a g)) (e .0)
+
+    over-sure : (a : Token) → Good es a → Every es (Sure (suc n) a) (typeOver (readType n) a)
+    unfolding typeOver brackets reference function named withArguments build kindOfBuild
+    over-sure a g =
+        when-every es _ _ _ _ (λ _. then-every es (All (Typed n)) _ _ _ (types-sure RParen a g) λ ts u e h. (e, (group-back n a u ts h, λ _. rw (bracketed-build a u ts) (grouped-kind (builds ts) .0)))) λ _.
+        when-every es _ _ _ _ (λ _. look-every es _ (after a) (g .0) _ λ b i. then-every es (Typed n) _ _ _ (typed-sure b i) λ t u e h. (e, (ref-back n _ _ t h, λ _. refl))) λ _.
+        when-every es _ _ _ _ (λ _. look-every es _ (after a) (g .0) _ λ b i. then-every es (Typed n) _ _ _ (typed-sure b i) λ t u e h. (e, (mut-back n _ _ t h, λ _. refl))) λ _.
+        when-every es _ _ _ _
+        (λ c. then-every es (All (Argument n)) _ _ _ (arguments-sure a g) λ ts u e h. look-every es _ u e _ λ b i. then-every es (Typed n) _ _ _ (typed-sure b i) λ t v q j.
+        (q, (function-back n _ _ ts t h j, λ x. false-true _ (sym x ∙ c)))) λ _.
+        then-every es (Chain es) _ _ _ (chain-sure es a g) λ c u e h. look-every es _ u e _ λ o k.
+        when-every es _ _ _ _ (λ _. then-every es (All (Typed n)) _ _ _ (types-sure Greater o k) λ ts v q j. (q, (type-back n _ _ c ts h j, λ _. refl))) λ _.
+        (e, (type-back n _ _ c none h tt, λ _. refl))
+
+  both-sure : (n : ℕ) (a : Token) → Good es a → Every es (Sure n a) (readType n a)
+  unfolding readType
+  both-sure zero a g = tt
+  both-sure (suc n) a g = over-sure n (both-sure n) a g
+
+  pub type-sure : (n : ℕ) (a : Token) → Good es a → Every es (Typed n) (readType n a)
+  type-sure n = typed-sure n (both-sure n)

@@ -5,13 +5,14 @@ use mathlib.Core.List.{List, [], _∷_, _++_}
 use Prim.Native.Nat.{ℕ, zero, suc, _+_, _-_, _<_, _≤_}
 use native.Mathlib.Omega.{arith}
 use native.Mathlib.Nat.{not-suc-le-zero}
-use borrow.Author.Tests.{eqb-true, not-true, leb-true, le-leb, ltb-false, le-ltb}
-use lib.Dec.{eqb, leb, ltb}
+use borrow.Author.Tests.{eqb-true, not-true, ltb-false, le-ltb}
+use lib.Dec.{eqb, ltb}
 use lib.ListN.{length, getD, take, drop, length-drop}
 use lib.Seq.{take-length, take-append-le, drop-append-le, take-append-seam, drop-append-seam, length-take-le}
 use Rattle.classes.specs.Bytes.{bytes, begins}
 use Rattle.classes.specs.Class.{inRange, isDigit, isHex, isLetter, isName, isAscii}
 use Rattle.classes.specs.Run.{runLen}
+use Rattle.classes.proofs.All.{digit-name, hex-name}
 use Rattle.classes.proofs.Bools.{false-true, and-left, and-right, and-false, or-left, or-right}
 use Rattle.classes.proofs.Cut.{begins-short}
 use Rattle.classes.proofs.Runs.{run-short}
@@ -19,13 +20,16 @@ use Rattle.gap.specs.Marks.{isSpace, isBlank, slashes, opens}
 use Rattle.gap.specs.Comments.{partAt}
 use Rattle.gap.specs.Gap.{End, clear, broken, gap}
 use Rattle.words.specs.Tables.{Entry, marks, longMarks, doubleMarks, singleMarks}
-use Rattle.words.specs.Search.{markOf, firstFit, frontLen, suffixes, suffixLen}
+use Rattle.words.specs.Search.{markOf, firstFit, frontLen, suffixes1, suffixes2, suffixesOf, suffixLen}
 use Rattle.words.specs.Quote.{quoteFrom}
 use Rattle.words.specs.declared.Quote.{Quote}
 use Rattle.words.specs.declared.Quote.the-variants.{Found, Missing}
 use Rattle.words.proofs.Quotes.{Within, within, quote-local}
 use Rattle.words.proofs.Marks.{mark-first}
-use Rattle.tokens.specs.Token.{Front, front, fault, decimal, hexLen, hexNumber, number, stringBy, string, opensString, stringRefusal, name, word, mark, findToken, Scanned, tok, bad, placed, behindGap, lex}
+use Rattle.words.proofs.Suffix.{both-lists}
+use Rattle.tokens.specs.Token.{Front, front, fault, digitsLen, moreDigits, moreHex, decimalLen, decimal, hexLen, hexNumber, number, stringBy, string, opensString, stringRefusal, name, word, mark, findToken, Scanned, tok, bad, placed, behindGap, lex}
+use Rattle.tokens.proofs.Digits.{digits-short}
+use Rattle.tokens.proofs.Editions.{more-digits-named, more-hex-named, whole-same}
 use Rattle.tokens.proofs.Fronts.{Takes, find-takes}
 use Rattle.tokens.proofs.Alone.{Alone, find-alone}
 
@@ -50,30 +54,13 @@ differs f n a h t = go (eqb a n) refl
     go false e = e
     go true e = false-true _ (sym h ∙ ap f (sym (eqb-true a n e)) ∙ t)
 
--- a narrower range
-narrower : (lo hi lo₂ hi₂ a : ℕ) → lo ≤ lo₂ → hi₂ ≤ hi → inRange lo hi a ≡ false → inRange lo₂ hi₂ a ≡ false
-unfolding inRange
-narrower lo hi lo₂ hi₂ a h g n = go (inRange lo₂ hi₂ a) refl
+-- what is no byte of a name is of no class of such bytes
+outside : (f : ℕ → Bool) → ((x : ℕ) → f x ≡ true → isName x ≡ true) → (a : ℕ) → isName a ≡ false → f a ≡ false
+outside f h a n = go (f a) refl
   where
-    go : (b : Bool) → inRange lo₂ hi₂ a ≡ b → inRange lo₂ hi₂ a ≡ false
+    go : (b : Bool) → f a ≡ b → f a ≡ false
     go false e = e
-    go true e =
-        let x : lo₂ ≤ a = leb-true lo₂ a (and-left (leb lo₂ a) (leb a hi₂) e) in
-        let y : a ≤ hi₂ = leb-true a hi₂ (and-right (leb lo₂ a) (leb a hi₂) e) in
-        let z : leb lo a && leb a hi ≡ true = rw (le-leb lo a (omega arith), le-leb a hi (omega arith)) in
-        false-true _ (sym n ∙ z)
-
--- what is no byte of a name is no digit, no hex digit
-no-digit : (a : ℕ) → isName a ≡ false → isDigit a ≡ false
-unfolding isName
-no-digit a h = or-right (isLetter a) (isDigit a) h
-
-no-hex : (a : ℕ) → isName a ≡ false → isHex a ≡ false
-unfolding isName isLetter isDigit isHex
-no-hex a h =
-    let l : isLetter a ≡ false = or-left (isLetter a) (isDigit a) h in
-    let m : inRange 97 122 a || inRange 65 90 a ≡ false = or-left (inRange 97 122 a || inRange 65 90 a) (eqb a 95) l in
-    rw (no-digit a h, narrower 65 90 65 70 a (omega arith) (omega arith) (or-right (inRange 97 122 a) (inRange 65 90 a) m), narrower 97 122 97 102 a (omega arith) (omega arith) (or-left (inRange 97 122 a) (inRange 65 90 a) m))
+    go true e = false-true _ (sym n ∙ h a e)
 
 -- a run, and a beginning, is the same with such bytes behind
 run-front : (f : ℕ → Bool) (w z : List ℕ) → Stops f z → runLen f (w ++ z) ≡ runLen f w
@@ -102,35 +89,61 @@ begins-front (a ∷ v) [] [] e s = refl
 begins-front (a ∷ v) [] (b ∷ z) e s = rw (differs (λ (n : ℕ). not (isName n)) a b (rw (and-left (isName a) (every isName v) e)) (rw s))
 begins-front (a ∷ v) (b ∷ w) z e s = rw (begins-front v w z (and-right (isName a) (every isName v) e) s)
 
-suffix-front : (w z : List ℕ) → Stops isName z → suffixLen (w ++ z) ≡ suffixLen w
-unfolding suffixLen suffixes frontLen isName isLetter isDigit inRange
-suffix-front w z s = rw (begins-front (bytes "u8") w z refl s, begins-front (bytes "u64") w z refl s, begins-front (bytes "u128") w z refl s)
+-- the first of some words that are made of bytes of names
+abbrev allNames : List (List ℕ) → Bool
+allNames [] = true
+allNames (v ∷ vs) = every isName v && allNames vs
+
+front-front : (vs : List (List ℕ)) (w z : List ℕ) → allNames vs ≡ true → Stops isName z → frontLen vs (w ++ z) ≡ frontLen vs w
+unfolding frontLen
+front-front [] w z h s = refl
+front-front (v ∷ vs) w z h s = rw (begins-front v w z (and-left (every isName v) (allNames vs) h) s, front-front vs w z (and-right (every isName v) (allNames vs) h) s)
+
+suffix-front : (ed : ℕ) (w z : List ℕ) → Stops isName z → suffixLen ed (w ++ z) ≡ suffixLen ed w
+unfolding suffixLen suffixes1 suffixes2 isName isLetter isDigit inRange
+suffix-front ed w z s = front-front (suffixesOf ed) w z (both-lists (λ vs. allNames vs ≡ true) refl refl ed) s
+
+digits-front : (f g : ℕ → Bool) (w z : List ℕ) → Stops f z → Stops g z → digitsLen f g (w ++ z) ≡ digitsLen f g w
+unfolding digitsLen
+digits-front f g [] [] s t = refl
+digits-front f g [] (a ∷ z) s t = rw s
+digits-front f g (a ∷ w) z s t = rw (run-front g w z t)
 
 -- numbers
-decimal-front : (w z : List ℕ) → Stops isName z → decimal (w ++ z) ≡ decimal w
-unfolding decimal
-decimal-front w z s =
-    rw (run-front isDigit w z (stops-less isDigit isName no-digit z s), drop-append-le (runLen isDigit w) w z (run-short isDigit w), suffix-front (drop (runLen isDigit w) w) z s)
+module _ (ed : ℕ) where
+  decimal-short : (w : List ℕ) → decimalLen ed w ≤ length w
+  unfolding decimalLen
+  decimal-short w = digits-short isDigit (moreDigits ed) w
 
-hex-len : (w z : List ℕ) → 2 ≤ length w → Stops isName z → hexLen (w ++ z) ≡ hexLen w
-unfolding hexLen
-hex-len w z g s = rw (drop-append-le 2 w z g, run-front isHex (drop 2 w) z (stops-less isHex isName no-hex z s))
+  decimal-len : (w z : List ℕ) → Stops isName z → decimalLen ed (w ++ z) ≡ decimalLen ed w
+  unfolding decimalLen
+  decimal-len w z s =
+      digits-front isDigit (moreDigits ed) w z (stops-less isDigit isName (outside isDigit digit-name) z s) (stops-less (moreDigits ed) isName (outside (moreDigits ed) (λ x. more-digits-named x ed)) z s)
 
-hex-short : (w : List ℕ) → 2 ≤ length w → hexLen w ≤ length w
-unfolding hexLen
-hex-short w g = omega (arith, run-short isHex (drop 2 w), length-drop 2 w)
+  decimal-front : (w z : List ℕ) → Stops isName z → decimal ed (w ++ z) ≡ decimal ed w
+  unfolding decimal
+  decimal-front w z s = rw (decimal-len w z s, drop-append-le (decimalLen ed w) w z (decimal-short w), suffix-front ed (drop (decimalLen ed w) w) z s)
 
-hex-front : (w z : List ℕ) → 2 ≤ length w → Stops isName z → hexNumber (w ++ z) ≡ hexNumber w
-unfolding hexNumber
-hex-front w z g s = rw (hex-len w z g s, drop-append-le (hexLen w) w z (hex-short w g), suffix-front (drop (hexLen w) w) z s)
+  hex-len : (w z : List ℕ) → 2 ≤ length w → Stops isName z → hexLen ed (w ++ z) ≡ hexLen ed w
+  unfolding hexLen
+  hex-len w z g s =
+      rw (drop-append-le 2 w z g, digits-front isHex (moreHex ed) (drop 2 w) z (stops-less isHex isName (outside isHex hex-name) z s) (stops-less (moreHex ed) isName (outside (moreHex ed) (λ x. more-hex-named x ed)) z s))
 
-number-front : (w z : List ℕ) → Stops isName z → number (w ++ z) ≡ number w
-unfolding number isName isLetter isDigit inRange
-number-front w z s = rw (begins-front (bytes "0x") w z refl s) (go (begins (bytes "0x") w) refl)
-  where
-    go : (b : Bool) → begins (bytes "0x") w ≡ b → cond b (hexNumber (w ++ z)) (decimal (w ++ z)) ≡ cond b (hexNumber w) (decimal w)
-    go true e = hex-front w z (begins-short (bytes "0x") w e) s
-    go false e = decimal-front w z s
+  hex-short : (w : List ℕ) → 2 ≤ length w → hexLen ed w ≤ length w
+  unfolding hexLen
+  hex-short w g = omega (arith, digits-short isHex (moreHex ed) (drop 2 w), length-drop 2 w)
+
+  hex-front : (w z : List ℕ) → 2 ≤ length w → Stops isName z → hexNumber ed (w ++ z) ≡ hexNumber ed w
+  unfolding hexNumber
+  hex-front w z g s = rw (hex-len w z g s, drop-append-le (hexLen ed w) w z (hex-short w g), suffix-front ed (drop (hexLen ed w) w) z s)
+
+  pub number-front : (w z : List ℕ) → Stops isName z → number ed (w ++ z) ≡ number ed w
+  unfolding number isName isLetter isDigit inRange
+  number-front w z s = rw (begins-front (bytes "0x") w z refl s) (go (begins (bytes "0x") w) refl)
+    where
+      go : (b : Bool) → begins (bytes "0x") w ≡ b → cond b (hexNumber ed (w ++ z)) (decimal ed (w ++ z)) ≡ cond b (hexNumber ed w) (decimal ed w)
+      go true e = hex-front w z (begins-short (bytes "0x") w e) s
+      go false e = decimal-front w z s
 
 -- names
 opens-front : (a : ℕ) (w z : List ℕ) → Stops extends z → opensString a (getD w 0 0) ≡ false → opensString a (getD (w ++ z) 0 0) ≡ false
@@ -187,12 +200,12 @@ word-front a w z k s h = go w (opensString a (getD w 0 0)) refl h
         by-string a b (u ++ z) e ∙ string-front (stringRefusal a) a b u z k (quoteFrom false 2 u) refl (sym (string-by (stringRefusal a) a b u) ∙ sym (by-string a b u e) ∙ h)
 
 -- the token at the front, where it begins with a letter or a digit
-find-front : (a : ℕ) (w z : List ℕ) (k : ℕ) → isName a ≡ true → Stops extends z → findToken (a ∷ w) ≡ front k (length (a ∷ w)) → findToken (a ∷ (w ++ z)) ≡ front k (length (a ∷ w))
+find-front : (ed a : ℕ) (w z : List ℕ) (k : ℕ) → isName a ≡ true → Stops extends z → findToken ed (a ∷ w) ≡ front k (length (a ∷ w)) → findToken ed (a ∷ (w ++ z)) ≡ front k (length (a ∷ w))
 unfolding findToken isName
-find-front a w z k n s h = go (isDigit a) refl (isLetter a) refl
+find-front ed a w z k n s h = go (isDigit a) refl (isLetter a) refl
   where
-    go : (b : Bool) → isDigit a ≡ b → (c : Bool) → isLetter a ≡ c → findToken (a ∷ (w ++ z)) ≡ front k (length (a ∷ w))
-    go true e c f = rw e (number-front (a ∷ w) z (stops-less isName extends (λ b. or-left (isName b) (eqb b 34)) z s) ∙ (rw e at h))
+    go : (b : Bool) → isDigit a ≡ b → (c : Bool) → isLetter a ≡ c → findToken ed (a ∷ (w ++ z)) ≡ front k (length (a ∷ w))
+    go true e c f = rw e (number-front ed (a ∷ w) z (stops-less isName extends (λ b. or-left (isName b) (eqb b 34)) z s) ∙ (rw e at h))
     go false e true f = rw (e, f) (word-front a w z k s (rw (e, f) at h))
     go false e false f = false-true _ (rw (e, f) at n)
 
@@ -206,21 +219,22 @@ abbrev pub Headed : List ℕ → Type 0
 Headed [] = ⊥
 Headed (a ∷ w) = isName a ≡ true
 
--- w is a token of kind k, wherever nothing goes on with it
-abbrev pub Spelled : ℕ → List ℕ → Type 0
-Spelled k w = Headed w × ((z : List ℕ) → Stops extends z → lex 0 (w ++ z) ≡ tok k 0 (0 + length w) w z)
+-- w is a token of kind k in an edition, wherever nothing goes on with it
+abbrev pub Spelled : ℕ → ℕ → List ℕ → Type 0
+Spelled ed k w = Headed w × ((z : List ℕ) → Stops extends z → lex ed 0 (w ++ z) ≡ tok k 0 (0 + length w) w z)
 
-word-spelled : (a : ℕ) (w : List ℕ) (k : ℕ) → isName a ≡ true → findToken (a ∷ w) ≡ front k (length (a ∷ w)) → Spelled k (a ∷ w)
+word-spelled : (ed a : ℕ) (w : List ℕ) (k : ℕ) → isName a ≡ true → findToken ed (a ∷ w) ≡ front k (length (a ∷ w)) → Spelled ed k (a ∷ w)
 unfolding lex behindGap placed
-word-spelled a w k n h = (n, λ z s. rw (no-part a (w ++ z) n, find-front a w z k n s h, take-append-seam (a ∷ w) z, drop-append-seam (a ∷ w) z))
+word-spelled ed a w k n h = (n, λ z s. rw (no-part a (w ++ z) n, find-front ed a w z k n s h, take-append-seam (a ∷ w) z, drop-append-seam (a ∷ w) z))
 
 -- the kinds of tokens that are words: identifiers, numbers, strings, `true` and `false`
 abbrev pub wordy : ℕ → Bool
 wordy k = (eqb k 4 || eqb k 1) || (eqb k 2 || (eqb k 3 || (eqb k 43 || eqb k 55)))
 
-abbrev pub Good : Scanned → Type 0
-Good (tok k s e w r) = wordy k ≡ true → Spelled k w
-Good (bad r) = Unit {0}
+-- a word that is scanned is that token in an edition
+abbrev pub Good : ℕ → Scanned → Type 0
+Good ed (tok k s e w r) = wordy k ≡ true → Spelled ed k w
+Good ed (bad r) = Unit {0}
 
 -- no mark is a word
 abbrev all : (Entry → Bool) → List Entry → Bool
@@ -252,25 +266,34 @@ mark-not s = go (eqb (markOf s .len) 0) (rw (mark-first s) (fit-not marks s mark
     go true h = tt
     go false h = h
 
-no-word : (a : ℕ) (s : List ℕ) → isName a ≡ false → Unworded (findToken (a ∷ s))
+no-word : (ed a : ℕ) (s : List ℕ) → isName a ≡ false → Unworded (findToken ed (a ∷ s))
 unfolding findToken isName
-no-word a s h = rw (or-right (isLetter a) (isDigit a) h, or-left (isLetter a) (isDigit a) h) (mark-not (a ∷ s))
+no-word ed a s h = rw (or-right (isLetter a) (isDigit a) h, or-left (isLetter a) (isDigit a) h) (mark-not (a ∷ s))
 
-found-good : (q a : ℕ) (s : List ℕ) (x : Front) (b : Bool) → isName a ≡ b → (b ≡ false → Unworded x) → Takes (length (a ∷ s)) x → Alone findToken (a ∷ s) x → Good (placed q (a ∷ s) x)
-unfolding placed
-found-good q a s (fault m i j) b e u t h = tt
-found-good q a s (front k zero) b e u t h = absurd (not-suc-le-zero (t .1))
-found-good q a s (front k (suc n)) true e u t h = λ _.
-    let l : length (take (suc n) (a ∷ s)) ≡ suc n = length-take-le (suc n) (a ∷ s) (t .2) in
-    word-spelled a (take n s) k e (h ∙ ap (front k) (sym l))
-found-good q a s (front k (suc n)) false e u t h = λ x. false-true _ (sym (u refl) ∙ x)
+-- what is found in one edition, where its bytes alone are that token in another
+module _ (ed back : ℕ) (same : (a : ℕ) (s : List ℕ) (k : ℕ) → findToken ed (a ∷ s) ≡ front k (length (a ∷ s)) → findToken back (a ∷ s) ≡ front k (length (a ∷ s))) where
+  found-good : (q a : ℕ) (s : List ℕ) (x : Front) (b : Bool) → isName a ≡ b → (b ≡ false → Unworded x) → Takes (length (a ∷ s)) x → Alone (findToken ed) (a ∷ s) x → Good back (placed q (a ∷ s) x)
+  unfolding placed
+  found-good q a s (fault m i j) b e u t h = tt
+  found-good q a s (front k zero) b e u t h = absurd (not-suc-le-zero (t .1))
+  found-good q a s (front k (suc n)) true e u t h = λ _.
+      let l : length (take (suc n) (a ∷ s)) ≡ suc n = length-take-le (suc n) (a ∷ s) (t .2) in
+      word-spelled back a (take n s) k e (same a (take n s) k (h ∙ ap (front k) (sym l)))
+  found-good q a s (front k (suc n)) false e u t h = λ x. false-true _ (sym (u refl) ∙ x)
 
-behind-good : (e : End) → Good (behindGap e)
-unfolding behindGap placed findToken
-behind-good (clear q []) = λ x. false-true _ x
-behind-good (clear q (a ∷ s)) = found-good q a s (findToken (a ∷ s)) (isName a) refl (no-word a s) (find-takes a s) (find-alone a s)
-behind-good (broken o q) = tt
+  behind-good : (e : End) → Good back (behindGap ed e)
+  unfolding behindGap placed findToken
+  behind-good (clear q []) = λ x. false-true _ x
+  behind-good (clear q (a ∷ s)) = found-good q a s (findToken ed (a ∷ s)) (isName a) refl (no-word ed a s) (find-takes ed a s) (find-alone ed a s)
+  behind-good (broken o q) = tt
 
-pub lex-good : (s : List ℕ) → Good (lex 0 s)
-unfolding lex
-lex-good s = behind-good (gap 0 0 s .last)
+  good : (s : List ℕ) → Good back (lex ed 0 s)
+  unfolding lex
+  good s = behind-good (gap 0 0 s .last)
+
+-- a word is that token again in its own edition; and one of edition 1 is so in edition 2
+pub good-own : (ed : ℕ) (s : List ℕ) → Good ed (lex ed 0 s)
+good-own ed = good ed ed (λ a s k h. h)
+
+pub good-later : (s : List ℕ) → Good 2 (lex 1 0 s)
+good-later = good 1 2 whole-same

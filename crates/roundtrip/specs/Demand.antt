@@ -12,20 +12,21 @@ use Rattle.sources.specs.Source.{Token, tokenOf}
 use Rattle.grammar.specs.Items.{Item, item, refused}
 use Rattle.calls.specs.Calls.{read, readBuffer, answered, readNumber, readValues, display, displayBuffer, displayed, displayNumber, displayValues}
 
--- an item is a text, a start offset and an item kind; with it come the buffers lent to its read and to its display
+-- an item is a text, a start offset, an item kind and an edition; with it come the buffers lent to its read and to its display
 pub record Lent : Type 0 where
   pub text : List ℕ
   pub at : ℕ
   pub kind : ℕ
+  pub edition : ℕ
   pub forTree : List ℕ
   pub forLine : List ℕ
 
 -- the answers of its read and of its display
 abbrev pub readOf : Lent → Item
-readOf i = read (i .kind) (i .text) (i .at) (length (i .forTree))
+readOf i = read (i .kind) (i .edition) (i .text) (i .at) (length (i .forTree))
 
 abbrev pub displayOf : Lent → Item
-displayOf i = display (i .kind) (i .text) (i .at) (length (i .forLine))
+displayOf i = display (i .kind) (i .edition) (i .text) (i .at) (length (i .forLine))
 
 -- an answer that is no refusal
 abbrev pub NotRefused : Item → Type 0
@@ -47,11 +48,12 @@ lineLength i = getD (displayValues (displayed (displayOf i))) 0 0
 
 -- its line is the bytes that the display writes: so many of its buffer, from the first on
 abbrev pub lineOf : Lent → List ℕ
-lineOf i = take (lineLength i) (displayBuffer (i .kind) (i .text) (i .at) (i .forLine))
+lineOf i = take (lineLength i) (displayBuffer (i .kind) (i .edition) (i .text) (i .at) (i .forLine))
 
--- reading a line back means that the line alone is the text, the offset 0 and the item kind the same; two buffers are lent for it
+-- reading a line back means that the line alone is the text, the offset 0, and the item kind and the edition the same; two buffers are
+-- lent for it
 abbrev pub lineBack : Lent → List ℕ → List ℕ → Lent
-lineBack i out lineOut = record { text = lineOf i; at = 0; kind = i .kind; forTree = out; forLine = lineOut }
+lineBack i out lineOut = record { text = lineOf i; at = 0; kind = i .kind; edition = i .edition; forTree = out; forLine = lineOut }
 
 -- EOF at (n,n)
 abbrev pub eofAt : ℕ → Answer
@@ -65,7 +67,7 @@ pub record ReadBack (i : Lent) (t : Tree) (j : Lent) : Type 0 where
   pub accepted : Accepted j tree next
   pub atEnd : tokenOf next ≡ eofAt (length (lineOf i))
   pub sameBuild : build tree ≡ build t
-  pub treeWritten : readBuffer (j .kind) (j .text) (j .at) (j .forTree) ≡ stored tree ++ drop (treeLength i) (j .forTree)
+  pub treeWritten : readBuffer (j .kind) (j .edition) (j .text) (j .at) (j .forTree) ≡ stored tree ++ drop (treeLength i) (j .forTree)
   pub sameLine : lineOf j ≡ lineOf i
   pub sameTreeLength : treeLength j ≡ treeLength i
   pub sameLineLength : lineLength j ≡ lineLength i
@@ -76,4 +78,4 @@ pub record AnsweredBack (i j : Lent) : Type 0 where
   pub readValuesAre : readValues (answered (readOf j)) ≡ treeLength i ∷ EOF ∷ lineLength i ∷ lineLength i ∷ 0 ∷ 0 ∷ []
   pub displayNumberIs : displayNumber (displayed (displayOf j)) ≡ 0
   pub displayValuesAre : displayValues (displayed (displayOf j)) ≡ lineLength i ∷ 0 ∷ 0 ∷ 0 ∷ 0 ∷ 0 ∷ []
-  pub displayWrites : displayBuffer (j .kind) (j .text) (j .at) (j .forLine) ≡ lineOf i ++ drop (lineLength i) (j .forLine)
+  pub displayWrites : displayBuffer (j .kind) (j .edition) (j .text) (j .at) (j .forLine) ≡ lineOf i ++ drop (lineLength i) (j .forLine)

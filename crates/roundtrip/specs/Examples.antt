@@ -1,12 +1,12 @@
--- The examples: one list, P1 to P15 and then strings that spoil a line. Each entry has its name, the call that is made of a text from 0,
--- and what the call must give. That it gives that is one lemma, `examples-hold` in proofs/Examples.
+-- The examples, of edition 1: one list, P1 to P15 and then strings that spoil a line. Each entry has its name, the call that is made of a
+-- text from 0, and what the call must give. That it gives that is one lemma, `examples-hold` in proofs/Examples.
 use mathlib.Core.List.{List, [], _∷_, _++_, map}
 use Prim.Native.Nat.{ℕ}
 use Prim.Native.String.{String}
 use lib.ListN.{length}
 use Rattle.classes.specs.Bytes.{bytes}
 use Rattle.tokens.specs.Answers.{tokenNumber, tokenValues}
-use Rattle.tokens.specs.Calls.{nextToken, advanced}
+use Rattle.tokens.specs.Calls.{tokenCall}
 use Rattle.calls.specs.Calls.{treeLimit, read as readCall, readBuffer, answered, readNumber, readValues, display as displayCall, displayBuffer, displayed, displayNumber, displayValues}
 
 -- by name and text: the token call's number and values; the read call's, for an item kind, with room for every answer; the bytes that a
@@ -32,11 +32,11 @@ expected (line p k t v) = record { number = 0; values = v }
 expected (noLine p k t m n v) = record { number = n; values = v }
 
 unfoldable pub given : Example → Result
-given (token p t n v) = record { number = tokenNumber (nextToken t 0); values = tokenValues (nextToken t 0) (advanced t 0 .feed) }
-given (read p k t n v) = record { number = readNumber (answered (readCall k t 0 treeLimit)); values = readValues (answered (readCall k t 0 treeLimit)) }
-given (tree p k t v) = record { number = readNumber (answered (readCall k t 0 (length v))); values = readBuffer k t 0 (map (λ b. 255) v) }
-given (line p k t v) = record { number = displayNumber (displayed (displayCall k t 0 (length v))); values = displayBuffer k t 0 (map (λ b. 255) v) }
-given (noLine p k t m n v) = record { number = displayNumber (displayed (displayCall k t 0 m)); values = displayValues (displayed (displayCall k t 0 m)) }
+given (token p t n v) = record { number = tokenNumber (tokenCall 1 t 0 .lexed); values = tokenValues (tokenCall 1 t 0 .lexed) (tokenCall 1 t 0 .feed) }
+given (read p k t n v) = record { number = readNumber (answered (readCall k 1 t 0 treeLimit)); values = readValues (answered (readCall k 1 t 0 treeLimit)) }
+given (tree p k t v) = record { number = readNumber (answered (readCall k 1 t 0 (length v))); values = readBuffer k 1 t 0 (map (λ b. 255) v) }
+given (line p k t v) = record { number = displayNumber (displayed (displayCall k 1 t 0 (length v))); values = displayBuffer k 1 t 0 (map (λ b. 255) v) }
+given (noLine p k t m n v) = record { number = displayNumber (displayed (displayCall k 1 t 0 m)); values = displayValues (displayed (displayCall k 1 t 0 m)) }
 
 -- six values of which the last two are 0, as in every answer here
 abbrev pub six : ℕ → ℕ → ℕ → ℕ → List ℕ

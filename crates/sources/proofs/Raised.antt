@@ -24,4 +24,4 @@ module _ (k : ℕ) where
 
   pub lex-raised : (u : Source) → lex (raiseSource k u) ≡ raiseScanned k (lex u)
   unfolding lex
-  lex-raised u = ap (scanned (raiseSource k u)) (lex-up k (u .at) (u .rest)) ∙ scanned-raised u (lexFrom (u .at) (u .rest))
+  lex-raised u = ap (scanned (raiseSource k u)) (lex-up (u .edition) k (u .at) (u .rest)) ∙ scanned-raised u (lexFrom (u .edition) (u .at) (u .rest))

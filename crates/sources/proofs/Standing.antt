@@ -72,19 +72,19 @@ module _ (u : Source) where
   further n p h = ap (drop n) (sym ends) ∙ drop-drop n (u .at) text ∙ ap (λ (q : ℕ). drop q text) h
 
   -- a token that starts where the source does
-  at-once : (v : Source) (k s e : ℕ) (w r : List ℕ) → v .at ≡ s → lexFrom (v .at) (v .rest) ≡ found k s e w r → lex v ≡ tok (record { kind = k; here = v; len = e - s })
+  at-once : (v : Source) (k s e : ℕ) (w r : List ℕ) → v .at ≡ s → lexFrom (v .edition) (v .at) (v .rest) ≡ found k s e w r → lex v ≡ tok (record { kind = k; here = v; len = e - s })
   unfolding lex scanned
   at-once v k s e w r h l =
       let z : s - v .at ≡ 0 = omega arith in
       let y : v .at + 0 ≡ v .at = omega arith in
       rw (l, z, y)
 
-  module _ (k s e : ℕ) (w r : List ℕ) (l : lexFrom (u .at) (u .rest) ≡ found k s e w r) where
-    from-text : lexFrom (u .at) (drop (u .at) text) ≡ found k s e w r
-    from-text = ap (lexFrom (u .at)) ends ∙ l
+  module _ (k s e : ℕ) (w r : List ℕ) (l : lexFrom (u .edition) (u .at) (u .rest) ≡ found k s e w r) where
+    from-text : lexFrom (u .edition) (u .at) (drop (u .at) text) ≡ found k s e w r
+    from-text = ap (lexFrom (u .edition) (u .at)) ends ∙ l
 
     good : lexing.Good text (u .at) k s e w r
-    good = subst (lexing.Sound text (u .at)) from-text (lexing.lex-sound text (u .at) (omega (arith, long)))
+    good = subst (lexing.Sound text (u .at)) from-text (lexing.lex-sound (u .edition) text (u .at) (omega (arith, long)))
 
     here-at : u .at + (s - u .at) ≡ s
     here-at = omega (arith, good .from)
@@ -97,7 +97,7 @@ module _ (u : Source) where
 
     halved : k ≡ GreaterGreater → (e - s ≡ 2) × (drop 1 (drop (s - u .at) (u .rest)) ≡ 62 ∷ drop (e - s) (drop (s - u .at) (u .rest)))
     halved h =
-        let d = shift-split text (u .at) s e w r (omega (arith, long)) (from-text ∙ ap (λ (j : ℕ). found j s e w r) h) in
+        let d = shift-split (u .edition) text (u .at) s e w r (omega (arith, long)) (from-text ∙ ap (λ (j : ℕ). found j s e w r) h) in
         let z : s + 1 ≡ suc s = omega arith in
         let y : s + (e - s) ≡ e = omega (arith, good .ordered) in
         (omega (arith, d .0), ap (drop 1) from-here ∙ drop-drop 1 s text ∙ ap (λ (q : ℕ). drop q text) z ∙ sym (d .1) ∙ ap (_∷_ 62) (good .behind ∙ ap (λ (q : ℕ). drop q text) (sym y) ∙ sym (drop-drop (e - s) s text) ∙ ap (drop (e - s)) (sym from-here)))
@@ -110,29 +110,29 @@ module _ (u : Source) where
           within = omega (arith, good .from, good .ordered, good .within, long);
           takes = λ h. omega (arith, good .takes h);
           last = λ h. let z = good .last h in (omega (arith, z .0, z .1), omega (arith, z .0, long));
-          marked = λ h. spelt ∙ subst SpeltToken l (lex-spelt (u .at) (u .rest)) h;
+          marked = λ h. spelt ∙ subst SpeltToken l (lex-spelt (u .edition) (u .at) (u .rest)) h;
           halves = halved;
-          readable = subst (λ (v : List ℕ). legible k v ≡ true) (sym spelt) (subst LegibleToken l (lex-legible (u .at) (u .rest)));
-          again = at-once (past (s - u .at) u) k s e w r here-at (ap (lexFrom (u .at + (s - u .at))) from-here ∙ ap (λ (q : ℕ). lexFrom q (drop s text)) here-at ∙ lex-again text (u .at) k s e w r (omega (arith, long)) from-text);
+          readable = subst (λ (v : List ℕ). legible k v ≡ true) (sym spelt) (subst LegibleToken l (lex-legible (u .edition) (u .at) (u .rest)));
+          again = at-once (past (s - u .at) u) k s e w r here-at (ap (lexFrom (u .edition) (u .at + (s - u .at))) from-here ∙ ap (λ (q : ℕ). lexFrom (u .edition) q (drop s text)) here-at ∙ lex-again (u .edition) text (u .at) k s e w r (omega (arith, long)) from-text);
         }
 
-  scanned-sound : (l : Lexing) → lexFrom (u .at) (u .rest) ≡ l → Sound u (scanned u l)
+  scanned-sound : (l : Lexing) → lexFrom (u .edition) (u .at) (u .rest) ≡ l → Sound u (scanned u l)
   unfolding scanned
   scanned-sound (found k s e w r) h = token-standing k s e w r h
   scanned-sound (faulty r) h =
-      let d : lexing.Sound text (u .at) (faulty r) = subst (lexing.Sound text (u .at)) (ap (lexFrom (u .at)) ends ∙ h) (lexing.lex-sound text (u .at) (omega (arith, long))) in
+      let d : lexing.Sound text (u .at) (faulty r) = subst (lexing.Sound text (u .at)) (ap (lexFrom (u .edition) (u .at)) ends ∙ h) (lexing.lex-sound (u .edition) text (u .at) (omega (arith, long))) in
       ((d .0 .0, omega (arith, d .0 .1, long)), (d .1 .0, omega (arith, d .1 .1, long)))
 
   pub lex-sound : Sound u (lex u)
   unfolding lex
-  lex-sound = scanned-sound (lexFrom (u .at) (u .rest)) refl
+  lex-sound = scanned-sound (lexFrom (u .edition) (u .at) (u .rest)) refl
 
   -- what the lexer finds, as the calls answer it
-  pub answer-same : answerOf (lex u) ≡ lexed (lexFrom (u .at) (u .rest))
+  pub answer-same : answerOf (lex u) ≡ lexed (lexFrom (u .edition) (u .at) (u .rest))
   unfolding lex scanned lexed answerOf
-  answer-same = go (lexFrom (u .at) (u .rest)) refl
+  answer-same = go (lexFrom (u .edition) (u .at) (u .rest)) refl
     where
-      go : (l : Lexing) → lexFrom (u .at) (u .rest) ≡ l → answerOf (scanned u l) ≡ lexed l
+      go : (l : Lexing) → lexFrom (u .edition) (u .at) (u .rest) ≡ l → answerOf (scanned u l) ≡ lexed l
       go (found k s e w r) h =
           let d = good k s e w r h in
           let z = here-at k s e w r h in
@@ -140,7 +140,7 @@ module _ (u : Source) where
           rw (z, y)
       go (faulty r) h = refl
 
--- the token call, over the source
-pub next-token-same : (text : List ℕ) (at : ℕ) → nextToken text at ≡ admitted Refused text at (answerOf (lex (opened text at)))
+-- the next token, over the source
+pub next-token-same : (ed : ℕ) (text : List ℕ) (at : ℕ) → nextToken ed text at ≡ admitted Refused text at (answerOf (lex (opened ed text at)))
 unfolding nextToken
-next-token-same text at = ap (admitted Refused text at) (sym (answer-same (opened text at)))
+next-token-same ed text at = ap (admitted Refused text at) (sym (answer-same (opened ed text at)))

@@ -1,4 +1,5 @@
--- A source is where reading goes on: a place of the text and the bytes from there on. A token holds the source at its first byte.
+-- A source is where reading goes on: the edition, a place of the text and the bytes from there on. A token holds the source at its
+-- first byte.
 use Prim.Native.Nat.{ℕ, _+_, _-_}
 use mathlib.Core.List.{List}
 use lib.ListN.{take, drop}
@@ -10,16 +11,17 @@ use Rattle.tokens.specs.declared.Lexed.{Lexed}
 use Rattle.tokens.specs.declared.Lexed.the-variants.{Found, Refused}
 
 pub record Source : Type 0 where
+  pub edition : ℕ
   pub at : ℕ
   pub rest : List ℕ
 
--- the source of a text from an offset on
-abbrev pub opened : List ℕ → ℕ → Source
-opened text p = record { at = p; rest = drop p text }
+-- the source of a text in an edition, from an offset on
+abbrev pub opened : ℕ → List ℕ → ℕ → Source
+opened ed text p = record { edition = ed; at = p; rest = drop p text }
 
 -- the same source at another place: the one definition that names every field when a source is moved on
 abbrev pub moved : Source → ℕ → List ℕ → Source
-moved u p s = record { at = p; rest = s }
+moved u p s = record { edition = u .edition; at = p; rest = s }
 
 -- n bytes on
 abbrev pub past : ℕ → Source → Source
@@ -56,9 +58,9 @@ unfoldable pub scanned : Source → Lexing → Scanned
 scanned u (found k s e w r) = tok (record { kind = k; here = past (s - u .at) u; len = e - s })
 scanned u (faulty r) = bad r
 
--- the next token of a source
+-- the next token of a source, in its edition
 unfoldable pub lex : Source → Scanned
-lex u = scanned u (lexFrom (u .at) (u .rest))
+lex u = scanned u (lexFrom (u .edition) (u .at) (u .rest))
 
 -- a token as the calls answer it: its kind and its span
 abbrev pub tokenOf : Token → Answer

@@ -1,11 +1,10 @@
 -- The number and the values of each case of an answer.
-use mathlib.Core.Path.{_≡_, refl, ap}
+use mathlib.Core.Path.{_≡_, refl}
 use mathlib.Core.Bool.{cond}
 use mathlib.Core.List.{List, [], _∷_}
 use Prim.Native.Nat.{ℕ}
 use Rattle.gap.specs.declared.Comment.{Comment}
 use Rattle.tokens.specs.Answers.{places, tokenNumber, tokenValues, commentNumber, commentValues}
-use Rattle.tokens.specs.Calls.{nextToken, advanced}
 use Rattle.tokens.specs.declared.Advanced.{Advanced}
 use Rattle.tokens.specs.declared.Refusal.{Refusal}
 use Rattle.tokens.specs.declared.Token.{Token}
@@ -19,20 +18,15 @@ use Rattle.calls.specs.Calls.{displayNumber, displayValues}
 use Rattle.calls.specs.declared.Displayed.{Displayed}
 use Rattle.calls.specs.declared.Displayed.the-variants.{Line, Refused as Undisplayed}
 
-module _ (text : List ℕ) (at : ℕ) (a : Advanced) (ea : a ≡ advanced text at) where
-  same-token : a .lexed ≡ nextToken text at
-  unfolding advanced
-  same-token = ap (λ (x : Advanced). x .lexed) ea
-
+module _ (call a : Advanced) (ea : a ≡ call) where
   pub found : (t : Token) → a .lexed ≡ Found t → (f : ℕ) → f ≡ cond (a .feed) 1 0
-      → (0 ≡ tokenNumber (nextToken text at)) × (t .kind ∷ t .start ∷ t .end ∷ f ∷ 0 ∷ 0 ∷ [] ≡ tokenValues (nextToken text at) (advanced text at .feed))
+      → (0 ≡ tokenNumber (call .lexed)) × (t .kind ∷ t .start ∷ t .end ∷ f ∷ 0 ∷ 0 ∷ [] ≡ tokenValues (call .lexed) (call .feed))
   unfolding tokenNumber tokenValues
-  found t e f h = rw (← same-token, e, h, ea) (refl, refl)
+  found t e f h = rw (← ea, e, h) (refl, refl)
 
-  pub refused : (r : Refusal) → a .lexed ≡ Refused r → (v : List ℕ) → v ≡ places r
-      → (r .number ≡ tokenNumber (nextToken text at)) × (v ≡ tokenValues (nextToken text at) (advanced text at .feed))
+  pub refused : (r : Refusal) → a .lexed ≡ Refused r → (v : List ℕ) → v ≡ places r → (r .number ≡ tokenNumber (call .lexed)) × (v ≡ tokenValues (call .lexed) (call .feed))
   unfolding tokenNumber tokenValues
-  refused r e v f = rw (← same-token, e) (refl, f)
+  refused r e v f = rw (← ea, e) (refl, f)
 
 module _ (a : DocComment) where
   pub doc : (c : Comment) → a ≡ Doc c → (0 ≡ commentNumber a) × (1 ∷ c .start ∷ c .end ∷ c .from ∷ c .to ∷ 0 ∷ [] ≡ commentValues a)

@@ -3,7 +3,7 @@
 ghost use mathlib.Core.Path.{_≡_};
 ghost use mathlib.Core.Bool.{cond};
 ghost use Rattle.tokens.specs.Answers.{places, tokenNumber, tokenValues, commentNumber, commentValues};
-ghost use Rattle.tokens.specs.Calls.{nextToken, advanced, nextComment};
+ghost use Rattle.tokens.specs.Calls.{tokenCall, nextComment};
 ghost use lib.ListN.{length};
 ghost use Rattle.calls.specs.Calls.{answered, readNumber, readValues, read, readBuffer, displayed, displayNumber, displayValues, display, displayBuffer};
 use calls::Answer;
@@ -38,11 +38,16 @@ fn one_if(b: bool) -> u64
 
 // The next token from `at` on, and whether LF stands between `at` and it.
 #[no_mangle]
-pub extern "C" fn movesig_next_token(text: &[u8], at: usize, answer: &mut [u64; 6]) -> u32
-    ensures number { λ r. ⌜ r ≡ tokenNumber (nextToken (now (text .entry)) at) ⌝ }
-    ensures values { λ r. ⌜ now (answer .exit) ≡ tokenValues (nextToken (now (text .entry)) at) (advanced (now (text .entry)) at .feed) ⌝ }
+pub extern "C" fn movesig_next_token(
+    edition: u64,
+    text: &[u8],
+    at: usize,
+    answer: &mut [u64; 6],
+) -> u32
+    ensures number { λ r. ⌜ r ≡ tokenNumber (tokenCall edition (now (text .entry)) at .lexed) ⌝ }
+    ensures values { λ r. ⌜ now (answer .exit) ≡ tokenValues (tokenCall edition (now (text .entry)) at .lexed) (tokenCall edition (now (text .entry)) at .feed) ⌝ }
 {
-    let a = tokens::advance(text, at);
+    let a = tokens::token_call(edition, text, at);
     let t = a.lexed;
     match t {
         Lexed::Found(k) => {
@@ -59,11 +64,16 @@ pub extern "C" fn movesig_next_token(text: &[u8], at: usize, answer: &mut [u64; 
 
 // The first doc comment in the gap from `at` on.
 #[no_mangle]
-pub extern "C" fn movesig_next_comment(text: &[u8], at: usize, answer: &mut [u64; 6]) -> u32
-    ensures number { λ r. ⌜ r ≡ commentNumber (nextComment (now (text .entry)) at) ⌝ }
-    ensures values { λ r. ⌜ now (answer .exit) ≡ commentValues (nextComment (now (text .entry)) at) ⌝ }
+pub extern "C" fn movesig_next_comment(
+    edition: u64,
+    text: &[u8],
+    at: usize,
+    answer: &mut [u64; 6],
+) -> u32
+    ensures number { λ r. ⌜ r ≡ commentNumber (nextComment edition (now (text .entry)) at) ⌝ }
+    ensures values { λ r. ⌜ now (answer .exit) ≡ commentValues (nextComment edition (now (text .entry)) at) ⌝ }
 {
-    let d = tokens::next_comment(text, at);
+    let d = tokens::next_comment(edition, text, at);
     match d {
         DocComment::Doc(c) => {
             *answer = [
@@ -91,16 +101,17 @@ pub extern "C" fn movesig_next_comment(text: &[u8], at: usize, answer: &mut [u64
 #[no_mangle]
 pub extern "C" fn movesig_read(
     kind: u64,
+    edition: u64,
     text: &[u8],
     at: usize,
     out: &mut [u8],
     answer: &mut [u64; 6],
 ) -> u32
-    ensures number { λ r. ⌜ r ≡ readNumber (answered (read kind (now (text .entry)) at (length (now (out .entry))))) ⌝ }
-    ensures values { λ r. ⌜ now (answer .exit) ≡ readValues (answered (read kind (now (text .entry)) at (length (now (out .entry))))) ⌝ }
-    ensures buffer { λ r. ⌜ now (out .exit) ≡ readBuffer kind (now (text .entry)) at (now (out .entry)) ⌝ }
+    ensures number { λ r. ⌜ r ≡ readNumber (answered (read kind edition (now (text .entry)) at (length (now (out .entry))))) ⌝ }
+    ensures values { λ r. ⌜ now (answer .exit) ≡ readValues (answered (read kind edition (now (text .entry)) at (length (now (out .entry))))) ⌝ }
+    ensures buffer { λ r. ⌜ now (out .exit) ≡ readBuffer kind edition (now (text .entry)) at (now (out .entry)) ⌝ }
 {
-    let a = calls::read(kind, text, at, out);
+    let a = calls::read(kind, edition, text, at, out);
     match a {
         Answer::Item(n, t) => {
             *answer = [n as u64, t.kind as u64, t.start as u64, t.end as u64, 0, 0];
@@ -117,16 +128,17 @@ pub extern "C" fn movesig_read(
 #[no_mangle]
 pub extern "C" fn movesig_display(
     kind: u64,
+    edition: u64,
     text: &[u8],
     at: usize,
     line: &mut [u8],
     answer: &mut [u64; 6],
 ) -> u32
-    ensures number { λ r. ⌜ r ≡ displayNumber (displayed (display kind (now (text .entry)) at (length (now (line .entry))))) ⌝ }
-    ensures values { λ r. ⌜ now (answer .exit) ≡ displayValues (displayed (display kind (now (text .entry)) at (length (now (line .entry))))) ⌝ }
-    ensures buffer { λ r. ⌜ now (line .exit) ≡ displayBuffer kind (now (text .entry)) at (now (line .entry)) ⌝ }
+    ensures number { λ r. ⌜ r ≡ displayNumber (displayed (display kind edition (now (text .entry)) at (length (now (line .entry))))) ⌝ }
+    ensures values { λ r. ⌜ now (answer .exit) ≡ displayValues (displayed (display kind edition (now (text .entry)) at (length (now (line .entry))))) ⌝ }
+    ensures buffer { λ r. ⌜ now (line .exit) ≡ displayBuffer kind edition (now (text .entry)) at (now (line .entry)) ⌝ }
 {
-    let d = calls::display(kind, text, at, line);
+    let d = calls::display(kind, edition, text, at, line);
     match d {
         Displayed::Line(n) => {
             *answer = [n as u64, 0, 0, 0, 0, 0];

@@ -21,38 +21,38 @@ pub record Progress (text old : List ℕ) (at : ℕ) (new : List ℕ) (pos : ℕ
   pub room : pos ≤ 18 * at
   pub before : List ℕ
   pub shown : Written old 0 before pos new
-  pub rest : printed (tokensOf text) ≡ before ++ printed (tokensAt text at)
+  pub rest : printed (tokensOf text) ≡ before ++ printed (tokensAt 1 text at)
 
 pub begun : (text old : List ℕ) → Progress text old 0 old 0
 unfolding tokensOf
 begun text old = record { inside = omega arith; low = omega arith; room = omega arith; before = []; shown = written-none old 0; rest = refl }
 
 module _ (text old : List ℕ) (at : ℕ) (new : List ℕ) (pos : ℕ) (p : Progress text old at new pos) (end : ℕ) (last : List ℕ) where
-  whole : (w : List ℕ) → Written new pos w end last → printed (tokensAt text at) ≡ w → Written old 0 (printed (tokensOf text)) end last
+  whole : (w : List ℕ) → Written new pos w end last → printed (tokensAt 1 text at) ≡ w → Written old 0 (printed (tokensOf text)) end last
   whole w g e = rw (p .rest, e) (written-both old new last (p .before) w 0 pos end (p .shown) g)
 
-  pub with-refusal : (r : Refusal) → nextToken text at ≡ Refused r → Written new pos (refusedLine r) end last → Written old 0 (printed (tokensOf text)) end last
+  pub with-refusal : (r : Refusal) → nextToken 1 text at ≡ Refused r → Written new pos (refusedLine r) end last → Written old 0 (printed (tokensOf text)) end last
   unfolding printed
-  with-refusal r e g = whole (refusedLine r) g (ap printed (at-refused text at (p .inside) r e))
+  with-refusal r e g = whole (refusedLine r) g (ap printed (at-refused 1 text at (p .inside) r e))
 
-  module _ (t : Token) (e : nextToken text at ≡ Found t) (g : Written new pos (tokenLine t) end last) where
+  module _ (t : Token) (e : nextToken 1 text at ≡ Found t) (g : Written new pos (tokenLine t) end last) where
     pub with-eof : t .kind ≡ 0 → Written old 0 (printed (tokensOf text)) end last
     unfolding printed
-    with-eof z = whole (tokenLine t) g (ap printed (at-eof text at (p .inside) t e z))
+    with-eof z = whole (tokenLine t) g (ap printed (at-eof 1 text at (p .inside) t e z))
 
     module _ (n : t .kind ≡ 0 → ⊥) where
       pub goes-on : (at < t .end) × (t .end ≤ length text)
-      goes-on = let r = at-next text at (p .inside) t e n in (r .1, r .2)
+      goes-on = let r = at-next 1 text at (p .inside) t e n in (r .1, r .2)
 
       pub with-token : end ≤ pos + 18 → Progress text old (t .end) last end
       unfolding printed
       with-token h =
-          let r = at-next text at (p .inside) t e n in
+          let r = at-next 1 text at (p .inside) t e n in
           record {
             inside = r .2;
             low = omega (arith, r .2, r .3);
             room = omega (arith, p .room, r .1);
             before = p .before ++ tokenLine t;
             shown = written-both old new last (p .before) (tokenLine t) 0 pos end (p .shown) g;
-            rest = p .rest ∙ rw (r .0, append-assoc (p .before) (tokenLine t) (printed (tokensAt text (t .end))));
+            rest = p .rest ∙ rw (r .0, append-assoc (p .before) (tokenLine t) (printed (tokensAt 1 text (t .end))));
           }

@@ -14,6 +14,9 @@ use tokens::Refusal;
 use tokens::Token;
 use words::kinds::EOF;
 
+// The edition that the program keeps to.
+const EDITION: u64 = 1;
+
 // Writes the digit of n that counts u's, where n reaches it, and answers where it ends.
 fn put_digit(out: &mut [u8], pos: usize, n: usize, u: usize) -> usize
     requires { ⌜ (pos < 2000000) × (0 < u) ⌝ }
@@ -105,7 +108,7 @@ fn list_tokens(text: &[u8], out: &mut [u8]) -> usize
     let mut at: usize = 0;
     let mut pos: usize = 0;
     loop {
-        let t = tokens::next_token(text, at);
+        let t = tokens::next_token(EDITION, text, at);
         match t {
             Lexed::Refused(r) => {
                 return put_refusal(out, pos, r);

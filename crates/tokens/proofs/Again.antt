@@ -31,16 +31,17 @@ unfolding placed
 placed-start q u (front c n) k s e w r h = cc
 placed-start q u (fault m i j) k s e w r h = let z : _≡_ {A = ℕ} 0 1 = cc in absurd (omega arith)
 
-behind-again : (text : List ℕ) (at k s e : ℕ) (w r : List ℕ) (x : End) → gap 0 at (drop at text) .last ≡ x → Ended text at x → behindGap x ≡ tok k s e w r → lex s (drop s text) ≡ tok k s e w r
-unfolding behindGap lex
-behind-again text at k s e w r (clear q u) g d h =
-    subst (λ (i : ℕ). behindGap (gap 0 i (drop i text) .last) ≡ behindGap (clear q u)) (placed-start q u (findToken u) k s e w r h)
-    (rw (← d .2, gap-again at q (drop at text) u g)) ∙ h
-behind-again text at k s e w r (broken o q) g d h = let z : _≡_ {A = ℕ} 0 1 = cc in absurd (omega arith)
+module _ (ed : ℕ) where
+  behind-again : (text : List ℕ) (at k s e : ℕ) (w r : List ℕ) (x : End) → gap 0 at (drop at text) .last ≡ x → Ended text at x → behindGap ed x ≡ tok k s e w r → lex ed s (drop s text) ≡ tok k s e w r
+  unfolding behindGap lex
+  behind-again text at k s e w r (clear q u) g d h =
+      subst (λ (i : ℕ). behindGap ed (gap 0 i (drop i text) .last) ≡ behindGap ed (clear q u)) (placed-start q u (findToken ed u) k s e w r h)
+      (rw (← d .2, gap-again at q (drop at text) u g)) ∙ h
+  behind-again text at k s e w r (broken o q) g d h = let z : _≡_ {A = ℕ} 0 1 = cc in absurd (omega arith)
 
-pub lex-again : (text : List ℕ) (at k s e : ℕ) (w r : List ℕ) → at ≤ length text → lex at (drop at text) ≡ tok k s e w r → lex s (drop s text) ≡ tok k s e w r
-unfolding lex
-lex-again text at k s e w r h g = behind-again text at k s e w r (gap 0 at (drop at text) .last) refl (gap-ended text (drop at text) 0 at refl) g
+  pub lex-again : (text : List ℕ) (at k s e : ℕ) (w r : List ℕ) → at ≤ length text → lex ed at (drop at text) ≡ tok k s e w r → lex ed s (drop s text) ≡ tok k s e w r
+  unfolding lex
+  lex-again text at k s e w r h g = behind-again text at k s e w r (gap 0 at (drop at text) .last) refl (gap-ended text (drop at text) 0 at refl) g
 
 -- a text and a place that the limits admit
 pub admitted-in : {A : Type 0} (f : Refusal → A) (text : List ℕ) (at : ℕ) (a : A) → length text ≤ textLimit → at ≤ length text → admitted f text at a ≡ a
@@ -53,25 +54,26 @@ admits true w x t h = let z : _≡_ {A = ℕ} 0 1 = cc in absurd (omega arith)
 admits false true x t h = let z : _≡_ {A = ℕ} 0 1 = cc in absurd (omega arith)
 admits false false x t h = (refl, refl)
 
-pub found-fits : (text : List ℕ) (at : ℕ) (t : Token) → nextToken text at ≡ Found t → (length text ≤ textLimit) × (at ≤ length text)
-unfolding nextToken admitted
-found-fits text at t h =
-    let b = admits (ltb textLimit (length text)) (ltb (length text) at) (lexed (lex at (drop at text))) t h in
-    (ltb-false textLimit (length text) (b .0), ltb-false (length text) at (b .1))
+module _ (ed : ℕ) where
+  pub found-fits : (text : List ℕ) (at : ℕ) (t : Token) → nextToken ed text at ≡ Found t → (length text ≤ textLimit) × (at ≤ length text)
+  unfolding nextToken admitted
+  found-fits text at t h =
+      let b = admits (ltb textLimit (length text)) (ltb (length text) at) (lexed (lex ed at (drop at text))) t h in
+      (ltb-false textLimit (length text) (b .0), ltb-false (length text) at (b .1))
 
--- the token call, of a token that starts in the text
-start-found : (text : List ℕ) (at : ℕ) (t : Token) (l : Scanned) → length text ≤ textLimit → at ≤ length text → lex at (drop at text) ≡ l → lexed l ≡ Found t → nextToken text (t .start) ≡ Found t
-unfolding nextToken lexed
-start-found text at t (tok k s e w r) f i g h =
-    let d : Sound text at (tok k s e w r) = subst (Sound text at) g (lex-sound text at i) in
-    let x : Found (record { kind = k; start = s; end = e }) ≡ Found t = h in
-    let y : record { kind = k; start = s; end = e } ≡ t = cc in
-    subst (λ (u : Token). nextToken text (u .start) ≡ Found u) y
-    (admitted-in Refused text s (lexed (lex s (drop s text))) f (omega (arith, d .ordered, d .within)) ∙ ap lexed (lex-again text at k s e w r i g))
-start-found text at t (bad r) f i g h = let z : _≡_ {A = ℕ} 0 1 = cc in absurd (omega arith)
+  -- the token call, of a token that starts in the text
+  start-found : (text : List ℕ) (at : ℕ) (t : Token) (l : Scanned) → length text ≤ textLimit → at ≤ length text → lex ed at (drop at text) ≡ l → lexed l ≡ Found t → nextToken ed text (t .start) ≡ Found t
+  unfolding nextToken lexed
+  start-found text at t (tok k s e w r) f i g h =
+      let d : Sound text at (tok k s e w r) = subst (Sound text at) g (lex-sound ed text at i) in
+      let x : Found (record { kind = k; start = s; end = e }) ≡ Found t = h in
+      let y : record { kind = k; start = s; end = e } ≡ t = cc in
+      subst (λ (u : Token). nextToken ed text (u .start) ≡ Found u) y
+      (admitted-in Refused text s (lexed (lex ed s (drop s text))) f (omega (arith, d .ordered, d .within)) ∙ ap lexed (lex-again ed text at k s e w r i g))
+  start-found text at t (bad r) f i g h = let z : _≡_ {A = ℕ} 0 1 = cc in absurd (omega arith)
 
-pub found-again : (text : List ℕ) (at : ℕ) (t : Token) → nextToken text at ≡ Found t → nextToken text (t .start) ≡ Found t
-unfolding nextToken
-found-again text at t h =
-    let f = found-fits text at t h in
-    start-found text at t (lex at (drop at text)) (f .0) (f .1) refl (sym (admitted-in Refused text at (lexed (lex at (drop at text))) (f .0) (f .1)) ∙ h)
+  pub found-again : (text : List ℕ) (at : ℕ) (t : Token) → nextToken ed text at ≡ Found t → nextToken ed text (t .start) ≡ Found t
+  unfolding nextToken
+  found-again text at t h =
+      let f = found-fits text at t h in
+      start-found text at t (lex ed at (drop at text)) (f .0) (f .1) refl (sym (admitted-in Refused text at (lexed (lex ed at (drop at text))) (f .0) (f .1)) ∙ h)

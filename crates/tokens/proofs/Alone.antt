@@ -18,15 +18,16 @@ use Rattle.classes.specs.Class.{inRange, isDigit, isHex, isLetter, isName, isAs
 use Rattle.classes.specs.Run.{runLen}
 use Rattle.classes.proofs.Bools.{false-true, and-left, and-right, and-false}
 use Rattle.classes.proofs.Cut.{begins-cut, begins-uncut, run-cut, drop-cut}
-use Rattle.words.specs.Search.{markOf, frontLen, suffixes, suffixLen}
+use Rattle.words.specs.Search.{markOf, suffixLen}
 use Rattle.words.specs.Quote.{quoteFrom}
 use Rattle.words.specs.declared.Quote.{Quote}
 use Rattle.words.specs.declared.Quote.the-variants.{Found, Missing}
-use Rattle.words.proofs.Suffix.{suffix-alone}
+use Rattle.words.proofs.Suffix.{suffix-short, suffix-alone}
 use Rattle.words.proofs.Quotes.{Within, within, quote-local}
 use Rattle.words.proofs.Marks.{mark-alone}
-use Rattle.tokens.specs.Token.{Front, front, fault, typed, decimal, hexTyped, hexLen, hexNumber, number, stringBy, string, opensString, stringRefusal, name, word, mark, findToken, Scanned, tok, bad, placed, behindGap, lex}
+use Rattle.tokens.specs.Token.{Front, front, fault, typed, digitsLen, moreDigits, moreHex, decimalLen, decimal, hexTyped, hexLen, hexNumber, number, stringBy, string, opensString, stringRefusal, name, word, mark, findToken, Scanned, tok, bad, placed, behindGap, lex}
 use Rattle.tokens.proofs.Fronts.{Takes, run-takes, letter-in-name, find-takes}
+use Rattle.tokens.proofs.Digits.{digits-typed}
 
 -- the front of the bytes s, cut to its length, is the same; f is what it is computed by
 abbrev pub Alone : (List ℕ → Front) → List ℕ → Front → Type 0
@@ -38,89 +39,87 @@ alone-cond f s true x y g h = g refl
 alone-cond f s false x y g h = h refl
 
 -- digits, and a type of v bytes behind them
-run-typed : (f : ℕ → Bool) (s : List ℕ) (v : ℕ) → runLen f (take (runLen f s + v) s) ≡ runLen f s
-run-typed f s v = run-cut f s (runLen f s + v) ∙ omega arith
+module _ (ed : ℕ) where
+  suffix-typed : (n : ℕ) (s : List ℕ) → suffixLen ed (drop n (take (n + suffixLen ed (drop n s)) s)) ≡ suffixLen ed (drop n s)
+  suffix-typed n s = rw (drop-cut n (suffixLen ed (drop n s)) s) (suffix-alone ed (drop n s))
 
-suffix-typed : (n : ℕ) (s : List ℕ) → suffixLen (drop n (take (n + suffixLen (drop n s)) s)) ≡ suffixLen (drop n s)
-suffix-typed n s = rw (drop-cut n (suffixLen (drop n s)) s) (suffix-alone (drop n s))
+  decimal-alone : (s : List ℕ) → decimal ed (take (decimalLen ed s + suffixLen ed (drop (decimalLen ed s) s)) s) ≡ decimal ed s
+  unfolding decimal decimalLen
+  decimal-alone s =
+      rw (digits-typed isDigit (moreDigits ed) s (suffixLen ed (drop (decimalLen ed s) s)), suffix-typed (decimalLen ed s) s)
 
-decimal-alone : (s : List ℕ) → decimal (take (runLen isDigit s + suffixLen (drop (runLen isDigit s) s)) s) ≡ decimal s
-unfolding decimal
-decimal-alone s =
-    rw (run-typed isDigit s (suffixLen (drop (runLen isDigit s) s)), suffix-typed (runLen isDigit s) s)
+  hexLen-alone : (s : List ℕ) (v : ℕ) → hexLen ed (take (hexLen ed s + v) s) ≡ hexLen ed s
+  unfolding hexLen
+  hexLen-alone s v =
+      let e : 2 + digitsLen isHex (moreHex ed) (drop 2 s) + v ≡ 2 + (digitsLen isHex (moreHex ed) (drop 2 s) + v) = omega arith in
+      rw (e, drop-cut 2 (digitsLen isHex (moreHex ed) (drop 2 s) + v) s, digits-typed isHex (moreHex ed) (drop 2 s) v)
 
-hexLen-alone : (s : List ℕ) (v : ℕ) → hexLen (take (hexLen s + v) s) ≡ hexLen s
-unfolding hexLen
-hexLen-alone s v =
-    let e : 2 + runLen isHex (drop 2 s) + v ≡ 2 + (runLen isHex (drop 2 s) + v) = omega arith in
-    rw (e, drop-cut 2 (runLen isHex (drop 2 s) + v) s, run-typed isHex (drop 2 s) v)
+  hex-two : (s : List ℕ) → 2 ≤ hexLen ed s
+  unfolding hexLen
+  hex-two s = omega arith
 
-hex-two : (s : List ℕ) → 2 ≤ hexLen s
-unfolding hexLen
-hex-two s = omega arith
+  hex-alone : (s : List ℕ) → hexNumber ed (take (hexLen ed s + suffixLen ed (drop (hexLen ed s) s)) s) ≡ hexNumber ed s
+  unfolding hexNumber
+  hex-alone s = rw (hexLen-alone s (suffixLen ed (drop (hexLen ed s) s)), suffix-typed (hexLen ed s) s)
 
-hex-alone : (s : List ℕ) → hexNumber (take (hexLen s + suffixLen (drop (hexLen s) s)) s) ≡ hexNumber s
-unfolding hexNumber
-hex-alone s = rw (hexLen-alone s (suffixLen (drop (hexLen s) s)), suffix-typed (hexLen s) s)
+  -- `0` of `0x` with nothing behind it
+  zero-number : number ed (48 ∷ []) ≡ front 1 1
+  unfolding number begins decimal decimalLen digitsLen runLen isDigit inRange typed
+  zero-number = let n : suffixLen ed [] ≡ 0 = omega (arith, suffix-short ed []) in rw n
 
--- `0` of `0x` with nothing behind it
-zero-number : number (48 ∷ []) ≡ front 1 1
-unfolding number begins decimal runLen isDigit inRange suffixLen suffixes frontLen typed
-zero-number = refl
+  zero-alone : (s : List ℕ) → begins (bytes "0x") s ≡ true → number ed (take 1 s) ≡ front 1 1
+  unfolding begins
+  zero-alone [] h = false-true _ h
+  zero-alone (a ∷ s) h = let e : a ≡ 48 = eqb-true a 48 (and-left (eqb a 48) (begins (bytes "x") s) h) in rw e zero-number
 
-zero-alone : (s : List ℕ) → begins (bytes "0x") s ≡ true → number (take 1 s) ≡ front 1 1
-unfolding begins
-zero-alone [] h = false-true _ h
-zero-alone (a ∷ s) h = let e : a ≡ 48 = eqb-true a 48 (and-left (eqb a 48) (begins (bytes "x") s) h) in rw e zero-number
+  typed-alone : (s : List ℕ) (n v : ℕ) → number ed (take (n + v) s) ≡ typed n v → Alone (number ed) s (typed n v)
+  unfolding typed
+  typed-alone s n v h = h
 
-typed-alone : (s : List ℕ) (n v : ℕ) → number (take (n + v) s) ≡ typed n v → Alone number s (typed n v)
-unfolding typed
-typed-alone s n v h = h
+  number-hex : (s : List ℕ) (n : ℕ) → 2 ≤ n → begins (bytes "0x") s ≡ true → number ed (take n s) ≡ hexNumber ed (take n s)
+  unfolding number
+  number-hex s n g h = rw (begins-cut (bytes "0x") s n g h)
 
-number-hex : (s : List ℕ) (n : ℕ) → 2 ≤ n → begins (bytes "0x") s ≡ true → number (take n s) ≡ hexNumber (take n s)
-unfolding number
-number-hex s n g h = rw (begins-cut (bytes "0x") s n g h)
+  number-decimal : (s : List ℕ) (n : ℕ) → begins (bytes "0x") s ≡ false → number ed (take n s) ≡ decimal ed (take n s)
+  unfolding number
+  number-decimal s n h = go (begins (bytes "0x") (take n s)) refl
+    where
+      go : (b : Bool) → begins (bytes "0x") (take n s) ≡ b → cond (begins (bytes "0x") (take n s)) (hexNumber ed (take n s)) (decimal ed (take n s)) ≡ decimal ed (take n s)
+      go true e = false-true _ (sym h ∙ begins-uncut (bytes "0x") s n e)
+      go false e = rw e
 
-number-decimal : (s : List ℕ) (n : ℕ) → begins (bytes "0x") s ≡ false → number (take n s) ≡ decimal (take n s)
-unfolding number
-number-decimal s n h = go (begins (bytes "0x") (take n s)) refl
-  where
-    go : (b : Bool) → begins (bytes "0x") (take n s) ≡ b → cond (begins (bytes "0x") (take n s)) (hexNumber (take n s)) (decimal (take n s)) ≡ decimal (take n s)
-    go true e = false-true _ (sym h ∙ begins-uncut (bytes "0x") s n e)
-    go false e = rw e
+  hex-typed : (n v : ℕ) → eqb (n + v) 2 ≡ false → hexTyped n v ≡ typed n v
+  unfolding hexTyped
+  hex-typed n v e = rw e
 
-hex-typed : (n v : ℕ) → eqb (n + v) 2 ≡ false → hexTyped n v ≡ typed n v
-unfolding hexTyped
-hex-typed n v e = rw e
+  by-hex : (s : List ℕ) → begins (bytes "0x") s ≡ true → Alone (number ed) s (hexNumber ed s) → Alone (number ed) s (number ed s)
+  unfolding number
+  by-hex s h x = rw h x
 
-by-hex : (s : List ℕ) → begins (bytes "0x") s ≡ true → Alone number s (hexNumber s) → Alone number s (number s)
-unfolding number
-by-hex s h x = rw h x
+  by-decimal : (s : List ℕ) → begins (bytes "0x") s ≡ false → Alone (number ed) s (decimal ed s) → Alone (number ed) s (number ed s)
+  unfolding number
+  by-decimal s h x = rw h x
 
-by-decimal : (s : List ℕ) → begins (bytes "0x") s ≡ false → Alone number s (decimal s) → Alone number s (number s)
-unfolding number
-by-decimal s h x = rw h x
+  hex-case : (s : List ℕ) → begins (bytes "0x") s ≡ true → Alone (number ed) s (hexNumber ed s)
+  unfolding hexNumber hexTyped
+  hex-case s h =
+      alone-cond (number ed) s (eqb (hexLen ed s + suffixLen ed (drop (hexLen ed s) s)) 2) (front 1 1) (typed (hexLen ed s) (suffixLen ed (drop (hexLen ed s) s)))
+      (λ _. zero-alone s h)
+      (λ e. typed-alone s (hexLen ed s) (suffixLen ed (drop (hexLen ed s) s))
+      (number-hex s (hexLen ed s + suffixLen ed (drop (hexLen ed s) s)) (omega (arith, hex-two s)) h ∙ hex-alone s ∙ hex-typed (hexLen ed s) (suffixLen ed (drop (hexLen ed s) s)) e))
 
-hex-case : (s : List ℕ) → begins (bytes "0x") s ≡ true → Alone number s (hexNumber s)
-unfolding hexNumber hexTyped
-hex-case s h =
-    alone-cond number s (eqb (hexLen s + suffixLen (drop (hexLen s) s)) 2) (front 1 1) (typed (hexLen s) (suffixLen (drop (hexLen s) s)))
-    (λ _. zero-alone s h)
-    (λ e. typed-alone s (hexLen s) (suffixLen (drop (hexLen s) s))
-    (number-hex s (hexLen s + suffixLen (drop (hexLen s) s)) (omega (arith, hex-two s)) h ∙ hex-alone s ∙ hex-typed (hexLen s) (suffixLen (drop (hexLen s) s)) e))
+  decimal-case : (s : List ℕ) → begins (bytes "0x") s ≡ false → Alone (number ed) s (decimal ed s)
+  unfolding decimal
+  decimal-case s h =
+      typed-alone s (decimalLen ed s) (suffixLen ed (drop (decimalLen ed s) s))
+      (number-decimal s (decimalLen ed s + suffixLen ed (drop (decimalLen ed s) s)) h ∙ decimal-alone s)
 
-decimal-case : (s : List ℕ) → begins (bytes "0x") s ≡ false → Alone number s (decimal s)
-unfolding decimal
-decimal-case s h =
-    typed-alone s (runLen isDigit s) (suffixLen (drop (runLen isDigit s) s))
-    (number-decimal s (runLen isDigit s + suffixLen (drop (runLen isDigit s) s)) h ∙ decimal-alone s)
-
-number-alone : (s : List ℕ) → Alone number s (number s)
-number-alone s = go (begins (bytes "0x") s) refl
-  where
-    go : (b : Bool) → begins (bytes "0x") s ≡ b → Alone number s (number s)
-    go true h = by-hex s h (hex-case s h)
-    go false h = by-decimal s h (decimal-case s h)
+  number-alone : (s : List ℕ) → Alone (number ed) s (number ed s)
+  number-alone s = go (begins (bytes "0x") s) refl
+    where
+      go : (b : Bool) → begins (bytes "0x") s ≡ b → Alone (number ed) s (number ed s)
+      go true h = by-hex s h (hex-case s h)
+      go false h = by-decimal s h (decimal-case s h)
 
 -- names
 opens-cut : (a b : ℕ) (s : List ℕ) (n : ℕ) → opensString a (getD s 0 0) ≡ false → opensString a (getD (take n s) 0 0) ≡ false
@@ -183,56 +182,57 @@ word-alone a s e =
     alone-cond word (a ∷ s) (opensString a (getD s 0 0)) (string (stringRefusal a) (a ∷ s)) (name (a ∷ s)) (string-alone a s)
     (λ h. name-alone a s (run-takes isName a s (letter-in-name a e)) h)
 
--- the token at the front, by its first byte
-as-found : (f : List ℕ → Front) (a : ℕ) (s : List ℕ) (m : ℕ) (x : Front) → ((n : ℕ) → findToken (take (suc n) (a ∷ s)) ≡ f (take (suc n) (a ∷ s)))
-    → Takes m x → Alone f (a ∷ s) x → Alone findToken (a ∷ s) x
-as-found f a s m (fault k i j) g t h = tt
-as-found f a s m (front k zero) g t h = absurd (not-suc-le-zero (t .1))
-as-found f a s m (front k (suc n)) g t h = g n ∙ h
-
 marks-alone : (s : List ℕ) → Alone (λ s. mark (markOf s)) s (mark (markOf s))
 unfolding mark
 marks-alone s =
     alone-cond (λ s. mark (markOf s)) s (eqb (markOf s .len) 0) (fault 5 0 0) (front (markOf s .kind) (markOf s .len)) (λ _. tt)
     (λ e. rw (mark-alone s, e))
 
-by-first : (a : ℕ) (s : List ℕ) (b c : Bool) → isDigit a ≡ b → isLetter a ≡ c → Takes (length (a ∷ s)) (findToken (a ∷ s)) → Alone findToken (a ∷ s) (findToken (a ∷ s))
-unfolding findToken
-by-first a s true c e f t =
-    rw e (as-found number a s (length (a ∷ s)) (number (a ∷ s)) (λ n. rw e) (rw e at t) (number-alone (a ∷ s)))
-by-first a s false true e f t =
-    rw (e, f) (as-found word a s (length (a ∷ s)) (word (a ∷ s)) (λ n. rw (e, f)) (rw (e, f) at t) (word-alone a s f))
-by-first a s false false e f t =
-    rw (e, f) (as-found (λ s. mark (markOf s)) a s (length (a ∷ s)) (mark (markOf (a ∷ s))) (λ n. rw (e, f)) (rw (e, f) at t) (marks-alone (a ∷ s)))
+-- the token at the front, by its first byte
+module _ (ed : ℕ) where
+  as-found : (f : List ℕ → Front) (a : ℕ) (s : List ℕ) (m : ℕ) (x : Front) → ((n : ℕ) → findToken ed (take (suc n) (a ∷ s)) ≡ f (take (suc n) (a ∷ s)))
+      → Takes m x → Alone f (a ∷ s) x → Alone (findToken ed) (a ∷ s) x
+  as-found f a s m (fault k i j) g t h = tt
+  as-found f a s m (front k zero) g t h = absurd (not-suc-le-zero (t .1))
+  as-found f a s m (front k (suc n)) g t h = g n ∙ h
 
-pub find-alone : (a : ℕ) (s : List ℕ) → Alone findToken (a ∷ s) (findToken (a ∷ s))
-find-alone a s = by-first a s (isDigit a) (isLetter a) refl refl (find-takes a s)
+  by-first : (a : ℕ) (s : List ℕ) (b c : Bool) → isDigit a ≡ b → isLetter a ≡ c → Takes (length (a ∷ s)) (findToken ed (a ∷ s)) → Alone (findToken ed) (a ∷ s) (findToken ed (a ∷ s))
+  unfolding findToken
+  by-first a s true c e f t =
+      rw e (as-found (number ed) a s (length (a ∷ s)) (number ed (a ∷ s)) (λ n. rw e) (rw e at t) (number-alone ed (a ∷ s)))
+  by-first a s false true e f t =
+      rw (e, f) (as-found word a s (length (a ∷ s)) (word (a ∷ s)) (λ n. rw (e, f)) (rw (e, f) at t) (word-alone a s f))
+  by-first a s false false e f t =
+      rw (e, f) (as-found (λ s. mark (markOf s)) a s (length (a ∷ s)) (mark (markOf (a ∷ s))) (λ n. rw (e, f)) (rw (e, f) at t) (marks-alone (a ∷ s)))
 
--- the same of the next token of any bytes
-abbrev pub AloneAgain : Scanned → Type 0
-AloneAgain (tok k s e w r) = (k ≡ 0 → ⊥) → lex 0 w ≡ tok k 0 (length w) w []
-AloneAgain (bad r) = Unit {0}
+  pub find-alone : (a : ℕ) (s : List ℕ) → Alone (findToken ed) (a ∷ s) (findToken ed (a ∷ s))
+  find-alone a s = by-first a s (isDigit a) (isLetter a) refl refl (find-takes ed a s)
 
-again : (q : ℕ) (a : ℕ) (s : List ℕ) (x : Front) → partAt q (a ∷ s) ≡ Other → Takes (length (a ∷ s)) x → Alone findToken (a ∷ s) x → AloneAgain (placed q (a ∷ s) x)
-unfolding placed lex behindGap
-again q a s (fault m i j) g t h = tt
-again q a s (front k zero) g t h = absurd (not-suc-le-zero (t .1))
-again q a s (front k (suc n)) g t h = λ _.
-    let l : length (take (suc n) (a ∷ s)) ≡ suc n = length-take-le (suc n) (a ∷ s) (t .2) in
-    let z : 0 + suc n ≡ suc n = omega arith in
-    rw (gap-none 0 q a s n g, h, z, take-take (suc n) (suc n) (a ∷ s) (omega arith), l)
-    (ap (tok k 0 (suc n) (take (suc n) (a ∷ s))) (drop-of-length-le (take (suc n) (a ∷ s)) {i = suc n} (omega arith)))
+  -- the same of the next token of any bytes
+  abbrev pub AloneAgain : Scanned → Type 0
+  AloneAgain (tok k s e w r) = (k ≡ 0 → ⊥) → lex ed 0 w ≡ tok k 0 (length w) w []
+  AloneAgain (bad r) = Unit {0}
 
-none-again : (q : ℕ) → AloneAgain (placed q [] (findToken []))
-unfolding placed findToken
-none-again q h = absurd (h refl)
+  again : (q : ℕ) (a : ℕ) (s : List ℕ) (x : Front) → partAt q (a ∷ s) ≡ Other → Takes (length (a ∷ s)) x → Alone (findToken ed) (a ∷ s) x → AloneAgain (placed q (a ∷ s) x)
+  unfolding placed lex behindGap
+  again q a s (fault m i j) g t h = tt
+  again q a s (front k zero) g t h = absurd (not-suc-le-zero (t .1))
+  again q a s (front k (suc n)) g t h = λ _.
+      let l : length (take (suc n) (a ∷ s)) ≡ suc n = length-take-le (suc n) (a ∷ s) (t .2) in
+      let z : 0 + suc n ≡ suc n = omega arith in
+      rw (gap-none 0 q a s n g, h, z, take-take (suc n) (suc n) (a ∷ s) (omega arith), l)
+      (ap (tok k 0 (suc n) (take (suc n) (a ∷ s))) (drop-of-length-le (take (suc n) (a ∷ s)) {i = suc n} (omega arith)))
 
-behind-again : (e : End) → ((q a : ℕ) (s : List ℕ) → e ≡ clear q (a ∷ s) → partAt q (a ∷ s) ≡ Other) → AloneAgain (behindGap e)
-unfolding behindGap
-behind-again (clear q []) h = none-again q
-behind-again (clear q (a ∷ s)) h = again q a s (findToken (a ∷ s)) (h q a s refl) (find-takes a s) (find-alone a s)
-behind-again (broken o q) h = tt
+  none-again : (q : ℕ) → AloneAgain (placed q [] (findToken ed []))
+  unfolding placed findToken
+  none-again q h = absurd (h refl)
 
-pub lex-alone : (p : ℕ) (s : List ℕ) → AloneAgain (lex p s)
-unfolding lex
-lex-alone p s = behind-again (gap 0 p s .last) (λ q a u. gap-stops q a u s 0 p)
+  behind-again : (e : End) → ((q a : ℕ) (s : List ℕ) → e ≡ clear q (a ∷ s) → partAt q (a ∷ s) ≡ Other) → AloneAgain (behindGap ed e)
+  unfolding behindGap
+  behind-again (clear q []) h = none-again q
+  behind-again (clear q (a ∷ s)) h = again q a s (findToken ed (a ∷ s)) (h q a s refl) (find-takes ed a s) (find-alone a s)
+  behind-again (broken o q) h = tt
+
+  pub lex-alone : (p : ℕ) (s : List ℕ) → AloneAgain (lex ed p s)
+  unfolding lex
+  lex-alone p s = behind-again (gap 0 p s .last) (λ q a u. gap-stops q a u s 0 p)

@@ -21,20 +21,21 @@ use Rattle.tokens.specs.declared.Refusal.{Refusal}
 use Rattle.tokens.specs.declared.Lexed.{Lexed}
 use Rattle.tokens.specs.declared.Lexed.the-variants.{Refused}
 
-module _ (text : List ℕ) (at : ℕ) where
-  pub advanced-refused : (r : Refusal) → Refused r ≡ nextToken text at → flagged (Refused r) false ≡ advanced text at
+module _ (ed : ℕ) (text : List ℕ) (at : ℕ) where
+  pub advanced-refused : (r : Refusal) → Refused r ≡ nextToken ed text at → flagged (Refused r) false ≡ advanced ed text at
   unfolding advanced flagged lineFeedBefore
   advanced-refused r e = rw (← e)
 
   -- a token that stands at k
-  found-by : (k : ℕ) (f : Front) (v : Bool) → lexedAt k f ≡ nextToken text at → v ≡ lineFeed text at k → flagged (lexedAt k f) v ≡ advanced text at
+  found-by : (k : ℕ) (f : Front) (v : Bool) → lexedAt k f ≡ nextToken ed text at → v ≡ lineFeed text at k → flagged (lexedAt k f) v ≡ advanced ed text at
   unfolding advanced flagged lexedAt lineFeedBefore
   found-by k (front d n) v e h = rw (← e, h)
   found-by k (fault m i j) v e h = rw (← e)
 
-  pub advanced-found : (k : ℕ) (f : Front) (v : Bool) (l : Lexed) → l ≡ lexedAt k f → lexedAt k f ≡ nextToken text at → v ≡ lineFeed text at k → flagged l v ≡ advanced text at
+  pub advanced-found : (k : ℕ) (f : Front) (v : Bool) (l : Lexed) → l ≡ lexedAt k f → lexedAt k f ≡ nextToken ed text at → v ≡ lineFeed text at k → flagged l v ≡ advanced ed text at
   advanced-found k f v l q e h = rw q (found-by k f v e h)
 
+module _ (text : List ℕ) (at : ℕ) where
   clear-after : (i k : ℕ) (e : End) → Ended text i e → gapEndOf e ≡ Clear k → i ≤ k
   unfolding gapEndOf
   clear-after i k (clear q u) h g = let r : q ≡ k = cc in omega (arith, h .0)

@@ -19,9 +19,10 @@ use Rattle.words.specs.declared.Quote.{Quote}
 use Rattle.words.specs.declared.Quote.the-variants.{Found, Missing}
 use Rattle.words.proofs.Suffix.{suffix-short}
 use Rattle.words.proofs.Quotes.{Within, within}
-use Rattle.words.proofs.Positive.{name-positive, mark-positive}
+use Rattle.words.proofs.Above.{name-above, mark-above}
 use Rattle.words.proofs.Marks.{mark-short}
-use Rattle.tokens.specs.Token.{Front, front, fault, typed, decimal, hexTyped, hexLen, hexNumber, number, stringBy, string, opensString, stringRefusal, name, word, mark, findToken}
+use Rattle.tokens.specs.Token.{Front, front, fault, typed, digitsLen, moreDigits, moreHex, decimalLen, decimal, hexTyped, hexLen, hexNumber, number, stringBy, string, opensString, stringRefusal, name, word, mark, findToken}
+use Rattle.tokens.proofs.Digits.{digits-short, digits-take}
 
 -- in n bytes, of which a token takes one, and its kind is not EOF's
 abbrev pub Takes : ℕ → Front → Type 0
@@ -45,36 +46,44 @@ pub run-takes : (f : ℕ → Bool) (a : ℕ) (s : List ℕ) → f a ≡ true →
 unfolding runLen
 run-takes f a s e = rw e (omega arith)
 
-decimal-takes : (a : ℕ) (s : List ℕ) → isDigit a ≡ true → Takes (length (a ∷ s)) (decimal (a ∷ s))
-unfolding decimal
-decimal-takes a s e =
-    let n : ℕ = runLen isDigit (a ∷ s) in
-    let r : 0 < runLen isDigit (a ∷ s) = run-takes isDigit a s e in
-    typed-takes (length (a ∷ s)) (runLen isDigit (a ∷ s)) (suffixLen (drop (runLen isDigit (a ∷ s)) (a ∷ s))) (omega arith)
-    (omega (arith, run-short isDigit (a ∷ s), suffix-short (drop (runLen isDigit (a ∷ s)) (a ∷ s)), length-drop (runLen isDigit (a ∷ s)) (a ∷ s)))
+module _ (ed : ℕ) where
+  decimal-short : (s : List ℕ) → decimalLen ed s ≤ length s
+  unfolding decimalLen
+  decimal-short s = digits-short isDigit (moreDigits ed) s
 
-hex-fits : (s : List ℕ) → 2 ≤ length s → hexLen s + suffixLen (drop (hexLen s) s) ≤ length s
-unfolding hexLen
-hex-fits s h =
-    omega
-    (arith, run-short isHex (drop 2 s), length-drop 2 s, suffix-short (drop (2 + runLen isHex (drop 2 s)) s), length-drop (2 + runLen isHex (drop 2 s)) s)
+  decimal-some : (a : ℕ) (s : List ℕ) → isDigit a ≡ true → 0 < decimalLen ed (a ∷ s)
+  unfolding decimalLen
+  decimal-some a s e = digits-take isDigit (moreDigits ed) a s e
 
-hex-some : (s : List ℕ) (v : ℕ) → 0 < hexLen s + v
-unfolding hexLen
-hex-some s v = omega arith
+  decimal-takes : (a : ℕ) (s : List ℕ) → isDigit a ≡ true → Takes (length (a ∷ s)) (decimal ed (a ∷ s))
+  unfolding decimal
+  decimal-takes a s e =
+      let r : 0 < decimalLen ed (a ∷ s) = decimal-some a s e in
+      typed-takes (length (a ∷ s)) (decimalLen ed (a ∷ s)) (suffixLen ed (drop (decimalLen ed (a ∷ s)) (a ∷ s))) (omega arith)
+      (omega (arith, decimal-short (a ∷ s), suffix-short ed (drop (decimalLen ed (a ∷ s)) (a ∷ s)), length-drop (decimalLen ed (a ∷ s)) (a ∷ s)))
 
-hex-takes : (s : List ℕ) → begins (bytes "0x") s ≡ true → Takes (length s) (hexNumber s)
-unfolding hexNumber hexTyped
-hex-takes s e =
-    let h : 2 ≤ length s = begins-short (bytes "0x") s e in
-    takes-cond (length s) (eqb (hexLen s + suffixLen (drop (hexLen s) s)) 2) (front 1 1) (typed (hexLen s) (suffixLen (drop (hexLen s) s)))
-    (λ _. (omega arith, omega arith, omega arith))
-    (λ _. typed-takes (length s) (hexLen s) (suffixLen (drop (hexLen s) s)) (hex-some s (suffixLen (drop (hexLen s) s))) (hex-fits s h))
+  hex-fits : (s : List ℕ) → 2 ≤ length s → hexLen ed s + suffixLen ed (drop (hexLen ed s) s) ≤ length s
+  unfolding hexLen
+  hex-fits s h =
+      omega
+      (arith, digits-short isHex (moreHex ed) (drop 2 s), length-drop 2 s, suffix-short ed (drop (2 + digitsLen isHex (moreHex ed) (drop 2 s)) s), length-drop (2 + digitsLen isHex (moreHex ed) (drop 2 s)) s)
 
-number-takes : (a : ℕ) (s : List ℕ) → isDigit a ≡ true → Takes (length (a ∷ s)) (number (a ∷ s))
-unfolding number
-number-takes a s e =
-    takes-cond (length (a ∷ s)) (begins (bytes "0x") (a ∷ s)) (hexNumber (a ∷ s)) (decimal (a ∷ s)) (hex-takes (a ∷ s)) (λ _. decimal-takes a s e)
+  hex-some : (s : List ℕ) (v : ℕ) → 0 < hexLen ed s + v
+  unfolding hexLen
+  hex-some s v = omega arith
+
+  hex-takes : (s : List ℕ) → begins (bytes "0x") s ≡ true → Takes (length s) (hexNumber ed s)
+  unfolding hexNumber hexTyped
+  hex-takes s e =
+      let h : 2 ≤ length s = begins-short (bytes "0x") s e in
+      takes-cond (length s) (eqb (hexLen ed s + suffixLen ed (drop (hexLen ed s) s)) 2) (front 1 1) (typed (hexLen ed s) (suffixLen ed (drop (hexLen ed s) s)))
+      (λ _. (omega arith, omega arith, omega arith))
+      (λ _. typed-takes (length s) (hexLen ed s) (suffixLen ed (drop (hexLen ed s) s)) (hex-some s (suffixLen ed (drop (hexLen ed s) s))) (hex-fits s h))
+
+  number-takes : (a : ℕ) (s : List ℕ) → isDigit a ≡ true → Takes (length (a ∷ s)) (number ed (a ∷ s))
+  unfolding number
+  number-takes a s e =
+      takes-cond (length (a ∷ s)) (begins (bytes "0x") (a ∷ s)) (hexNumber ed (a ∷ s)) (decimal ed (a ∷ s)) (hex-takes (a ∷ s)) (λ _. decimal-takes a s e)
 
 by-takes : (n m h : ℕ) (q : Quote) → Within 2 n q → Takes (2 + n) (stringBy m h q)
 unfolding stringBy
@@ -97,7 +106,7 @@ letter-in-name a e = rw e
 name-takes : (a : ℕ) (s : List ℕ) → isLetter a ≡ true → Takes (length (a ∷ s)) (name (a ∷ s))
 unfolding name
 name-takes a s e =
-    (name-positive (take (runLen isName (a ∷ s)) (a ∷ s)), run-takes isName a s (letter-in-name a e), run-short isName (a ∷ s))
+    (omega (arith, name-above (take (runLen isName (a ∷ s)) (a ∷ s))), run-takes isName a s (letter-in-name a e), run-short isName (a ∷ s))
 
 opened-takes : (a : ℕ) (s : List ℕ) → opensString a (getD s 0 0) ≡ true → Takes (length (a ∷ s)) (string (stringRefusal a) (a ∷ s))
 unfolding opensString
@@ -114,10 +123,10 @@ unfolding mark
 mark-takes s =
     takes-cond (length s) (eqb (markOf s .len) 0) (fault 5 0 0) (front (markOf s .kind) (markOf s .len))
     (λ _. (omega arith, omega arith))
-    (λ e. let h : 0 < markOf s .len = omega (arith, eqb-false (markOf s .len) 0 e) in (mark-positive s h, h, mark-short s))
+    (λ e. let h : 0 < markOf s .len = omega (arith, eqb-false (markOf s .len) 0 e) in (omega (arith, mark-above s h), h, mark-short s))
 
-pub find-takes : (a : ℕ) (s : List ℕ) → Takes (length (a ∷ s)) (findToken (a ∷ s))
+pub find-takes : (ed a : ℕ) (s : List ℕ) → Takes (length (a ∷ s)) (findToken ed (a ∷ s))
 unfolding findToken
-find-takes a s =
-    takes-cond (length (a ∷ s)) (isDigit a) _ _ (number-takes a s)
+find-takes ed a s =
+    takes-cond (length (a ∷ s)) (isDigit a) _ _ (number-takes ed a s)
     (λ _. takes-cond (length (a ∷ s)) (isLetter a) _ _ (word-takes a s) (λ _. mark-takes (a ∷ s)))

@@ -8,22 +8,23 @@ use native.Mathlib.Omega.{arith}
 use borrow.Author.Tests.{eqb-true, ltb-false}
 use lib.Dec.{eqb, ltb, leb}
 use lib.ListN.{length, getD, take, drop}
-use lib.Seq.{take-add, take-suc, take-take}
+use lib.Seq.{take-suc}
 use Rattle.gap.specs.Gap.{End, clear, broken, gap}
-use Rattle.classes.specs.Bytes.{bytes, begins}
-use Rattle.classes.specs.Class.{inRange, isDigit, isHex, isLetter, isName, isAscii, shows}
+use Rattle.classes.specs.Bytes.{begins}
+use Rattle.classes.specs.Class.{inRange, isDigit, isLetter, isName, isAscii, shows}
 use Rattle.classes.specs.Run.{runLen, allOf}
 use Rattle.classes.proofs.Bools.{false-true, and-left, and-right}
-use Rattle.classes.proofs.All.{all-join, all-take, all-run, all-front, all-more, digit-name, hex-name, name-shows, shows-ascii}
+use Rattle.classes.proofs.All.{all-join, all-run, all-front, all-more, name-shows, shows-ascii}
 use Rattle.words.specs.Kinds.{ByteStringValue}
 use Rattle.words.specs.Tables.{Entry, longMarks, doubleMarks, singleMarks, marks}
-use Rattle.words.specs.Search.{longer, longest, markOf, frontLen, suffixes, suffixLen, kindOf}
+use Rattle.words.specs.Search.{longer, longest, markOf, kindOf}
 use Rattle.words.specs.Quote.{quoteFrom}
 use Rattle.words.specs.declared.Fit.{Fit}
 use Rattle.words.specs.declared.Quote.{Quote}
 use Rattle.words.specs.declared.Quote.the-variants.{Found, Missing}
 use Rattle.words.proofs.Quotes.{Within, within, quote-there}
-use Rattle.tokens.specs.Token.{Front, front, fault, typed, decimal, hexTyped, hexLen, hexNumber, number, stringBy, string, opensString, stringRefusal, name, word, mark, findToken, Scanned, tok, bad, placed, behindGap, lex}
+use Rattle.tokens.specs.Token.{Front, front, fault, number, stringBy, string, opensString, stringRefusal, name, word, mark, findToken, Scanned, tok, bad, placed, behindGap, lex}
+use Rattle.tokens.proofs.Editions.{Named, lengthOf, is-number}
 use Rattle.tokens.proofs.Spelled.{begins-is}
 
 -- of a token's kind and word
@@ -47,54 +48,14 @@ legible-cond : (s : List ℕ) (b : Bool) (x y : Front) → (b ≡ true → Legib
 legible-cond s true x y f g = f refl
 legible-cond s false x y f g = g refl
 
-abbrev Named : List ℕ → Type 0
-Named w = allOf isName w ≡ true
-
-named-legible : (k n : ℕ) (s : List ℕ) → Named (take n s) → Legible s (front k n)
+named-legible : (k n : ℕ) (s : List ℕ) → Named s n → Legible s (front k n)
 named-legible k n s h = shown-legible k (take n s) (all-more isName shows name-shows (take n s) h)
 
 -- numbers
-abbrev each : List (List ℕ) → Bool
-each [] = true
-each (w ∷ ws) = allOf isName w && each ws
-
-front-named : (ws : List (List ℕ)) (s : List ℕ) → each ws ≡ true → Named (take (frontLen ws s) s)
-unfolding frontLen allOf
-front-named [] s h = refl
-front-named (w ∷ ws) s h = go (begins w s) refl (front-named ws s (and-right (allOf isName w) (each ws) h))
-  where
-    go : (b : Bool) → begins w s ≡ b → Named (take (frontLen ws s) s) → Named (take (cond b (length w) (frontLen ws s)) s)
-    go true e i = subst Named (sym (begins-is w s e)) (and-left (allOf isName w) (each ws) h)
-    go false e i = i
-
-suffix-named : (s : List ℕ) → Named (take (suffixLen s) s)
-unfolding suffixLen suffixes allOf isName isLetter isDigit inRange
-suffix-named s = front-named suffixes s refl
-
-typed-legible : (s : List ℕ) (n : ℕ) → Named (take n s) → Legible s (typed n (suffixLen (drop n s)))
-unfolding typed
-typed-legible s n h =
-    named-legible _ (n + suffixLen (drop n s)) s
-    (subst Named (sym (take-add n (suffixLen (drop n s)) s)) (all-join isName (take n s) (take (suffixLen (drop n s)) (drop n s)) h (suffix-named (drop n s))))
-
-prefix : Named (bytes "0x")
-unfolding allOf isName isLetter isDigit inRange
-prefix = refl
-
-hex-legible : (s : List ℕ) → begins (bytes "0x") s ≡ true → Legible s (hexNumber s)
-unfolding hexNumber hexTyped hexLen
-hex-legible s e =
-    let p : Named (take 2 s) = subst Named (sym (begins-is (bytes "0x") s e)) prefix in
-    let n : ℕ = runLen isHex (drop 2 s) in
-    legible-cond s (eqb (2 + n + suffixLen (drop (2 + n) s)) 2) _ _
-    (λ _. named-legible 1 1 s (subst Named (take-take 1 2 s (omega arith)) (all-take isName 1 (take 2 s) p)))
-    (λ _. typed-legible s (2 + n) (subst Named (sym (take-add 2 n s)) (all-join isName (take 2 s) (take n (drop 2 s)) p (all-more isHex isName hex-name (take n (drop 2 s)) (all-run isHex (drop 2 s))))))
-
-number-legible : (s : List ℕ) → Legible s (number s)
-unfolding number decimal
-number-legible s =
-    legible-cond s (begins (bytes "0x") s) _ _ (hex-legible s)
-    (λ _. typed-legible s (runLen isDigit s) (all-more isDigit isName digit-name (take (runLen isDigit s) s) (all-run isDigit s)))
+number-legible : (ed : ℕ) (s : List ℕ) → Legible s (number ed s)
+number-legible ed s =
+    let n = is-number ed s in
+    subst (Legible s) (sym (n .is)) (named-legible (n .kind) (lengthOf (number ed s)) s (n .named))
 
 -- strings
 open-ascii : (a b : ℕ) → opensString a b ≡ true → (isAscii a ≡ true) × (isAscii b ≡ true)
@@ -169,11 +130,11 @@ mark-legible : (s : List ℕ) → Legible s (mark (markOf s))
 unfolding mark markOf
 mark-legible s = legible-cond s (eqb (longest marks s .len) 0) _ _ (λ _. tt) (λ _. shown-legible (longest marks s .kind) (take (longest marks s .len) s) (longest-shown marks s all-rows))
 
-find-legible : (s : List ℕ) → Legible s (findToken s)
+find-legible : (ed : ℕ) (s : List ℕ) → Legible s (findToken ed s)
 unfolding findToken legible allOf
-find-legible [] = refl
-find-legible (a ∷ s) =
-    legible-cond (a ∷ s) (isDigit a) _ _ (λ _. number-legible (a ∷ s))
+find-legible ed [] = refl
+find-legible ed (a ∷ s) =
+    legible-cond (a ∷ s) (isDigit a) _ _ (λ _. number-legible ed (a ∷ s))
     (λ _. legible-cond (a ∷ s) (isLetter a) _ _ (λ _. word-legible a s) (λ _. mark-legible (a ∷ s)))
 
 -- the same of the next token of any bytes
@@ -186,11 +147,11 @@ unfolding placed
 placed-legible p s (front k n) h = h
 placed-legible p s (fault m i j) h = tt
 
-behind-legible : (e : End) → LegibleToken (behindGap e)
+behind-legible : (ed : ℕ) (e : End) → LegibleToken (behindGap ed e)
 unfolding behindGap
-behind-legible (clear p s) = placed-legible p s (findToken s) (find-legible s)
-behind-legible (broken o q) = tt
+behind-legible ed (clear p s) = placed-legible p s (findToken ed s) (find-legible ed s)
+behind-legible ed (broken o q) = tt
 
-pub lex-legible : (p : ℕ) (s : List ℕ) → LegibleToken (lex p s)
+pub lex-legible : (ed p : ℕ) (s : List ℕ) → LegibleToken (lex ed p s)
 unfolding lex
-lex-legible p s = behind-legible (gap 0 p s .last)
+lex-legible ed p s = behind-legible ed (gap 0 p s .last)

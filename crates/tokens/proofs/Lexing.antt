@@ -31,7 +31,7 @@ abbrev pub Sound : List ℕ → ℕ → Scanned → Type 0
 Sound text at (tok k s e w r) = Good text at k s e w r
 Sound text at (bad r) = Inside text (r .place) × Inside text (r .second)
 
-module _ (text : List ℕ) (at : ℕ) where
+module _ (ed : ℕ) (text : List ℕ) (at : ℕ) where
   placed-sound : (q : ℕ) (f : Front) → at ≤ q → q < length text → Takes (length (drop q text)) f → Sound text at (placed q (drop q text) f)
   unfolding placed
   placed-sound q (front k n) h g t =
@@ -48,7 +48,7 @@ module _ (text : List ℕ) (at : ℕ) where
       }
   placed-sound q (fault m i j) h g t = let l = length-drop q text in ((omega arith, omega arith), (omega arith, omega arith))
 
-  over-sound : (q : ℕ) → at ≤ q → q ≡ length text → drop q text ≡ [] → Sound text at (placed q [] (findToken []))
+  over-sound : (q : ℕ) → at ≤ q → q ≡ length text → drop q text ≡ [] → Sound text at (placed q [] (findToken ed []))
   unfolding placed findToken
   over-sound q h e d =
       let z : q + 0 ≡ q = add-zero q in
@@ -62,17 +62,17 @@ module _ (text : List ℕ) (at : ℕ) where
         behind = rw (z, d);
       }
 
-  behind-sound : (e : End) → at ≤ length text → Ended text at e → Sound text at (behindGap e)
+  behind-sound : (e : End) → at ≤ length text → Ended text at e → Sound text at (behindGap ed e)
   unfolding behindGap
   behind-sound (clear q []) h g =
       let n : length (drop q text) ≡ 0 = ap length (sym (g .2)) in
       over-sound q (g .0) (omega (arith, g .1 h, n, length-drop q text)) (sym (g .2))
   behind-sound (clear q (a ∷ s)) h g =
       let n : suc (length s) ≡ length text - q = ap length (g .2) ∙ length-drop q text in
-      subst (λ (l : List ℕ). Sound text at (placed q l (findToken (a ∷ s)))) (sym (g .2))
-      (placed-sound q (findToken (a ∷ s)) (g .0) (omega arith) (subst (λ (l : List ℕ). Takes (length l) (findToken (a ∷ s))) (g .2) (find-takes a s)))
+      subst (λ (l : List ℕ). Sound text at (placed q l (findToken ed (a ∷ s)))) (sym (g .2))
+      (placed-sound q (findToken ed (a ∷ s)) (g .0) (omega arith) (subst (λ (l : List ℕ). Takes (length l) (findToken ed (a ∷ s))) (g .2) (find-takes ed a s)))
   behind-sound (broken o q) h g = ((omega (arith, g .0), g .1), (omega (arith, g .0), g .1))
 
-  pub lex-sound : at ≤ length text → Sound text at (lex at (drop at text))
+  pub lex-sound : at ≤ length text → Sound text at (lex ed at (drop at text))
   unfolding lex
   lex-sound h = behind-sound (gap 0 at (drop at text) .last) h (gap-ended text (drop at text) 0 at refl)

@@ -1,3 +1,4 @@
+pub mod Digits
 pub mod Fronts
 pub mod Lexing
 pub mod Steps
@@ -10,3 +11,4 @@ pub mod Legible
 pub mod Again
 pub mod RefusalSets
 pub mod TokenLines
+pub mod Editions

@@ -17,11 +17,12 @@ use Rattle.words.specs.Search.{markOf, suffixLen}
 use Rattle.words.specs.Quote.{quoteFrom}
 use Rattle.words.specs.declared.Quote.{Quote}
 use Rattle.words.specs.declared.Quote.the-variants.{Found as Closing, Missing}
-use Rattle.tokens.specs.Refusals.{TextTooLong, StartPastEnd, StringNotAscii, NoToken, among, lexRefusals, tokenRefusals, commentRefusals}
+use Rattle.tokens.specs.Refusals.{TextTooLong, StartPastEnd, NoSuchEdition, StringNotAscii, NoToken, among, lexRefusals, tokenRefusals, commentRefusals}
 use Rattle.tokens.specs.Token.{Front, front, fault, typed, decimal, hexTyped, hexLen, hexNumber, number, stringBy, string, opensString, stringRefusal, name, word, mark, findToken, Scanned, tok, bad, placed, behindGap, lex}
 use Rattle.tokens.specs.Answers.{refusal}
-use Rattle.tokens.specs.Calls.{textLimit, admitted, lexed, nextToken, commentOf, nextComment}
+use Rattle.tokens.specs.Calls.{textLimit, admitted, lexed, nextToken, advanced, noEdition, admittedIn, refusedCall, tokenCall, commentOf, nextComment}
 use Rattle.tokens.specs.declared.Refusal.{Refusal}
+use Rattle.tokens.specs.declared.Advanced.{Advanced}
 use Rattle.tokens.specs.declared.Lexed.{Lexed}
 use Rattle.tokens.specs.declared.Lexed.the-variants.{Found, Refused}
 use Rattle.tokens.specs.declared.DocComment.{DocComment}
@@ -55,9 +56,9 @@ met-cond : (b : Bool) (x y : Front) → Met x → Met y → Met (cond b x y)
 met-cond true x y f g = f
 met-cond false x y f g = g
 
-number-met : (s : List ℕ) → Met (number s)
+number-met : (ed : ℕ) (s : List ℕ) → Met (number ed s)
 unfolding number hexNumber hexTyped decimal typed
-number-met s = met-cond (begins (bytes "0x") s) _ _ (met-cond (eqb (hexLen s + suffixLen (drop (hexLen s) s)) 2) (front 1 1) _ tt tt) tt
+number-met ed s = met-cond (begins (bytes "0x") s) _ _ (met-cond (eqb (hexLen ed s + suffixLen ed (drop (hexLen ed s) s)) 2) (front 1 1) _ tt tt) tt
 
 string-met : (m h : ℕ) (q : Quote) → among lexRefusals m ≡ true → Met (stringBy m h q)
 unfolding stringBy among
@@ -78,11 +79,11 @@ word-met s =
     met-cond (opensString (getD s 0 0) (getD s 1 0)) _ _
     (string-met (stringRefusal (getD s 0 0)) (2 + runLen isAscii (drop 2 s)) (quoteFrom false 2 (drop 2 s)) (string-refusal-met (getD s 0 0))) tt
 
-find-met : (s : List ℕ) → Met (findToken s)
+find-met : (ed : ℕ) (s : List ℕ) → Met (findToken ed s)
 unfolding findToken mark among
-find-met [] = tt
-find-met (a ∷ s) =
-    met-cond (isDigit a) _ _ (number-met (a ∷ s))
+find-met ed [] = tt
+find-met ed (a ∷ s) =
+    met-cond (isDigit a) _ _ (number-met ed (a ∷ s))
     (met-cond (isLetter a) _ _ (word-met (a ∷ s)) (met-cond (eqb (markOf (a ∷ s) .len) 0) (fault NoToken 0 0) (front (markOf (a ∷ s) .kind) (markOf (a ∷ s) .len)) refl tt))
 
 placed-met : (p : ℕ) (s : List ℕ) (x : Front) → Met x → LexMet (placed p s x)
@@ -90,15 +91,16 @@ unfolding placed
 placed-met p s (front k n) h = tt
 placed-met p s (fault m i j) h = h
 
-gap-met : (e : End) → LexMet (behindGap e)
-unfolding behindGap among
-gap-met (clear p s) = placed-met p s (findToken s) (find-met s)
-gap-met (broken o q) = refl
+module _ (ed : ℕ) where
+  gap-met : (e : End) → LexMet (behindGap ed e)
+  unfolding behindGap among
+  gap-met (clear p s) = placed-met p s (findToken ed s) (find-met ed s)
+  gap-met (broken o q) = refl
 
--- the bytes of a text say one of 5 to 9
-pub lex-met : (p : ℕ) (s : List ℕ) → LexMet (lex p s)
-unfolding lex
-lex-met p s = gap-met (gap 0 p s .last)
+  -- the bytes of a text say one of 5 to 9
+  pub lex-met : (p : ℕ) (s : List ℕ) → LexMet (lex ed p s)
+  unfolding lex
+  lex-met p s = gap-met (gap 0 p s .last)
 
 -- a fact of refusals 1 and 2 and of what the text has
 admitted-met : {A : Type 0} (P : A → Type 0) (refuse : Refusal → A) (text : List ℕ) (at : ℕ) (a : A)
@@ -110,6 +112,16 @@ admitted-met P refuse text at a f g h = go (ltb textLimit (length text)) (ltb (l
     go true c = f
     go false true = g
     go false false = h
+
+-- and of 19
+admitted-in-met : {A : Type 0} (P : A → Type 0) (refuse : Refusal → A) (ed : ℕ) (text : List ℕ) (at : ℕ) (a : A)
+    → P (refuse (refusal TextTooLong 0 0)) → P (refuse (refusal StartPastEnd 0 0)) → P (refuse (refusal NoSuchEdition 0 0)) → P a → P (admittedIn refuse ed text at a)
+unfolding admittedIn
+admitted-in-met P refuse ed text at a f g i h = admitted-met P refuse text at _ f g (go (noEdition ed))
+  where
+    go : (b : Bool) → P (cond b (refuse (refusal NoSuchEdition 0 0)) a)
+    go true = i
+    go false = h
 
 abbrev TokenMet : List ℕ → Lexed → Type 0
 TokenMet set (Found t) = Unit {0}
@@ -131,19 +143,24 @@ comment-met (DocFound c) = tt
 comment-met NoDoc = tt
 comment-met (BrokenFirst o q) = refl
 
--- a token call is refused with 1, 2 or 5 to 9
-pub token-refusals : (text : List ℕ) (at : ℕ) (r : Refusal) → nextToken text at ≡ Refused r → among tokenRefusals (r .number) ≡ true
+next-met : (ed : ℕ) (text : List ℕ) (at : ℕ) → TokenMet tokenRefusals (nextToken ed text at)
 unfolding nextToken subset among
-token-refusals text at r e =
-    subst (TokenMet tokenRefusals) e (admitted-met (TokenMet tokenRefusals) Refused text at _ refl refl (lexed-met tokenRefusals refl (lex at (drop at text)) (lex-met at (drop at text))))
+next-met ed text at =
+    admitted-met (TokenMet tokenRefusals) Refused text at _ refl refl (lexed-met tokenRefusals refl (lex ed at (drop at text)) (lex-met ed at (drop at text)))
+
+-- a token call is refused with 1, 2, 19 or 5 to 9
+pub token-refusals : (ed : ℕ) (text : List ℕ) (at : ℕ) (r : Refusal) → tokenCall ed text at .lexed ≡ Refused r → among tokenRefusals (r .number) ≡ true
+unfolding tokenCall advanced among
+token-refusals ed text at r e =
+    subst (TokenMet tokenRefusals) e (admitted-in-met (λ (a : Advanced). TokenMet tokenRefusals (a .lexed)) refusedCall ed text at _ refl refl refl (next-met ed text at))
 
 -- and with 5 to 9 where the caller is not to blame
-pub token-text-refusals : (text : List ℕ) (at : ℕ) → length text ≤ textLimit → at ≤ length text → (r : Refusal) → nextToken text at ≡ Refused r → among lexRefusals (r .number) ≡ true
+pub token-text-refusals : (ed : ℕ) (text : List ℕ) (at : ℕ) → length text ≤ textLimit → at ≤ length text → (r : Refusal) → nextToken ed text at ≡ Refused r → among lexRefusals (r .number) ≡ true
 unfolding nextToken subset among
-token-text-refusals text at h g r e =
-    subst (TokenMet lexRefusals) (sym (admitted-in Refused text at (lexed (lex at (drop at text))) h g) ∙ e) (lexed-met lexRefusals refl (lex at (drop at text)) (lex-met at (drop at text)))
+token-text-refusals ed text at h g r e =
+    subst (TokenMet lexRefusals) (sym (admitted-in Refused text at (lexed (lex ed at (drop at text))) h g) ∙ e) (lexed-met lexRefusals refl (lex ed at (drop at text)) (lex-met ed at (drop at text)))
 
--- a comment call is refused with 1, 2 or 6
-pub comment-refusals : (text : List ℕ) (at : ℕ) (r : Refusal) → nextComment text at ≡ Broken r → among commentRefusals (r .number) ≡ true
+-- a comment call is refused with 1, 2, 19 or 6
+pub comment-refusals : (ed : ℕ) (text : List ℕ) (at : ℕ) (r : Refusal) → nextComment ed text at ≡ Broken r → among commentRefusals (r .number) ≡ true
 unfolding nextComment among
-comment-refusals text at r e = subst CommentMet e (admitted-met CommentMet Broken text at _ refl refl (comment-met (docOf (gap 0 at (drop at text)))))
+comment-refusals ed text at r e = subst CommentMet e (admitted-in-met CommentMet Broken ed text at _ refl refl refl (comment-met (docOf (gap 0 at (drop at text)))))

@@ -1,5 +1,6 @@
 -- Reading from an offset is reading the text from there on, with all places raised by the offset.
 use mathlib.Core.Path.{_≡_, refl, ap, sym, _∙_}
+use mathlib.Core.Bool.{false}
 use mathlib.Core.List.{List, [], _∷_, map}
 use Prim.Native.Nat.{ℕ, _+_, _≤_}
 use native.Mathlib.Omega.{arith}
@@ -10,26 +11,26 @@ use Rattle.gap.specs.Raise.{raiseComment, raiseEnd}
 use Rattle.gap.specs.declared.Comment.{Comment}
 use Rattle.gap.proofs.Shift.{gap-up}
 use Rattle.tokens.specs.Token.{Front, front, fault, findToken, Scanned, tok, bad, placed, behindGap, lex}
-use Rattle.tokens.specs.Calls.{textLimit, lexed, nextToken, commentOf, nextComment}
+use Rattle.tokens.specs.Calls.{textLimit, lexed, nextToken, noEdition, commentOf, nextComment}
 use Rattle.tokens.specs.Raise.{raiseScanned, raiseLexed, raiseDoc}
 use Rattle.tokens.specs.declared.Lexed.the-variants.{Refused}
 use Rattle.tokens.specs.declared.DocComment.the-variants.{Broken}
-use Rattle.tokens.proofs.Steps.{admits}
+use Rattle.tokens.proofs.Steps.{admits, admits-in}
 
-module _ (k : ℕ) where
+module _ (ed k : ℕ) where
   placed-up : (p : ℕ) (s : List ℕ) (f : Front) → placed (k + p) s f ≡ raiseScanned k (placed p s f)
   unfolding placed
   placed-up p s (front d n) = rw (add-assoc k p n)
   placed-up p s (fault m i j) = rw (add-assoc k p i, add-assoc k p j)
 
-  behind-up : (e : End) → behindGap (raiseEnd k e) ≡ raiseScanned k (behindGap e)
+  behind-up : (e : End) → behindGap ed (raiseEnd k e) ≡ raiseScanned k (behindGap ed e)
   unfolding behindGap
-  behind-up (clear p s) = placed-up p s (findToken s)
+  behind-up (clear p s) = placed-up p s (findToken ed s)
   behind-up (broken o q) = refl
 
-  pub lex-up : (p : ℕ) (s : List ℕ) → lex (k + p) s ≡ raiseScanned k (lex p s)
+  pub lex-up : (p : ℕ) (s : List ℕ) → lex ed (k + p) s ≡ raiseScanned k (lex ed p s)
   unfolding lex
-  lex-up p s = ap (λ (g : Gap). behindGap (g .last)) (gap-up k s 0 p) ∙ behind-up (gap 0 p s .last)
+  lex-up p s = ap (λ (g : Gap). behindGap ed (g .last)) (gap-up k s 0 p) ∙ behind-up (gap 0 p s .last)
 
   lexed-up : (l : Scanned) → lexed (raiseScanned k l) ≡ raiseLexed k (lexed l)
   unfolding lexed
@@ -42,23 +43,23 @@ module _ (k : ℕ) where
   doc-up [] (clear p s) = refl
   doc-up [] (broken o q) = refl
 
-module _ (text : List ℕ) (at : ℕ) (h : length text ≤ textLimit) (g : at ≤ length text) where
+module _ (ed : ℕ) (text : List ℕ) (at : ℕ) (h : length text ≤ textLimit) (g : at ≤ length text) where
   from-zero : length (drop at text) ≤ textLimit
   from-zero = omega (arith, length-drop at text)
 
-  pub token-from : nextToken text at ≡ raiseLexed at (nextToken (drop at text) 0)
+  pub token-from : nextToken ed text at ≡ raiseLexed at (nextToken ed (drop at text) 0)
   unfolding nextToken
   token-from =
-      sym (admits Refused text at (lexed (lex at (drop at text))) h g)
-      ∙ ap (λ (n : ℕ). lexed (lex n (drop at text))) (sym (add-zero at))
-      ∙ ap lexed (lex-up at 0 (drop at text)) ∙ lexed-up at (lex 0 (drop at text))
-      ∙ ap (raiseLexed at) (admits Refused (drop at text) 0 (lexed (lex 0 (drop at text))) from-zero (omega arith))
+      sym (admits Refused text at (lexed (lex ed at (drop at text))) h g)
+      ∙ ap (λ (n : ℕ). lexed (lex ed n (drop at text))) (sym (add-zero at))
+      ∙ ap lexed (lex-up ed at 0 (drop at text)) ∙ lexed-up ed at (lex ed 0 (drop at text))
+      ∙ ap (raiseLexed at) (admits Refused (drop at text) 0 (lexed (lex ed 0 (drop at text))) from-zero (omega arith))
 
-  pub comment-from : nextComment text at ≡ raiseDoc at (nextComment (drop at text) 0)
+  pub comment-from : noEdition ed ≡ false → nextComment ed text at ≡ raiseDoc at (nextComment ed (drop at text) 0)
   unfolding nextComment docOf
-  comment-from =
-      sym (admits Broken text at (commentOf (docOf (gap 0 at (drop at text)))) h g)
+  comment-from q =
+      sym (admits-in Broken ed text at (commentOf (docOf (gap 0 at (drop at text)))) h g q)
       ∙ ap (λ (n : ℕ). commentOf (docOf (gap 0 n (drop at text)))) (sym (add-zero at))
       ∙ ap (λ (x : Gap). commentOf (docOf x)) (gap-up at (drop at text) 0 0)
-      ∙ doc-up at (gap 0 0 (drop at text) .docs) (gap 0 0 (drop at text) .last)
-      ∙ ap (raiseDoc at) (admits Broken (drop at text) 0 (commentOf (docOf (gap 0 0 (drop at text)))) from-zero (omega arith))
+      ∙ doc-up ed at (gap 0 0 (drop at text) .docs) (gap 0 0 (drop at text) .last)
+      ∙ ap (raiseDoc at) (admits-in Broken ed (drop at text) 0 (commentOf (docOf (gap 0 0 (drop at text)))) from-zero (omega arith) q)

@@ -21,7 +21,7 @@ use Rattle.words.specs.Quote.{quoteFrom}
 use Rattle.words.specs.declared.Quote.{Quote}
 use Rattle.words.specs.declared.Quote.the-variants.{Found, Missing}
 use Rattle.words.proofs.Marks.{mark-first}
-use Rattle.tokens.specs.Token.{Front, front, fault, typed, decimal, hexTyped, hexLen, hexNumber, number, stringBy, string, opensString, stringRefusal, name, word, mark, findToken, Scanned, tok, bad, placed, behindGap, lex}
+use Rattle.tokens.specs.Token.{Front, front, fault, typed, decimalLen, decimal, hexTyped, hexLen, hexNumber, number, stringBy, string, opensString, stringRefusal, name, word, mark, findToken, Scanned, tok, bad, placed, behindGap, lex}
 
 -- whether some mark has the kind, and the spelling of the first that has
 abbrev pub isMark : List Entry → ℕ → Bool
@@ -87,12 +87,12 @@ typed-spelt : (s : List ℕ) (n v : ℕ) → Spelt s (typed n v)
 unfolding typed
 typed-spelt s n v = not-mark (cond (eqb v 0) 1 2) (take (n + v) s ≡ spelling (cond (eqb v 0) 1 2)) (typed-kind (eqb v 0))
 
-number-spelt : (s : List ℕ) → Spelt s (number s)
+number-spelt : (ed : ℕ) (s : List ℕ) → Spelt s (number ed s)
 unfolding number hexNumber hexTyped decimal
-number-spelt s =
+number-spelt ed s =
     spelt-cond s (begins (bytes "0x") s) _ _
-    (spelt-cond s (eqb (hexLen s + suffixLen (drop (hexLen s) s)) 2) (front 1 1) (typed (hexLen s) (suffixLen (drop (hexLen s) s))) (not-mark 1 _ kind-1) (typed-spelt s (hexLen s) (suffixLen (drop (hexLen s) s))))
-    (typed-spelt s (runLen isDigit s) (suffixLen (drop (runLen isDigit s) s)))
+    (spelt-cond s (eqb (hexLen ed s + suffixLen ed (drop (hexLen ed s) s)) 2) (front 1 1) (typed (hexLen ed s) (suffixLen ed (drop (hexLen ed s) s))) (not-mark 1 _ kind-1) (typed-spelt s (hexLen ed s) (suffixLen ed (drop (hexLen ed s) s))))
+    (typed-spelt s (decimalLen ed s) (suffixLen ed (drop (decimalLen ed s) s)))
 
 string-spelt : (s : List ℕ) (m h : ℕ) (q : Quote) → Spelt s (stringBy m h q)
 unfolding stringBy
@@ -149,10 +149,10 @@ mark-spelt s = go (eqb (markOf s .len) 0) refl
     go true e = tt
     go false e = λ _. rw (mark-first s) (fits marks s found-itself (rw (mark-first s) at (positive (markOf s .len) (eqb-false (markOf s .len) 0 e))))
 
-pub find-spelled : (a : ℕ) (s : List ℕ) → Spelt (a ∷ s) (findToken (a ∷ s))
+pub find-spelled : (ed a : ℕ) (s : List ℕ) → Spelt (a ∷ s) (findToken ed (a ∷ s))
 unfolding findToken word string
-find-spelled a s =
-    spelt-cond (a ∷ s) (isDigit a) _ _ (number-spelt (a ∷ s))
+find-spelled ed a s =
+    spelt-cond (a ∷ s) (isDigit a) _ _ (number-spelt ed (a ∷ s))
     (spelt-cond (a ∷ s) (isLetter a) _ _
     (spelt-cond (a ∷ s) (opensString a (getD s 0 0)) _ _ (string-spelt (a ∷ s) (stringRefusal a) (2 + runLen isAscii (drop 2 (a ∷ s))) (quoteFrom false 2 (drop 2 (a ∷ s)))) (name-spelt (a ∷ s)))
     (mark-spelt (a ∷ s)))
@@ -167,19 +167,20 @@ unfolding placed
 placed-spelt q s (front k n) h = h
 placed-spelt q s (fault m i j) h = tt
 
-none-spelt : (q : ℕ) → SpeltToken (placed q [] (findToken []))
-unfolding placed findToken markKind marks longMarks doubleMarks singleMarks
-none-spelt q h = false-true _ h
+module _ (ed : ℕ) where
+  none-spelt : (q : ℕ) → SpeltToken (placed q [] (findToken ed []))
+  unfolding placed findToken markKind marks longMarks doubleMarks singleMarks
+  none-spelt q h = false-true _ h
 
-behind-spelt : (e : End) → SpeltToken (behindGap e)
-unfolding behindGap
-behind-spelt (clear q []) = none-spelt q
-behind-spelt (clear q (a ∷ s)) = placed-spelt q (a ∷ s) (findToken (a ∷ s)) (find-spelled a s)
-behind-spelt (broken o q) = tt
+  behind-spelt : (e : End) → SpeltToken (behindGap ed e)
+  unfolding behindGap
+  behind-spelt (clear q []) = none-spelt q
+  behind-spelt (clear q (a ∷ s)) = placed-spelt q (a ∷ s) (findToken ed (a ∷ s)) (find-spelled ed a s)
+  behind-spelt (broken o q) = tt
 
-pub lex-spelt : (p : ℕ) (s : List ℕ) → SpeltToken (lex p s)
-unfolding lex
-lex-spelt p s = behind-spelt (gap 0 p s .last)
+  pub lex-spelt : (p : ℕ) (s : List ℕ) → SpeltToken (lex ed p s)
+  unfolding lex
+  lex-spelt p s = behind-spelt (gap 0 p s .last)
 
 -- `>>` has two bytes, and behind its first stands its second with the rest
 shift-kind : markKind 34 ≡ true
@@ -204,10 +205,10 @@ split (a ∷ t) n h g = go n t h (ap length h) g
     go (suc (suc (suc n))) (b ∷ []) h l k = absurd (omega arith)
     go (suc (suc (suc n))) (b ∷ c ∷ t) h l k = absurd (omega arith)
 
-pub shift-split : (text : List ℕ) (at s e : ℕ) (w r : List ℕ) → at ≤ length text → lex at (drop at text) ≡ tok 34 s e w r → (e ≡ s + 2) × (62 ∷ r ≡ drop (suc s) text)
-shift-split text at s e w r h l =
-    let g : Good text at 34 s e w r = subst (Sound text at) l (lex-sound text at h) in
-    let p : w ≡ 62 ∷ 62 ∷ [] = subst SpeltToken l (lex-spelt at (drop at text)) shift-kind ∙ shift-word in
+pub shift-split : (ed : ℕ) (text : List ℕ) (at s e : ℕ) (w r : List ℕ) → at ≤ length text → lex ed at (drop at text) ≡ tok 34 s e w r → (e ≡ s + 2) × (62 ∷ r ≡ drop (suc s) text)
+shift-split ed text at s e w r h l =
+    let g : Good text at 34 s e w r = subst (Sound text at) l (lex-sound ed text at h) in
+    let p : w ≡ 62 ∷ 62 ∷ [] = subst SpeltToken l (lex-spelt ed at (drop at text)) shift-kind ∙ shift-word in
     let q = split (drop s text) (e - s) (sym (g .spelled) ∙ p) (rw length-drop (omega (arith, g .within))) in
     let n : s + (e - s) ≡ e = omega (arith, g .ordered) in
     (omega (arith, q .0, g .ordered), sym (ap (λ (k : ℕ). drop k text) (sym (add-one s)) ∙ sym (drop-drop 1 s text) ∙ q .1 ∙ rw (drop-drop (e - s) s text, n, ← g .behind)))

@@ -1,16 +1,16 @@
 -- The token at a place of a text, by the tests and the callees' answers that lead to each case of the code.
 use mathlib.Core.Path.{_≡_, refl, ap, sym, _∙_, subst}
-use mathlib.Core.Bool.{Bool, true, false, _&&_}
+use mathlib.Core.Bool.{Bool, true, false, cond, _&&_}
 use mathlib.Core.List.{List, [], _∷_}
 use Prim.Native.Nat.{ℕ, _+_, _-_, _<_, _≤_, min}
 use native.Mathlib.Omega.{arith}
 use native.Mathlib.Nat.{add-zero, add-assoc}
 use borrow.Author.Tests.{eq-eqb, ne-eqb, lt-ltb, le-ltb, lt-leb, leb-true}
-use lib.Dec.{eqb, leb}
+use lib.Dec.{eqb, leb, ltb}
 use lib.ListN.{length, getD, take, drop, drop-of-length-le, length-drop}
 use lib.Seq.{drop-cons, drop-drop, getD-drop}
 use Rattle.classes.specs.Bytes.{bytes, begins}
-use Rattle.classes.specs.Class.{inRange, isDigit, isLetter, isName, isAscii, isSpace, inClass}
+use Rattle.classes.specs.Class.{inRange, isDigit, isHex, isLetter, isName, isAscii, isSpace, inClass}
 use Rattle.classes.specs.Run.{runLen, runEnd}
 use Rattle.classes.proofs.Bools.{false-true, and-true, and-right}
 use Rattle.gap.specs.Gap.{End, clear, broken, Gap, gap, gapEndOf, docOf}
@@ -24,17 +24,19 @@ use Rattle.words.specs.declared.Fit.{Fit}
 use Rattle.words.specs.declared.Quote.{Quote}
 use Rattle.words.specs.declared.Quote.the-variants.{Found as QuoteFound, Missing}
 use Rattle.classes.proofs.Cut.{begins-short, run-cut, drop-cut}
-use Rattle.classes.proofs.Runs.{run-to, run-stops}
+use Rattle.classes.proofs.Runs.{run-stops}
 use Rattle.words.proofs.Marks.{mark-short}
 use Rattle.words.proofs.Quotes.{Within, within, quote-shift}
 use Rattle.words.proofs.Suffix.{suffix-short}
 use Rattle.tokens.specs.Answers.{refusal, token}
-use Rattle.tokens.specs.Token.{Front, front, fault, typed, decimal, hexTyped, hexLen, hexNumber, number, stringBy, string, opensString, stringRefusal, name, word, mark, findToken, placed, behindGap, lex}
-use Rattle.tokens.specs.Calls.{textLimit, admitted, lexed, nextToken, commentOf, nextComment}
-use Rattle.tokens.specs.code.Found.{lexedAt, typedAt}
+use Rattle.tokens.specs.Token.{Front, front, fault, typed, moreDigits, moreHex, decimalLen, decimal, hexTyped, hexLen, hexNumber, number, stringBy, string, opensString, stringRefusal, name, word, mark, findToken, placed, behindGap, lex}
+use Rattle.tokens.specs.Calls.{textLimit, admitted, lexed, nextToken, lineFeedBefore, advanced, noEdition, admittedIn, refusedCall, tokenCall, commentOf, nextComment}
+use Rattle.tokens.specs.code.Found.{digitsEnd, editionRefusal, lexedAt, typedAt, flagged}
 use Rattle.tokens.specs.declared.Refusal.{Refusal}
+use Rattle.tokens.specs.declared.Lexed.{Lexed}
 use Rattle.tokens.specs.declared.Lexed.the-variants.{Found, Refused}
 use Rattle.tokens.specs.declared.DocComment.the-variants.{Broken as CommentBroken}
+use Rattle.tokens.proofs.Digits.{end-to}
 
 -- numbers
 module _ (at e n : ℕ) where
@@ -50,35 +52,35 @@ typed-at : (at m e n : ℕ) → e ≡ at + m → typedAt at e n ≡ lexedAt at (
 unfolding typedAt lexedAt typed
 typed-at at m e n h = rw (h, add-assoc)
 
-module _ (text : List ℕ) (at e n : ℕ) (en : n ≡ suffixLen (drop e text)) where
-  pub number-room : (f : ℕ → Bool) → e ≡ runEnd f text at → at ≤ length text → e + n ≤ length text
-  number-room f h g =
-      let r : e ≤ length text = rw h (run-to f text at g) in
-      omega (arith, suffix-short (drop e text), length-drop e text)
+module _ (ed : ℕ) (text : List ℕ) (at e n : ℕ) (en : n ≡ suffixLen ed (drop e text)) where
+  pub number-room : (f g : ℕ → Bool) → e ≡ digitsEnd f g text at → at ≤ length text → e + n ≤ length text
+  number-room f g h i =
+      let r : e ≤ length text = rw h (end-to f g text at i) in
+      omega (arith, suffix-short ed (drop e text), length-drop e text)
 
-  suffix-at : (m : ℕ) → e ≡ at + m → suffixLen (drop m (drop at text)) ≡ n
+  suffix-at : (m : ℕ) → e ≡ at + m → suffixLen ed (drop m (drop at text)) ≡ n
   suffix-at m h = rw (drop-drop m at text, ← h, ← en)
 
-  pub decimal-at : e ≡ runEnd (inClass 1) text at → typedAt at e n ≡ lexedAt at (decimal (drop at text))
-  unfolding decimal runEnd inClass
-  decimal-at h = typed-at at (runLen isDigit (drop at text)) e n h ∙ ap (λ (v : ℕ). lexedAt at (typed (runLen isDigit (drop at text)) v)) (sym (suffix-at (runLen isDigit (drop at text)) h))
+  pub decimal-at : e ≡ digitsEnd isDigit (moreDigits ed) text at → typedAt at e n ≡ lexedAt at (decimal ed (drop at text))
+  unfolding decimal decimalLen digitsEnd
+  decimal-at h = typed-at at (decimalLen ed (drop at text)) e n h ∙ ap (λ (v : ℕ). lexedAt at (typed (decimalLen ed (drop at text)) v)) (sym (suffix-at (decimalLen ed (drop at text)) h))
 
-  module _ (h : e ≡ runEnd (inClass 2) text (at + 2)) where
-    hex-end : e ≡ at + hexLen (drop at text)
-    unfolding hexLen runEnd inClass
+  module _ (h : e ≡ digitsEnd isHex (moreHex ed) text (at + 2)) where
+    hex-end : e ≡ at + hexLen ed (drop at text)
+    unfolding hexLen digitsEnd
     hex-end = h ∙ rw (drop-drop 2 at text, add-assoc)
 
-    pub hex-zero : e + n ≡ at + 2 → Found (token 1 at (at + 1)) ≡ lexedAt at (hexNumber (drop at text))
+    pub hex-zero : e + n ≡ at + 2 → Found (token 1 at (at + 1)) ≡ lexedAt at (hexNumber ed (drop at text))
     unfolding hexNumber hexTyped lexedAt
     hex-zero g =
-        let q : hexLen (drop at text) + n ≡ 2 = omega (arith, hex-end) in
-        rw (suffix-at (hexLen (drop at text)) hex-end, eq-eqb (hexLen (drop at text) + n) 2 q)
+        let q : hexLen ed (drop at text) + n ≡ 2 = omega (arith, hex-end) in
+        rw (suffix-at (hexLen ed (drop at text)) hex-end, eq-eqb (hexLen ed (drop at text) + n) 2 q)
 
-    pub hex-number : (e + n ≡ at + 2 → ⊥) → typedAt at e n ≡ lexedAt at (hexNumber (drop at text))
+    pub hex-number : (e + n ≡ at + 2 → ⊥) → typedAt at e n ≡ lexedAt at (hexNumber ed (drop at text))
     unfolding hexNumber hexTyped
     hex-number g =
-        let q : hexLen (drop at text) + n ≡ 2 → ⊥ = λ p. g (omega (arith, hex-end)) in
-        rw (suffix-at (hexLen (drop at text)) hex-end, ne-eqb (hexLen (drop at text) + n) 2 q) (typed-at at (hexLen (drop at text)) e n hex-end)
+        let q : hexLen ed (drop at text) + n ≡ 2 → ⊥ = λ p. g (omega (arith, hex-end)) in
+        rw (suffix-at (hexLen ed (drop at text)) hex-end, ne-eqb (hexLen ed (drop at text) + n) 2 q) (typed-at at (hexLen ed (drop at text)) e n hex-end)
 
 -- `0x` at the front, told by two bytes
 two-bytes : (s : List ℕ) → begins (bytes "0x") s ≡ eqb (getD s 0 0) 48 && eqb (getD s 1 0) 120
@@ -92,13 +94,13 @@ module _ (text : List ℕ) (at b : ℕ) (eb : b ≡ getD text (at + 1) 0) where
   starts-0x = two-bytes (drop at text) ∙ rw (front-at text at, getD-drop at text 1 0, ← eb)
 
   module _ (v : Bool) (ev : v ≡ eqb (getD text at 0) 48 && eqb b 120) where
-    pub number-hex : v ≡ true → lexedAt at (hexNumber (drop at text)) ≡ lexedAt at (number (drop at text))
+    pub number-hex : (ed : ℕ) → v ≡ true → lexedAt at (hexNumber ed (drop at text)) ≡ lexedAt at (number ed (drop at text))
     unfolding number
-    number-hex h = rw (starts-0x, ← ev, h)
+    number-hex ed h = rw (starts-0x, ← ev, h)
 
-    pub number-decimal : v ≡ false → lexedAt at (decimal (drop at text)) ≡ lexedAt at (number (drop at text))
+    pub number-decimal : (ed : ℕ) → v ≡ false → lexedAt at (decimal ed (drop at text)) ≡ lexedAt at (number ed (drop at text))
     unfolding number
-    number-decimal h = rw (starts-0x, ← ev, h)
+    number-decimal ed h = rw (starts-0x, ← ev, h)
 
     pub hex-room : v ≡ true → at + 2 ≤ length text
     hex-room h =
@@ -197,21 +199,21 @@ no-digit a e = go (isDigit a) refl
         false-true _ (rw (lt-leb 97 a (omega arith), lt-leb 65 a (omega arith), ne-eqb a 95 (λ q. absurd (omega arith))) at e)
 
 -- the token at a place, by its first byte
-module _ (text : List ℕ) (at : ℕ) where
-  pub find-over : length text ≤ at → Found (token 0 at at) ≡ lexedAt at (findToken (drop at text))
+module _ (ed : ℕ) (text : List ℕ) (at : ℕ) where
+  pub find-over : length text ≤ at → Found (token 0 at at) ≡ lexedAt at (findToken ed (drop at text))
   unfolding findToken lexedAt
   find-over h = rw (drop-of-length-le text h, add-zero)
 
   module _ (h : at < length text) where
-    pub find-number : isDigit (getD text at 0) ≡ true → lexedAt at (number (drop at text)) ≡ lexedAt at (findToken (drop at text))
+    pub find-number : isDigit (getD text at 0) ≡ true → lexedAt at (number ed (drop at text)) ≡ lexedAt at (findToken ed (drop at text))
     unfolding findToken
     find-number e = rw (drop-cons text at 0 h, e)
 
-    pub find-word : isLetter (getD text at 0) ≡ true → lexedAt at (word (drop at text)) ≡ lexedAt at (findToken (drop at text))
+    pub find-word : isLetter (getD text at 0) ≡ true → lexedAt at (word (drop at text)) ≡ lexedAt at (findToken ed (drop at text))
     unfolding findToken
     find-word f = rw (drop-cons text at 0 h, no-digit (getD text at 0) f, f)
 
-    pub find-mark : isDigit (getD text at 0) ≡ false → isLetter (getD text at 0) ≡ false → lexedAt at (mark (markOf (drop at text))) ≡ lexedAt at (findToken (drop at text))
+    pub find-mark : isDigit (getD text at 0) ≡ false → isLetter (getD text at 0) ≡ false → lexedAt at (mark (markOf (drop at text))) ≡ lexedAt at (findToken ed (drop at text))
     unfolding findToken
     find-mark e f = rw (drop-cons text at 0 h, e, f)
 
@@ -234,38 +236,80 @@ unfolding lexed placed lexedAt
 lexed-placed p s (front k n) = refl
 lexed-placed p s (fault m i j) = refl
 
-module _ (text : List ℕ) (at : ℕ) where
-  clear-by : (i : ℕ) (e : End) → Ended text at e → gapEndOf e ≡ Clear i → lexedAt i (findToken (drop i text)) ≡ lexed (behindGap e)
+-- behind the blanks
+module _ (text : List ℕ) (at i : ℕ) (q : i ≡ runEnd isSpace text at) where
+  pub blanks-end : i < length text → isSpace (getD text i 0) ≡ false
+  unfolding runEnd
+  blanks-end h =
+      let n : runLen isSpace (drop at text) < length (drop at text) = omega (arith, q, length-drop at text) in
+      rw (q, ← getD-drop at text (runLen isSpace (drop at text)) 0) (run-stops isSpace (drop at text) n)
+
+  same-end : gapEndOf (gap 0 at (drop at text) .last) ≡ gapEndOf (gap 0 i (drop i text) .last)
+  same-end = rw q (ap (λ (g : Gap). gapEndOf (g .last)) (gap-blanks text at))
+
+module _ (ed : ℕ) (text : List ℕ) (at : ℕ) where
+  clear-by : (i : ℕ) (e : End) → Ended text at e → gapEndOf e ≡ Clear i → lexedAt i (findToken ed (drop i text)) ≡ lexed (behindGap ed e)
   unfolding behindGap gapEndOf
-  clear-by i (clear q u) h g = let r : q ≡ i = cc in rw (h .2, r) (sym (lexed-placed i (drop i text) (findToken (drop i text))))
+  clear-by i (clear q u) h g = let r : q ≡ i = cc in rw (h .2, r) (sym (lexed-placed i (drop i text) (findToken ed (drop i text))))
   clear-by i (broken o q) h g = let z : _≡_ {A = ℕ} 0 1 = cc in absurd (omega arith)
 
-  broken-by : (o q : ℕ) (e : End) → gapEndOf e ≡ Broken o q → Refused (refusal 6 o q) ≡ lexed (behindGap e)
+  broken-by : (o q : ℕ) (e : End) → gapEndOf e ≡ Broken o q → Refused (refusal 6 o q) ≡ lexed (behindGap ed e)
   unfolding behindGap gapEndOf lexed
   broken-by o q (clear p u) g = let z : _≡_ {A = ℕ} 0 1 = cc in absurd (omega arith)
   broken-by o q (broken p r) g = let u : p ≡ o = cc in let v : r ≡ q = cc in rw (u, v)
 
-  -- behind the blanks
-  module _ (i : ℕ) (q : i ≡ runEnd isSpace text at) where
-    pub blanks-end : i < length text → isSpace (getD text i 0) ≡ false
-    unfolding runEnd
-    blanks-end h =
-        let n : runLen isSpace (drop at text) < length (drop at text) = omega (arith, q, length-drop at text) in
-        rw (q, ← getD-drop at text (runLen isSpace (drop at text)) 0) (run-stops isSpace (drop at text) n)
+  module _ (i : ℕ) (q : i ≡ runEnd isSpace text at) (h : length text ≤ textLimit) (g : at ≤ length text) where
+    pub next-clear : (k : ℕ) → gapEndOf (gap 0 i (drop i text) .last) ≡ Clear k → lexedAt k (findToken ed (drop k text)) ≡ nextToken ed text at
+    unfolding nextToken lex
+    next-clear k e = clear-by k (gap 0 at (drop at text) .last) (gap-ended text (drop at text) 0 at refl) (same-end text at i q ∙ e) ∙ admits Refused text at _ h g
 
-    same-end : gapEndOf (gap 0 at (drop at text) .last) ≡ gapEndOf (gap 0 i (drop i text) .last)
-    same-end = rw q (ap (λ (g : Gap). gapEndOf (g .last)) (gap-blanks text at))
+    pub next-broken : (o p : ℕ) → gapEndOf (gap 0 i (drop i text) .last) ≡ Broken o p → Refused (refusal 6 o p) ≡ nextToken ed text at
+    unfolding nextToken lex
+    next-broken o p e = broken-by o p (gap 0 at (drop at text) .last) (same-end text at i q ∙ e) ∙ admits Refused text at _ h g
 
-    module _ (h : length text ≤ textLimit) (g : at ≤ length text) where
-      pub next-clear : (k : ℕ) → gapEndOf (gap 0 i (drop i text) .last) ≡ Clear k → lexedAt k (findToken (drop k text)) ≡ nextToken text at
-      unfolding nextToken lex
-      next-clear k e = clear-by k (gap 0 at (drop at text) .last) (gap-ended text (drop at text) 0 at refl) (same-end ∙ e) ∙ admits Refused text at _ h g
+-- the calls, by the edition
+module _ {A : Type 0} (refuse : Refusal → A) (ed : ℕ) (text : List ℕ) (at : ℕ) (a : A) where
+  pub too-long-in : textLimit < length text → refuse (refusal 1 0 0) ≡ admittedIn refuse ed text at a
+  unfolding admittedIn
+  too-long-in h = too-long refuse text at _ h
 
-      pub next-broken : (o p : ℕ) → gapEndOf (gap 0 i (drop i text) .last) ≡ Broken o p → Refused (refusal 6 o p) ≡ nextToken text at
-      unfolding nextToken lex
-      next-broken o p e = broken-by o p (gap 0 at (drop at text) .last) (same-end ∙ e) ∙ admits Refused text at _ h g
+  pub past-end-in : length text ≤ textLimit → length text < at → refuse (refusal 2 0 0) ≡ admittedIn refuse ed text at a
+  unfolding admittedIn
+  past-end-in h g = past-end refuse text at _ h g
 
-  module _ (h : length text ≤ textLimit) (g : at ≤ length text) where
-    pub comment-of : (d : FirstDoc) → docOf (gap 0 at (drop at text)) ≡ d → commentOf d ≡ nextComment text at
+  pub no-edition-in : length text ≤ textLimit → at ≤ length text → noEdition ed ≡ true → refuse (refusal 19 0 0) ≡ admittedIn refuse ed text at a
+  unfolding admittedIn
+  no-edition-in h g e = rw e (admits refuse text at (refuse (refusal 19 0 0)) h g)
+
+  pub admits-in : length text ≤ textLimit → at ≤ length text → noEdition ed ≡ false → a ≡ admittedIn refuse ed text at a
+  unfolding admittedIn
+  admits-in h g e = rw e (admits refuse text at a h g)
+
+module _ (ed : ℕ) (text : List ℕ) (at : ℕ) where
+  -- a call whose edition is none, by the number of its refusal
+  pub call-refused : noEdition ed ≡ true → (m : ℕ) → m ≡ editionRefusal text at → flagged (Refused (refusal m 0 0)) false ≡ tokenCall ed text at
+  unfolding editionRefusal flagged tokenCall admittedIn admitted
+  call-refused e m h = rw (h, e) (go (ltb textLimit (length text)) (ltb (length text) at))
+    where
+      go : (v w : Bool) → refusedCall (refusal (cond v 1 (cond w 2 19)) 0 0) ≡ cond v (refusedCall (refusal 1 0 0)) (cond w (refusedCall (refusal 2 0 0)) (refusedCall (refusal 19 0 0)))
+      go true w = refl
+      go false true = refl
+      go false false = refl
+
+  -- a call in an edition: 1 and 2 are what the next token says too
+  pub call-known : noEdition ed ≡ false → tokenCall ed text at ≡ advanced ed text at
+  unfolding tokenCall admittedIn admitted advanced nextToken lineFeedBefore
+  call-known e = rw e (go (ltb textLimit (length text)) (ltb (length text) at))
+    where
+      found : Bool → Bool → Lexed
+      found v w = cond v (Refused (refusal 1 0 0)) (cond w (Refused (refusal 2 0 0)) (lexed (lex ed at (drop at text))))
+
+      go : (v w : Bool) → cond v (refusedCall (refusal 1 0 0)) (cond w (refusedCall (refusal 2 0 0)) (record { lexed = found v w; feed = lineFeedBefore text at (found v w) })) ≡ record { lexed = found v w; feed = lineFeedBefore text at (found v w) }
+      go true w = refl
+      go false true = refl
+      go false false = refl
+
+  module _ (h : length text ≤ textLimit) (g : at ≤ length text) (q : noEdition ed ≡ false) where
+    pub comment-of : (d : FirstDoc) → docOf (gap 0 at (drop at text)) ≡ d → commentOf d ≡ nextComment ed text at
     unfolding nextComment
-    comment-of d e = rw (← e) (admits CommentBroken text at _ h g)
+    comment-of d e = rw e (admits-in CommentBroken ed text at (commentOf d) h g q)

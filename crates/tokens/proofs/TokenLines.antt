@@ -8,20 +8,21 @@ use borrow.Author.Tests.{eqb-true}
 use lib.Dec.{eqb, ltb}
 use lib.ListN.{length, getD, take, drop}
 use Rattle.classes.specs.Bytes.{bytes, begins}
-use Rattle.classes.specs.Class.{inRange, isDigit, isHex, isLetter, isName, isAscii}
+use Rattle.classes.specs.Class.{inRange, isDigit, isHex, isLetter, isName, isAscii, isDigitOrUnderscore, isHexOrUnderscore}
 use Rattle.classes.specs.Run.{runLen}
 use Rattle.classes.proofs.Bools.{false-true, and-left, and-right, or-left}
 use Rattle.gap.specs.Gap.{End, clear, broken, gap}
 use Rattle.gap.specs.LineFeed.{holdsLineFeed, lineFeed}
 use Rattle.gap.proofs.LineFeeds.{line-feed-join, line-feed-from}
-use Rattle.words.specs.Search.{markOf, firstFit, frontLen, suffixes, suffixLen}
+use Rattle.words.specs.Search.{markOf, firstFit, frontLen, later, suffixes1, suffixes2, suffixesOf, suffixLen}
 use Rattle.words.specs.Tables.{Entry, longMarks, doubleMarks, singleMarks, marks}
 use Rattle.words.specs.Quote.{endsLine, turn, quoteFrom}
 use Rattle.words.specs.declared.Quote.{Quote}
 use Rattle.words.specs.declared.Quote.the-variants.{Found as QuoteFound, Missing}
 use Rattle.words.proofs.Marks.{mark-first}
+use Rattle.words.proofs.Suffix.{both-lists}
 use Rattle.words.proofs.Quotes.{Within, within}
-use Rattle.tokens.specs.Token.{Front, front, fault, typed, decimal, hexTyped, hexLen, hexNumber, number, stringBy, string, opensString, stringRefusal, name, word, mark, findToken, Scanned, tok, bad, placed, behindGap, lex}
+use Rattle.tokens.specs.Token.{Front, front, fault, typed, digitsLen, moreDigits, moreHex, decimalLen, decimal, hexTyped, hexLen, hexNumber, number, stringBy, string, opensString, stringRefusal, name, word, mark, findToken, Scanned, tok, bad, placed, behindGap, lex}
 use Rattle.tokens.specs.Calls.{textLimit, lexed, nextToken, lineFeedBefore, advanced}
 use Rattle.tokens.specs.Raise.{raiseLexed}
 use Rattle.tokens.specs.declared.Token.{Token}
@@ -40,18 +41,18 @@ joined-holds n m s h g =
     let c : n + m - n ≡ m = omega arith in
     (rw (a, b, c) at (line-feed-join s 0 n (n + m) (omega arith) (omega arith))) ∙ rw (h, g)
 
--- a run of bytes of a class that LF is not of
+-- a byte of a class that LF is not of, and a run of such bytes
+no-feed : (f : ℕ → Bool) → f 10 ≡ false → (a : ℕ) (v : Bool) → eqb a 10 ≡ v → f a ≡ true → v ≡ false
+no-feed f h a true e g = sym g ∙ rw (eqb-true a 10 e) h
+no-feed f h a false e g = refl
+
 run-holds : (f : ℕ → Bool) → f 10 ≡ false → (s : List ℕ) → holdsLineFeed (take (runLen f s) s) ≡ false
 unfolding holdsLineFeed runLen
 run-holds f h [] = refl
 run-holds f h (a ∷ s) = go (f a) refl (run-holds f h s)
   where
-    no-feed : (v : Bool) → eqb a 10 ≡ v → f a ≡ true → v ≡ false
-    no-feed true e g = sym g ∙ rw (eqb-true a 10 e) h
-    no-feed false e g = refl
-
     go : (v : Bool) → f a ≡ v → holdsLineFeed (take (runLen f s) s) ≡ false → holdsLineFeed (take (cond v (suc (runLen f s)) 0) (a ∷ s)) ≡ false
-    go true e ih = rw (no-feed (eqb a 10) refl e) ih
+    go true e ih = rw (no-feed f h a (eqb a 10) refl e) ih
     go false e ih = refl
 
 -- what bytes begin with
@@ -80,9 +81,9 @@ unfolding frontLen noneHolds holdsLineFeed
 words-hold [] s h = refl
 words-hold (w ∷ ws) s h = words-step w ws s (begins w s) (holdsLineFeed w) refl refl h (words-hold ws s)
 
-suffix-holds : (s : List ℕ) → holdsLineFeed (take (suffixLen s) s) ≡ false
-unfolding suffixLen suffixes noneHolds holdsLineFeed
-suffix-holds s = words-hold suffixes s refl
+suffix-holds : (ed : ℕ) (s : List ℕ) → holdsLineFeed (take (suffixLen ed s) s) ≡ false
+unfolding suffixLen suffixes1 suffixes2 noneHolds holdsLineFeed
+suffix-holds ed s = words-hold (suffixesOf ed) s (both-lists (λ ws. noneHolds ws ≡ true) refl refl ed)
 
 fit-front : (t : List Entry) (s : List ℕ) → firstFit t s .len ≡ frontLen (map (λ e. e .word) t) s
 unfolding firstFit frontLen
@@ -141,9 +142,36 @@ name-feed : isName 10 ≡ false
 unfolding isName isLetter isDigit inRange
 name-feed = refl
 
-decimal-in-line : (s : List ℕ) → InLine s (decimal s)
-unfolding decimal typed
-decimal-in-line s = joined-holds (runLen isDigit s) (suffixLen (drop (runLen isDigit s) s)) s (run-holds isDigit digit-feed s) (suffix-holds (drop (runLen isDigit s) s))
+-- digits of which LF is none
+digits-hold : (f g : ℕ → Bool) → f 10 ≡ false → g 10 ≡ false → (s : List ℕ) → holdsLineFeed (take (digitsLen f g s) s) ≡ false
+unfolding holdsLineFeed digitsLen
+digits-hold f g h k [] = refl
+digits-hold f g h k (a ∷ s) = go (f a) refl
+  where
+    go : (v : Bool) → f a ≡ v → holdsLineFeed (take (cond v (suc (runLen g s)) 0) (a ∷ s)) ≡ false
+    go true e = rw (no-feed f h a (eqb a 10) refl e) (run-holds g k s)
+    go false e = refl
+
+more-digits-feed : (ed : ℕ) → moreDigits ed 10 ≡ false
+unfolding moreDigits isDigitOrUnderscore isDigit inRange
+more-digits-feed ed = go (later ed)
+  where
+    go : (v : Bool) → cond v (isDigitOrUnderscore 10) (isDigit 10) ≡ false
+    go true = refl
+    go false = refl
+
+more-hex-feed : (ed : ℕ) → moreHex ed 10 ≡ false
+unfolding moreHex isHexOrUnderscore isHex inRange
+more-hex-feed ed = go (later ed)
+  where
+    go : (v : Bool) → cond v (isHexOrUnderscore 10) (isHex 10) ≡ false
+    go true = refl
+    go false = refl
+
+decimal-in-line : (ed : ℕ) (s : List ℕ) → InLine s (decimal ed s)
+unfolding decimal decimalLen typed
+decimal-in-line ed s =
+    joined-holds (decimalLen ed s) (suffixLen ed (drop (decimalLen ed s) s)) s (digits-hold isDigit (moreDigits ed) digit-feed (more-digits-feed ed) s) (suffix-holds ed (drop (decimalLen ed s) s))
 
 -- `0x`, and its first byte alone
 prefix-holds : (s : List ℕ) → begins (bytes "0x") s ≡ true → holdsLineFeed (take 2 s) ≡ false
@@ -155,17 +183,18 @@ unfolding holdsLineFeed
 first-holds [] h = refl
 first-holds (a ∷ s) h = rw (or-left (eqb a 10) (holdsLineFeed (take 1 s)) h)
 
-hex-in-line : (s : List ℕ) → begins (bytes "0x") s ≡ true → InLine s (hexNumber s)
-unfolding hexNumber hexTyped typed hexLen
-hex-in-line s h =
-    in-line-cond s (eqb (hexLen s + suffixLen (drop (hexLen s) s)) 2) (front 1 1) (typed (hexLen s) (suffixLen (drop (hexLen s) s)))
-    (λ _. first-holds s (prefix-holds s h))
-    (λ _. joined-holds (hexLen s) (suffixLen (drop (hexLen s) s)) s
-    (joined-holds 2 (runLen isHex (drop 2 s)) s (prefix-holds s h) (run-holds isHex hex-feed (drop 2 s))) (suffix-holds (drop (hexLen s) s)))
+module _ (ed : ℕ) where
+  hex-in-line : (s : List ℕ) → begins (bytes "0x") s ≡ true → InLine s (hexNumber ed s)
+  unfolding hexNumber hexTyped typed hexLen
+  hex-in-line s h =
+      in-line-cond s (eqb (hexLen ed s + suffixLen ed (drop (hexLen ed s) s)) 2) (front 1 1) (typed (hexLen ed s) (suffixLen ed (drop (hexLen ed s) s)))
+      (λ _. first-holds s (prefix-holds s h))
+      (λ _. joined-holds (hexLen ed s) (suffixLen ed (drop (hexLen ed s) s)) s
+      (joined-holds 2 (digitsLen isHex (moreHex ed) (drop 2 s)) s (prefix-holds s h) (digits-hold isHex (moreHex ed) hex-feed (more-hex-feed ed) (drop 2 s))) (suffix-holds ed (drop (hexLen ed s) s)))
 
-number-in-line : (s : List ℕ) → InLine s (number s)
-unfolding number
-number-in-line s = in-line-cond s (begins (bytes "0x") s) (hexNumber s) (decimal s) (hex-in-line s) (λ _. decimal-in-line s)
+  number-in-line : (s : List ℕ) → InLine s (number ed s)
+  unfolding number
+  number-in-line s = in-line-cond s (begins (bytes "0x") s) (hexNumber ed s) (decimal ed s) (hex-in-line s) (λ _. decimal-in-line ed s)
 
 string-by : (m h a b : ℕ) (s : List ℕ) (k : Quote) → quoteFrom false 2 s ≡ k → eqb a 10 ≡ false → eqb b 10 ≡ false → InLine (a ∷ b ∷ s) (stringBy m h k)
 unfolding stringBy holdsLineFeed
@@ -199,11 +228,11 @@ mark-in-line : (s : List ℕ) → InLine s (mark (markOf s))
 unfolding mark
 mark-in-line s = in-line-cond s (eqb (markOf s .len) 0) (fault 5 0 0) (front (markOf s .kind) (markOf s .len)) (λ _. tt) (λ _. mark-holds s)
 
-find-in-line : (s : List ℕ) → InLine s (findToken s)
+find-in-line : (ed : ℕ) (s : List ℕ) → InLine s (findToken ed s)
 unfolding findToken holdsLineFeed
-find-in-line [] = refl
-find-in-line (a ∷ s) =
-    in-line-cond (a ∷ s) (isDigit a) _ _ (λ _. number-in-line (a ∷ s))
+find-in-line ed [] = refl
+find-in-line ed (a ∷ s) =
+    in-line-cond (a ∷ s) (isDigit a) _ _ (λ _. number-in-line ed (a ∷ s))
     (λ _. in-line-cond (a ∷ s) (isLetter a) _ _ (λ _. word-in-line a s) (λ _. mark-in-line (a ∷ s)))
 
 -- a token's word
@@ -216,10 +245,10 @@ unfolding placed
 placed-whole p s (front k n) h = h
 placed-whole p s (fault m i j) h = tt
 
-behind-whole : (e : End) → Whole (behindGap e)
+behind-whole : (ed : ℕ) (e : End) → Whole (behindGap ed e)
 unfolding behindGap
-behind-whole (clear p s) = placed-whole p s (findToken s) (find-in-line s)
-behind-whole (broken o q) = tt
+behind-whole ed (clear p s) = placed-whole p s (findToken ed s) (find-in-line ed s)
+behind-whole ed (broken o q) = tt
 
 -- no token holds a line feed
 whole-by : (text : List ℕ) (at : ℕ) (t : Token) (l : Scanned) → Sound text at l → Whole l → lexed l ≡ Found t → (at ≤ t .start) × (t .start ≤ t .end) × (lineFeed text (t .start) (t .end) ≡ false)
@@ -231,12 +260,12 @@ whole-by text at t (tok k s e w r) h g q =
     (omega (arith, h .from), omega (arith, h .ordered), rw (← a, ← b, ← h .spelled) g)
 whole-by text at t (bad r) h g q = let z : _≡_ {A = ℕ} 0 1 = cc in absurd (omega arith)
 
-pub tokens-hold-no-line-feed : (text : List ℕ) (at : ℕ) (t : Token) → nextToken text at ≡ Found t → (at ≤ t .start) × (t .start ≤ t .end) × (lineFeed text (t .start) (t .end) ≡ false)
+pub tokens-hold-no-line-feed : (ed : ℕ) (text : List ℕ) (at : ℕ) (t : Token) → nextToken ed text at ≡ Found t → (at ≤ t .start) × (t .start ≤ t .end) × (lineFeed text (t .start) (t .end) ≡ false)
 unfolding nextToken lex
-tokens-hold-no-line-feed text at t h =
-    let f = found-fits text at t h in
-    whole-by text at t (lex at (drop at text)) (lex-sound text at (f .1)) (behind-whole (gap 0 at (drop at text) .last))
-    (sym (admitted-in Refused text at (lexed (lex at (drop at text))) (f .0) (f .1)) ∙ h)
+tokens-hold-no-line-feed ed text at t h =
+    let f = found-fits ed text at t h in
+    whole-by text at t (lex ed at (drop at text)) (lex-sound ed text at (f .1)) (behind-whole ed (gap 0 at (drop at text) .last))
+    (sym (admitted-in Refused text at (lexed (lex ed at (drop at text))) (f .0) (f .1)) ∙ h)
 
 -- reading from an offset is reading the text from there on: the flag too
 flag-up : (text : List ℕ) (at : ℕ) (l : Lexed) → lineFeedBefore text at (raiseLexed at l) ≡ lineFeedBefore (drop at text) 0 l
@@ -244,45 +273,47 @@ unfolding lineFeedBefore
 flag-up text at (Found t) = line-feed-from text at (t .start)
 flag-up text at (Refused r) = refl
 
-pub flag-from : (text : List ℕ) (at : ℕ) → length text ≤ textLimit → at ≤ length text → advanced text at .feed ≡ advanced (drop at text) 0 .feed
-unfolding advanced
-flag-from text at h g = rw (token-from text at h g) (flag-up text at (nextToken (drop at text) 0))
-
--- a walk: tokens of which each is asked for from the end of the one before, the first of them from `at`
-abbrev pub Walk : List ℕ → ℕ → Token → List Token → Type 0
-Walk text at t [] = nextToken text at ≡ Found t
-Walk text at t (u ∷ us) = (nextToken text at ≡ Found t) × Walk text (t .end) u us
-
--- where the last of them starts; and whether one of their flags is set
+-- where the last of some tokens starts
 abbrev pub lastStart : Token → List Token → ℕ
 lastStart t [] = t .start
 lastStart t (u ∷ us) = lastStart u us
 
-abbrev pub flags : List ℕ → ℕ → Token → List Token → Bool
-flags text at t [] = advanced text at .feed
-flags text at t (u ∷ us) = advanced text at .feed || flags text (t .end) u us
+module _ (ed : ℕ) where
+  pub flag-from : (text : List ℕ) (at : ℕ) → length text ≤ textLimit → at ≤ length text → advanced ed text at .feed ≡ advanced ed (drop at text) 0 .feed
+  unfolding advanced
+  flag-from text at h g = rw (token-from ed text at h g) (flag-up text at (nextToken ed (drop at text) 0))
 
--- a found token's flag: a line feed stands between the place it is asked for from, the end of the token before, and its start
-pub flag-is : (text : List ℕ) (at : ℕ) (t : Token) → nextToken text at ≡ Found t → advanced text at .feed ≡ lineFeed text at (t .start)
-unfolding advanced lineFeedBefore
-flag-is text at t h = rw h
+  -- a walk: tokens of which each is asked for from the end of the one before, the first of them from `at`
+  abbrev pub Walk : List ℕ → ℕ → Token → List Token → Type 0
+  Walk text at t [] = nextToken ed text at ≡ Found t
+  Walk text at t (u ∷ us) = (nextToken ed text at ≡ Found t) × Walk text (t .end) u us
 
--- a line feed stands before the last of them where one of the flags is set, and nowhere else
-pub walk-lines : (text : List ℕ) (at : ℕ) (t : Token) (us : List Token) → Walk text at t us → (at ≤ lastStart t us) × (lineFeed text at (lastStart t us) ≡ flags text at t us)
-walk-lines text at t [] h = (tokens-hold-no-line-feed text at t h .0, sym (flag-is text at t h))
-walk-lines text at t (u ∷ us) h =
-    let a = tokens-hold-no-line-feed text at t (h .0) in
-    let r = walk-lines text (t .end) u us (h .1) in
-    let b : lineFeed text (t .start) (lastStart u us) ≡ flags text (t .end) u us
-    = line-feed-join text (t .start) (t .end) (lastStart u us) (a .1) (r .0) ∙ rw (a .2) (r .1) in (
-      omega (arith, a .0, a .1, r .0),
-      line-feed-join text at (t .start) (lastStart u us) (a .0) (omega (arith, a .1, r .0)) ∙ rw (← flag-is text at t (h .0), b),
-    )
+  -- whether one of their flags is set
+  abbrev pub flags : List ℕ → ℕ → Token → List Token → Bool
+  flags text at t [] = advanced ed text at .feed
+  flags text at t (u ∷ us) = advanced ed text at .feed || flags text (t .end) u us
 
--- two tokens of a walk stand on one line where the flags of all tokens behind the first up to the second are false, and nowhere else
-pub same-line : (text : List ℕ) (at : ℕ) (t u : Token) (us : List Token) → Walk text at t (u ∷ us)
-    → lineFeed text (t .start) (lastStart u us) ≡ flags text (t .end) u us
-same-line text at t u us h =
-    let a = tokens-hold-no-line-feed text at t (h .0) in
-    let r = walk-lines text (t .end) u us (h .1) in
-    line-feed-join text (t .start) (t .end) (lastStart u us) (a .1) (r .0) ∙ rw (a .2) (r .1)
+  -- a found token's flag: a line feed stands between the place it is asked for from, the end of the token before, and its start
+  pub flag-is : (text : List ℕ) (at : ℕ) (t : Token) → nextToken ed text at ≡ Found t → advanced ed text at .feed ≡ lineFeed text at (t .start)
+  unfolding advanced lineFeedBefore
+  flag-is text at t h = rw h
+
+  -- a line feed stands before the last of them where one of the flags is set, and nowhere else
+  pub walk-lines : (text : List ℕ) (at : ℕ) (t : Token) (us : List Token) → Walk text at t us → (at ≤ lastStart t us) × (lineFeed text at (lastStart t us) ≡ flags text at t us)
+  walk-lines text at t [] h = (tokens-hold-no-line-feed ed text at t h .0, sym (flag-is text at t h))
+  walk-lines text at t (u ∷ us) h =
+      let a = tokens-hold-no-line-feed ed text at t (h .0) in
+      let r = walk-lines text (t .end) u us (h .1) in
+      let b : lineFeed text (t .start) (lastStart u us) ≡ flags text (t .end) u us
+      = line-feed-join text (t .start) (t .end) (lastStart u us) (a .1) (r .0) ∙ rw (a .2) (r .1) in (
+        omega (arith, a .0, a .1, r .0),
+        line-feed-join text at (t .start) (lastStart u us) (a .0) (omega (arith, a .1, r .0)) ∙ rw (← flag-is text at t (h .0), b),
+      )
+
+  -- two tokens of a walk stand on one line where the flags of all tokens behind the first up to the second are false, and nowhere else
+  pub same-line : (text : List ℕ) (at : ℕ) (t u : Token) (us : List Token) → Walk text at t (u ∷ us)
+      → lineFeed text (t .start) (lastStart u us) ≡ flags text (t .end) u us
+  same-line text at t u us h =
+      let a = tokens-hold-no-line-feed ed text at t (h .0) in
+      let r = walk-lines text (t .end) u us (h .1) in
+      line-feed-join text (t .start) (t .end) (lastStart u us) (a .1) (r .0) ∙ rw (a .2) (r .1)

@@ -28,14 +28,15 @@ no-rest : (text : List ℕ) (at : ℕ) → length text - at ≤ 0 → drop at te
 no-rest text at h = drop-of-length-le text {i = at} (omega arith)
 
 -- where no byte is left, EOF comes
-none-left : (p : ℕ) (f : ℕ → List ℕ → Listed) → listed (lex p []) f ≡ eof (token 0 p (p + 0))
-unfolding lex gap behindGap placed findToken
-none-left p f = refl
+module _ (ed : ℕ) where
+  none-left : (p : ℕ) (f : ℕ → List ℕ → Listed) → listed (lex ed p []) f ≡ eof (token 0 p (p + 0))
+  unfolding lex gap behindGap placed findToken
+  none-left p f = refl
 
-empty : (n at : ℕ) → walk n (lex at []) ≡ eof (token 0 at (at + 0))
-unfolding walk
-empty zero at = none-left at (λ e r. eof (token 0 e e))
-empty (suc n) at = none-left at (λ e r. walk n (lex e r))
+  empty : (n at : ℕ) → walk ed n (lex ed at []) ≡ eof (token 0 at (at + 0))
+  unfolding walk
+  empty zero at = none-left at (λ e r. eof (token 0 e e))
+  empty (suc n) at = none-left at (λ e r. walk ed n (lex ed e r))
 
 -- lists that go on alike are alike
 listed-same : (text : List ℕ) (at : ℕ) (l : Scanned) (f g : ℕ → List ℕ → Listed) → Sound text at l
@@ -49,22 +50,22 @@ listed-same text at (tok d s e w r) f g h k = go (eqb d 0) refl
         let t : s < e = h .takes (omega (arith, eqb-false d 0 q)) in
         rw (h .behind) (ap (next (token d s e)) (k e (omega (arith, h .from)) (h .within)))
 
-module _ (text : List ℕ) where
-  enough : (n m at : ℕ) → at ≤ length text → length text - at ≤ n → length text - at ≤ m → walk n (lex at (drop at text)) ≡ walk m (lex at (drop at text))
+module _ (ed : ℕ) (text : List ℕ) where
+  enough : (n m at : ℕ) → at ≤ length text → length text - at ≤ n → length text - at ≤ m → walk ed n (lex ed at (drop at text)) ≡ walk ed m (lex ed at (drop at text))
   unfolding walk
-  enough zero m at h i j = rw (no-rest text at i) (empty zero at ∙ sym (empty m at))
-  enough (suc n) zero at h i j = rw (no-rest text at j) (empty (suc n) at ∙ sym (empty zero at))
+  enough zero m at h i j = rw (no-rest text at i) (empty ed zero at ∙ sym (empty ed m at))
+  enough (suc n) zero at h i j = rw (no-rest text at j) (empty ed (suc n) at ∙ sym (empty ed zero at))
   enough (suc n) (suc m) at h i j =
-      listed-same text at (lex at (drop at text)) (λ e r. walk n (lex e r)) (λ e r. walk m (lex e r)) (lex-sound text at h)
+      listed-same text at (lex ed at (drop at text)) (λ e r. walk ed n (lex ed e r)) (λ e r. walk ed m (lex ed e r)) (lex-sound ed text at h)
       (λ e f g. enough n m e g (omega arith) (omega arith))
 
-  pub walk-ends : (n at : ℕ) → at ≤ length text → length text - at ≤ n → walk n (lex at (drop at text)) ≡ tokensFrom at (drop at text)
+  pub walk-ends : (n at : ℕ) → at ≤ length text → length text - at ≤ n → walk ed n (lex ed at (drop at text)) ≡ tokensFrom ed at (drop at text)
   unfolding tokensFrom
   walk-ends n at h i = enough n (length (drop at text)) at h i (omega (arith, length-drop at text))
 
 -- the list from an offset on, by the token call's answer there
-module _ (text : List ℕ) (at : ℕ) (h : at ≤ length text) where
-  short : (a : Lexed) → nextToken text at ≡ a → (a ≡ Refused (refusal 1 0 0) → ⊥) → length text ≤ textLimit
+module _ (ed : ℕ) (text : List ℕ) (at : ℕ) (h : at ≤ length text) where
+  short : (a : Lexed) → nextToken ed text at ≡ a → (a ≡ Refused (refusal 1 0 0) → ⊥) → length text ≤ textLimit
   unfolding nextToken admitted
   short a e n = go (ltb textLimit (length text)) refl
     where
@@ -72,38 +73,38 @@ module _ (text : List ℕ) (at : ℕ) (h : at ≤ length text) where
       go true q = absurd (n (sym e ∙ rw q))
       go false q = ltb-false textLimit (length text) q
 
-  scanned : length text ≤ textLimit → nextToken text at ≡ lexed (lex at (drop at text))
+  scanned : length text ≤ textLimit → nextToken ed text at ≡ lexed (lex ed at (drop at text))
   unfolding nextToken
   scanned g = admitted-in Refused text at _ g h
 
-  admitted-list : length text ≤ textLimit → tokensAt text at ≡ tokensFrom at (drop at text)
+  admitted-list : length text ≤ textLimit → tokensAt ed text at ≡ tokensFrom ed at (drop at text)
   unfolding tokensAt
   admitted-list g = admitted-in refused text at _ g h
 
-  listing : length text ≤ textLimit → tokensAt text at ≡ walk (suc (length text)) (lex at (drop at text))
-  listing g = admitted-list g ∙ sym (walk-ends text (suc (length text)) at h (omega arith))
+  listing : length text ≤ textLimit → tokensAt ed text at ≡ walk ed (suc (length text)) (lex ed at (drop at text))
+  listing g = admitted-list g ∙ sym (walk-ends ed text (suc (length text)) at h (omega arith))
 
-  refused-by : (r : Refusal) (l : Scanned) (n : ℕ) → lexed l ≡ Refused r → walk (suc n) l ≡ refused r
+  refused-by : (r : Refusal) (l : Scanned) (n : ℕ) → lexed l ≡ Refused r → walk ed (suc n) l ≡ refused r
   unfolding lexed walk
   refused-by r (tok k s e w u) n q = let z : _≡_ {A = ℕ} 0 1 = cc in absurd (omega arith)
   refused-by r (bad u) n q = let v : u ≡ r = cc in ap refused v
 
-  pub at-refused : (r : Refusal) → nextToken text at ≡ Refused r → tokensAt text at ≡ refused r
+  pub at-refused : (r : Refusal) → nextToken ed text at ≡ Refused r → tokensAt ed text at ≡ refused r
   unfolding tokensAt nextToken admitted
   at-refused r e = go (ltb textLimit (length text)) refl
     where
-      go : (b : Bool) → ltb textLimit (length text) ≡ b → tokensAt text at ≡ refused r
+      go : (b : Bool) → ltb textLimit (length text) ≡ b → tokensAt ed text at ≡ refused r
       go true q =
           let v : refusal 1 0 0 ≡ r = injective (rw q at e) in
           rw q (ap refused v)
       go false q =
           let g : length text ≤ textLimit = ltb-false textLimit (length text) q in
-          listing g ∙ refused-by r (lex at (drop at text)) (length text) (sym (scanned g) ∙ e)
+          listing g ∙ refused-by r (lex ed at (drop at text)) (length text) (sym (scanned g) ∙ e)
 
-  found-short : (t : Token) → nextToken text at ≡ Found t → length text ≤ textLimit
+  found-short : (t : Token) → nextToken ed text at ≡ Found t → length text ≤ textLimit
   found-short t e = short (Found t) e (λ q. let z : _≡_ {A = ℕ} 0 1 = cc in omega arith)
 
-  eof-by : (t : Token) (l : Scanned) (n : ℕ) → lexed l ≡ Found t → t .kind ≡ 0 → walk (suc n) l ≡ eof t
+  eof-by : (t : Token) (l : Scanned) (n : ℕ) → lexed l ≡ Found t → t .kind ≡ 0 → walk ed (suc n) l ≡ eof t
   unfolding lexed walk
   eof-by t (tok k s e w u) n q z =
       let v : token k s e ≡ t = cc in
@@ -111,28 +112,28 @@ module _ (text : List ℕ) (at : ℕ) (h : at ≤ length text) where
       rw (eq-eqb k 0 d) (ap eof v)
   eof-by t (bad u) n q z = let y : _≡_ {A = ℕ} 0 1 = cc in absurd (omega arith)
 
-  pub at-eof : (t : Token) → nextToken text at ≡ Found t → t .kind ≡ 0 → tokensAt text at ≡ eof t
+  pub at-eof : (t : Token) → nextToken ed text at ≡ Found t → t .kind ≡ 0 → tokensAt ed text at ≡ eof t
   at-eof t e z =
       let g = found-short t e in
-      listing g ∙ eof-by t (lex at (drop at text)) (length text) (sym (scanned g) ∙ e) z
+      listing g ∙ eof-by t (lex ed at (drop at text)) (length text) (sym (scanned g) ∙ e) z
 
   next-by : (t : Token) (l : Scanned) (n : ℕ) → lexed l ≡ Found t → (t .kind ≡ 0 → ⊥) → Sound text at l
-      → (walk (suc n) l ≡ next t (walk n (lex (t .end) (drop (t .end) text)))) × (at < t .end) × (t .end ≤ length text)
+      → (walk ed (suc n) l ≡ next t (walk ed n (lex ed (t .end) (drop (t .end) text)))) × (at < t .end) × (t .end ≤ length text)
   unfolding lexed walk
   next-by t (tok k s e w u) n q z m =
       let v : token k s e ≡ t = cc in
       let d : k ≡ 0 → ⊥ = λ p. z (sym (ap (λ (x : Token). x .kind) v) ∙ p) in
       let f : e ≡ t .end = ap (λ (x : Token). x .end) v in
       let y : s < e = m .takes (omega arith) in
-      (rw (ne-eqb k 0 d, m .behind) (ap (λ (x : Token). next x (walk n (lex (x .end) (drop (x .end) text)))) v), omega (arith, m .from), omega (arith, m .within))
+      (rw (ne-eqb k 0 d, m .behind) (ap (λ (x : Token). next x (walk ed n (lex ed (x .end) (drop (x .end) text)))) v), omega (arith, m .from), omega (arith, m .within))
   next-by t (bad u) n q z m = let y : _≡_ {A = ℕ} 0 1 = cc in absurd (omega arith)
 
-pub at-next : (text : List ℕ) (at : ℕ) → at ≤ length text → (t : Token) → nextToken text at ≡ Found t → (t .kind ≡ 0 → ⊥)
-    → (tokensAt text at ≡ next t (tokensAt text (t .end))) × (at < t .end) × (t .end ≤ length text) × (length text ≤ textLimit)
-at-next text at h t e z =
-    let g = found-short text at h t e in
-    let r = next-by text at h t (lex at (drop at text)) (length text) (sym (scanned text at h g) ∙ e) z (lex-sound text at h) in
-    (listing text at h g ∙ r .0 ∙ ap (next t) (walk-ends text (length text) (t .end) (r .2) (omega arith) ∙ sym (admitted-list text (t .end) (r .2) g)), r .1, r .2, g)
+pub at-next : (ed : ℕ) (text : List ℕ) (at : ℕ) → at ≤ length text → (t : Token) → nextToken ed text at ≡ Found t → (t .kind ≡ 0 → ⊥)
+    → (tokensAt ed text at ≡ next t (tokensAt ed text (t .end))) × (at < t .end) × (t .end ≤ length text) × (length text ≤ textLimit)
+at-next ed text at h t e z =
+    let g = found-short ed text at h t e in
+    let r = next-by ed text at h t (lex ed at (drop at text)) (length text) (sym (scanned ed text at h g) ∙ e) z (lex-sound ed text at h) in
+    (listing ed text at h g ∙ r .0 ∙ ap (next t) (walk-ends ed text (length text) (t .end) (r .2) (omega arith) ∙ sym (admitted-list ed text (t .end) (r .2) g)), r .1, r .2, g)
 
 -- every token but EOF takes a byte: from `at` on at most as many entries as there are bytes left, and one more; the last is EOF at
 -- the text's end, or a refusal
@@ -159,26 +160,28 @@ module _ (text : List ℕ) where
           let g : Ended text e (f e r) = rw (h .behind) (k e (omega (arith, h .from)) (h .within)) in
           (omega (arith, g .0, h .from, h .within), g .1)
 
-  walk-ended : (n at : ℕ) → at ≤ length text → length text - at ≤ n → Ended text at (walk n (lex at (drop at text)))
+module _ (ed : ℕ) (text : List ℕ) where
+  walk-ended : (n at : ℕ) → at ≤ length text → length text - at ≤ n → Ended text at (walk ed n (lex ed at (drop at text)))
   unfolding walk entries Ends
-  walk-ended zero at h i = rw (no-rest text at i, empty zero at) (omega arith, eof-at at (length text) (omega arith))
+  walk-ended zero at h i = rw (no-rest text at i, empty ed zero at) (omega arith, eof-at at (length text) (omega arith))
   walk-ended (suc n) at h i =
-      listed-ended at (lex at (drop at text)) (λ e r. walk n (lex e r)) (lex-sound text at h) (λ e f g. walk-ended n e g (omega arith))
+      listed-ended text at (lex ed at (drop at text)) (λ e r. walk ed n (lex ed e r)) (lex-sound ed text at h) (λ e f g. walk-ended n e g (omega arith))
 
   -- n bytes end within n + 1 steps: from any offset on, and for the whole text
-  pub tokens-end : (at : ℕ) → (entries (tokensAt text at) ≤ suc (length text - at)) × Ends (length text) (tokensAt text at)
+  pub tokens-end : (at : ℕ) → (entries (tokensAt ed text at) ≤ suc (length text - at)) × Ends (length text) (tokensAt ed text at)
   unfolding tokensAt admitted entries Ends
   tokens-end at = over (ltb textLimit (length text)) refl
     where
-      from : (b : Bool) → ltb (length text) at ≡ b → Ended text at (cond b (refused (refusal 2 0 0)) (tokensFrom at (drop at text)))
+      from : (b : Bool) → ltb (length text) at ≡ b → Ended text at (cond b (refused (refusal 2 0 0)) (tokensFrom ed at (drop at text)))
       from true q = (omega arith, tt)
-      from false q = rw (← walk-ends text (length text) at (ltb-false (length text) at q) (omega arith)) (walk-ended (length text) at (ltb-false (length text) at q) (omega arith))
+      from false q = rw (← walk-ends ed text (length text) at (ltb-false (length text) at q) (omega arith)) (walk-ended (length text) at (ltb-false (length text) at q) (omega arith))
 
       over : (b : Bool) → ltb textLimit (length text) ≡ b
-          → Ended text at (cond b (refused (refusal 1 0 0)) (cond (ltb (length text) at) (refused (refusal 2 0 0)) (tokensFrom at (drop at text))))
+          → Ended text at (cond b (refused (refusal 1 0 0)) (cond (ltb (length text) at) (refused (refusal 2 0 0)) (tokensFrom ed at (drop at text))))
       over true q = (omega arith, tt)
       over false q = from (ltb (length text) at) refl
 
+module _ (text : List ℕ) where
   pub text-ends : (entries (tokensOf text) ≤ suc (length text)) × Ends (length text) (tokensOf text)
   unfolding tokensOf
-  text-ends = let e = tokens-end 0 in (omega (arith, e .0), e .1)
+  text-ends = let e = tokens-end 1 text 0 in (omega (arith, e .0), e .1)

@@ -1,10 +1,10 @@
--- The token call and the comment call, for every text and offset.
+-- The token call and the comment call, for every edition, text and offset.
 use Prim.Native.Nat.{ℕ}
-use mathlib.Core.Bool.{Bool, false, cond}
+use mathlib.Core.Bool.{Bool, false, cond, _||_}
 use mathlib.Core.List.{List}
-use lib.Dec.{ltb}
+use lib.Dec.{eqb, ltb}
 use lib.ListN.{length, drop}
-use Rattle.tokens.specs.Refusals.{TextTooLong, StartPastEnd, CommentNotClosed}
+use Rattle.tokens.specs.Refusals.{TextTooLong, StartPastEnd, CommentNotClosed, NoSuchEdition}
 use Rattle.gap.specs.Gap.{gap, docOf}
 use Rattle.gap.specs.LineFeed.{lineFeed}
 use Rattle.gap.specs.declared.FirstDoc.{FirstDoc}
@@ -32,22 +32,39 @@ unfoldable pub lexed : Scanned → Lexed
 lexed (tok k s e w r) = Found (token k s e)
 lexed (bad r) = Refused r
 
-unfoldable pub nextToken : List ℕ → ℕ → Lexed
-nextToken text at = admitted Refused text at (lexed (lex at (drop at text)))
+-- the next token in an edition, as the readers ask for it: they have tested the edition
+unfoldable pub nextToken : ℕ → List ℕ → ℕ → Lexed
+nextToken ed text at = admitted Refused text at (lexed (lex ed at (drop at text)))
 
 -- LF stands between `at` and the token, in comments too; a refusal has none
 unfoldable pub lineFeedBefore : List ℕ → ℕ → Lexed → Bool
 lineFeedBefore text at (Found t) = lineFeed text at (t .start)
 lineFeedBefore text at (Refused r) = false
 
--- the token call's answer: the next token, and beside it whether LF stands before it
-unfoldable pub advanced : List ℕ → ℕ → Advanced
-advanced text at = record { lexed = nextToken text at; feed = lineFeedBefore text at (nextToken text at) }
+-- the next token, and beside it whether LF stands before it
+unfoldable pub advanced : ℕ → List ℕ → ℕ → Advanced
+advanced ed text at = record { lexed = nextToken ed text at; feed = lineFeedBefore text at (nextToken ed text at) }
+
+-- a number that is no edition
+abbrev pub noEdition : ℕ → Bool
+noEdition ed = eqb ed 0 || ltb 2 ed
+
+-- refusals 1, 2 and 19, in this order, and otherwise what the text has
+unfoldable pub admittedIn : {A : Type 0} → (Refusal → A) → ℕ → List ℕ → ℕ → A → A
+admittedIn refuse ed text at a = admitted refuse text at (cond (noEdition ed) (refuse (refusal NoSuchEdition 0 0)) a)
+
+-- the token call; a refusal has no flag
+abbrev pub refusedCall : Refusal → Advanced
+refusedCall r = record { lexed = Refused r; feed = false }
+
+unfoldable pub tokenCall : ℕ → List ℕ → ℕ → Advanced
+tokenCall ed text at = admittedIn refusedCall ed text at (advanced ed text at)
 
 unfoldable pub commentOf : FirstDoc → DocComment
 commentOf (DocFound c) = Doc c
 commentOf NoDoc = Nothing
 commentOf (BrokenFirst o q) = Broken (refusal CommentNotClosed o q)
 
-unfoldable pub nextComment : List ℕ → ℕ → DocComment
-nextComment text at = admitted Broken text at (commentOf (docOf (gap 0 at (drop at text))))
+-- the comment call
+unfoldable pub nextComment : ℕ → List ℕ → ℕ → DocComment
+nextComment ed text at = admittedIn Broken ed text at (commentOf (docOf (gap 0 at (drop at text))))

@@ -49,6 +49,9 @@ TooDeep = 14
 abbrev pub LineSpoiled : ℕ
 LineSpoiled = 18
 
+abbrev pub NoSuchEdition : ℕ
+NoSuchEdition = 19
+
 -- whether a number is one of a set of them
 unfoldable pub among : List ℕ → ℕ → Bool
 among [] n = false
@@ -59,8 +62,8 @@ abbrev pub lexRefusals : List ℕ
 lexRefusals = NoToken ∷ CommentNotClosed ∷ HexStringNotClosed ∷ ByteStringNotClosed ∷ StringNotAscii ∷ []
 
 abbrev pub tokenRefusals : List ℕ
-tokenRefusals = TextTooLong ∷ StartPastEnd ∷ lexRefusals
+tokenRefusals = TextTooLong ∷ StartPastEnd ∷ NoSuchEdition ∷ lexRefusals
 
 -- all that a comment call meets
 abbrev pub commentRefusals : List ℕ
-commentRefusals = TextTooLong ∷ StartPastEnd ∷ CommentNotClosed ∷ []
+commentRefusals = TextTooLong ∷ StartPastEnd ∷ NoSuchEdition ∷ CommentNotClosed ∷ []

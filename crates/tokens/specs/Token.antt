@@ -1,16 +1,16 @@
 -- What the next token is.
-use Prim.Native.Nat.{ℕ, _+_}
+use Prim.Native.Nat.{ℕ, suc, _+_}
 use mathlib.Core.Bool.{Bool, false, cond, _&&_, _||_}
 use mathlib.Core.List.{List, [], _∷_}
 use lib.Dec.{eqb, ltb}
 use lib.ListN.{getD, take, drop}
 use Rattle.tokens.specs.Refusals.{NoToken, CommentNotClosed, HexStringNotClosed, ByteStringNotClosed, StringNotAscii}
 use Rattle.classes.specs.Bytes.{bytes, begins}
-use Rattle.classes.specs.Class.{isDigit, isHex, isLetter, isName, isAscii}
+use Rattle.classes.specs.Class.{isDigit, isHex, isLetter, isName, isAscii, isDigitOrUnderscore, isHexOrUnderscore}
 use Rattle.classes.specs.Run.{runLen}
 use Rattle.gap.specs.Gap.{End, clear, broken, gap}
 use Rattle.words.specs.Kinds.{EOF, NumValue, NumTypedValue, ByteStringValue}
-use Rattle.words.specs.Search.{kindOf, markOf, suffixLen}
+use Rattle.words.specs.Search.{kindOf, markOf, later, suffixLen}
 use Rattle.words.specs.Quote.{quoteFrom}
 use Rattle.words.specs.declared.Fit.{Fit}
 use Rattle.words.specs.declared.Quote.{Quote}
@@ -27,22 +27,37 @@ pub data Front : Type 0 where
 unfoldable pub typed : ℕ → ℕ → Front
 typed n v = front (cond (eqb v 0) NumValue NumTypedValue) (n + v)
 
+-- digits: a byte of the class f, and behind it those of the class g; none where the first byte is not of f
+unfoldable pub digitsLen : (ℕ → Bool) → (ℕ → Bool) → List ℕ → ℕ
+digitsLen f g [] = 0
+digitsLen f g (a ∷ s) = cond (f a) (suc (runLen g s)) 0
+
+-- what decimal digits and hex digits go on with: in edition 2 with `_` too; every other number is read as edition 1
+unfoldable pub moreDigits : ℕ → ℕ → Bool
+moreDigits ed x = cond (later ed) (isDigitOrUnderscore x) (isDigit x)
+
+unfoldable pub moreHex : ℕ → ℕ → Bool
+moreHex ed x = cond (later ed) (isHexOrUnderscore x) (isHex x)
+
+unfoldable pub decimalLen : ℕ → List ℕ → ℕ
+decimalLen ed s = digitsLen isDigit (moreDigits ed) s
+
 -- digits, and a type or none
-unfoldable pub decimal : List ℕ → Front
-decimal s = typed (runLen isDigit s) (suffixLen (drop (runLen isDigit s) s))
+unfoldable pub decimal : ℕ → List ℕ → Front
+decimal ed s = typed (decimalLen ed s) (suffixLen ed (drop (decimalLen ed s) s))
 
 -- `0x` and n - 2 hex digits, with a type of v bytes; with neither it is the number 0
 unfoldable pub hexTyped : ℕ → ℕ → Front
 hexTyped n v = cond (eqb (n + v) 2) (front NumValue 1) (typed n v)
 
-unfoldable pub hexLen : List ℕ → ℕ
-hexLen s = 2 + runLen isHex (drop 2 s)
+unfoldable pub hexLen : ℕ → List ℕ → ℕ
+hexLen ed s = 2 + digitsLen isHex (moreHex ed) (drop 2 s)
 
-unfoldable pub hexNumber : List ℕ → Front
-hexNumber s = hexTyped (hexLen s) (suffixLen (drop (hexLen s) s))
+unfoldable pub hexNumber : ℕ → List ℕ → Front
+hexNumber ed s = hexTyped (hexLen ed s) (suffixLen ed (drop (hexLen ed s) s))
 
-unfoldable pub number : List ℕ → Front
-number s = cond (begins (bytes "0x") s) (hexNumber s) (decimal s)
+unfoldable pub number : ℕ → List ℕ → Front
+number ed s = cond (begins (bytes "0x") s) (hexNumber ed s) (decimal ed s)
 
 -- a string by its closing quote, which is at q, or by the end of its line; m is the refusal where there is none, and h the
 -- first byte of 128 or more behind the opening quote
@@ -71,11 +86,11 @@ word s = cond (opensString (getD s 0 0) (getD s 1 0)) (string (stringRefusal (ge
 unfoldable pub mark : Fit → Front
 mark f = cond (eqb (f .len) 0) (fault NoToken 0 0) (front (f .kind) (f .len))
 
--- the token at the front of the bytes
-unfoldable pub findToken : List ℕ → Front
-findToken [] = front EOF 0
-findToken (a ∷ s) =
-    cond (isDigit a) (number (a ∷ s))
+-- the token at the front of the bytes, in an edition
+unfoldable pub findToken : ℕ → List ℕ → Front
+findToken ed [] = front EOF 0
+findToken ed (a ∷ s) =
+    cond (isDigit a) (number ed (a ∷ s))
     (cond (isLetter a) (word (a ∷ s)) (mark (markOf (a ∷ s))))
 
 -- a token with its word and the bytes behind it; or a refusal
@@ -89,10 +104,10 @@ placed p s (front k n) = tok k p (p + n) (take n s) (drop n s)
 placed p s (fault m i j) = bad (refusal m (p + i) (p + j))
 
 -- the token behind a gap
-unfoldable pub behindGap : End → Scanned
-behindGap (clear p s) = placed p s (findToken s)
-behindGap (broken o q) = bad (refusal CommentNotClosed o q)
+unfoldable pub behindGap : ℕ → End → Scanned
+behindGap ed (clear p s) = placed p s (findToken ed s)
+behindGap ed (broken o q) = bad (refusal CommentNotClosed o q)
 
--- the next token of the bytes s, whose first is at p
-unfoldable pub lex : ℕ → List ℕ → Scanned
-lex p s = behindGap (gap 0 p s .last)
+-- the next token of the bytes s, whose first is at p, in an edition
+unfoldable pub lex : ℕ → ℕ → List ℕ → Scanned
+lex ed p s = behindGap ed (gap 0 p s .last)

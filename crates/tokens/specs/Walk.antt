@@ -1,4 +1,4 @@
--- The tokens of a text, from its first byte to EOF or to a refusal.
+-- The tokens of a text in an edition, from its first byte to EOF or to a refusal.
 use Prim.Native.Nat.{ℕ, zero, suc}
 use mathlib.Core.Path.{_≡_}
 use mathlib.Core.Bool.{cond}
@@ -24,20 +24,20 @@ listed (tok k s e w r) go = cond (eqb k EOF) (eof (token k s e)) (next (token k 
 
 -- the tokens from a scanned one on, n of them at most before EOF; where `tokensFrom` asks for them, what stands behind a
 -- token at `zero` is never reached (`walk-ends` in proofs/Walks.antt)
-unfoldable pub walk : ℕ → Scanned → Listed
-walk zero l = listed l (λ e r. eof (token EOF e e))
-walk (suc n) l = listed l (λ e r. walk n (lex e r))
+unfoldable pub walk : ℕ → ℕ → Scanned → Listed
+walk ed zero l = listed l (λ e r. eof (token EOF e e))
+walk ed (suc n) l = listed l (λ e r. walk ed n (lex ed e r))
 
 -- every token but EOF takes a byte, so as many steps as there are bytes are enough
-unfoldable pub tokensFrom : ℕ → List ℕ → Listed
-tokensFrom p s = walk (length s) (lex p s)
+unfoldable pub tokensFrom : ℕ → ℕ → List ℕ → Listed
+tokensFrom ed p s = walk ed (length s) (lex ed p s)
 
--- the tokens of a text from an offset on, with refusals 1 and 2; and from its first byte on
-unfoldable pub tokensAt : List ℕ → ℕ → Listed
-tokensAt text at = admitted refused text at (tokensFrom at (drop at text))
+-- the tokens of a text from an offset on, with refusals 1 and 2; and those of edition 1 from its first byte on
+unfoldable pub tokensAt : ℕ → List ℕ → ℕ → Listed
+tokensAt ed text at = admitted refused text at (tokensFrom ed at (drop at text))
 
 unfoldable pub tokensOf : List ℕ → Listed
-tokensOf text = tokensAt text 0
+tokensOf text = tokensAt 1 text 0
 
 -- how many entries a list has, its last one counted
 unfoldable pub entries : Listed → ℕ

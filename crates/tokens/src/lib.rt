@@ -4,19 +4,21 @@ ghost use Prim.Native.Nat.{_+_, _^_, _<_, _≤_};
 ghost use lib.Dec.{eqb};
 ghost use lib.ListN.{length, getD, drop};
 ghost use mathlib.Core.Bool.{false, _&&_};
-ghost use Rattle.classes.specs.Class.{isSpace};
+ghost use Rattle.classes.specs.Class.{isSpace, inClass};
 ghost use Rattle.classes.specs.Run.{runEnd};
 ghost use Rattle.gap.specs.Gap.{gap, gapEndOf};
 ghost use Rattle.gap.specs.LineFeed.{lineFeed, gapFeed};
 ghost use Rattle.tokens.specs.Answers.{refusal};
 ghost use Rattle.tokens.specs.Token.{opensString, stringRefusal, findToken, decimal, hexNumber, number, string, word, name, mark};
-ghost use Rattle.tokens.specs.Calls.{nextToken, advanced, nextComment};
+ghost use Rattle.tokens.specs.Calls.{nextToken, advanced, noEdition, tokenCall, nextComment};
 ghost use Rattle.tokens.specs.declared.Lexed.the-variants.{Refused};
-ghost use Rattle.tokens.specs.code.Found.{lexedAt, typedAt, flagged};
+ghost use Rattle.tokens.specs.code.Found.{digitsClass, hexClass, begun, digitsEnd, editionRefusal, lexedAt, typedAt, flagged};
 ghost use Rattle.words.specs.Search.{markOf};
 use classes::ASCII;
 use classes::DIGIT;
+use classes::DIGIT_OR_UNDERSCORE;
 use classes::HEX;
+use classes::HEX_OR_UNDERSCORE;
 use classes::NAME;
 use gap::Comment;
 use gap::FirstDoc;
@@ -25,10 +27,12 @@ use gap::GapScan;
 use refusals::BYTE_STRING_NOT_CLOSED;
 use refusals::COMMENT_NOT_CLOSED;
 use refusals::HEX_STRING_NOT_CLOSED;
+use refusals::NO_SUCH_EDITION;
 use refusals::NO_TOKEN;
 use refusals::START_PAST_END;
 use refusals::STRING_NOT_ASCII;
 use refusals::TEXT_TOO_LONG;
+use words::LATER;
 use words::Quote;
 use words::kinds::BYTE_STRING_VALUE;
 use words::kinds::EOF;
@@ -122,13 +126,44 @@ fn typed_at(at: usize, e: usize, n: usize) -> Lexed
     })
 }
 
-// The number `0x` at `at`, with its hex digits and its type (get_hex_number of the Rust).
-fn hex_number_at(text: &[u8], at: usize) -> Lexed
-    requires { ⌜ at + 2 ≤ length (now text) ⌝ }
-    ensures { λ r. ⌜ r ≡ lexedAt at (hexNumber (drop at (now (text .entry)))) ⌝ }
+// What decimal digits go on with: in edition 2 with `_` too.
+fn more_digits(edition: u64) -> u8
+    ensures { λ r. ⌜ r ≡ digitsClass edition ⌝ }
 {
-    let e = classes::run_end(HEX, text, at + 2);
-    let n = words::suffix_len(text, e);
+    if edition == LATER {
+        return DIGIT_OR_UNDERSCORE;
+    }
+    DIGIT
+}
+
+// What hex digits go on with.
+fn more_hex(edition: u64) -> u8
+    ensures { λ r. ⌜ r ≡ hexClass edition ⌝ }
+{
+    if edition == LATER {
+        return HEX_OR_UNDERSCORE;
+    }
+    HEX
+}
+
+// Where the digits from `at` on end, which go on with bytes of the class `more`: at `at` itself where none
+// stands there or the first is `_`.
+fn digits_end(more: u8, text: &[u8], at: usize) -> usize
+    ensures { λ r. ⌜ r ≡ digitsEnd (begun more) (inClass more) (now (text .entry)) at ⌝ }
+{
+    if classes::byte_at(text, at) == b'_' {
+        return at;
+    }
+    classes::run_end(more, text, at)
+}
+
+// The number `0x` at `at`, with its hex digits and its type (get_hex_number of the Rust).
+fn hex_number_at(edition: u64, text: &[u8], at: usize) -> Lexed
+    requires { ⌜ at + 2 ≤ length (now text) ⌝ }
+    ensures { λ r. ⌜ r ≡ lexedAt at (hexNumber edition (drop at (now (text .entry)))) ⌝ }
+{
+    let e = digits_end(more_hex(edition), text, at + 2);
+    let n = words::suffix_len(edition, text, e);
     if e + n == at + 2 {
         return Lexed::Found(Token {
             kind: NUM_VALUE,
@@ -140,12 +175,12 @@ fn hex_number_at(text: &[u8], at: usize) -> Lexed
 }
 
 // The decimal number at `at` (get_decimal_number of the Rust).
-fn decimal_number_at(text: &[u8], at: usize) -> Lexed
+fn decimal_number_at(edition: u64, text: &[u8], at: usize) -> Lexed
     requires { ⌜ at ≤ length (now text) ⌝ }
-    ensures { λ r. ⌜ r ≡ lexedAt at (decimal (drop at (now (text .entry)))) ⌝ }
+    ensures { λ r. ⌜ r ≡ lexedAt at (decimal edition (drop at (now (text .entry)))) ⌝ }
 {
-    let e = classes::run_end(DIGIT, text, at);
-    let n = words::suffix_len(text, e);
+    let e = digits_end(more_digits(edition), text, at);
+    let n = words::suffix_len(edition, text, e);
     typed_at(at, e, n)
 }
 
@@ -160,16 +195,16 @@ fn opens_hex(a: u8, b: u8) -> bool
 }
 
 // The number at `at`, which a digit begins.
-fn number_at(text: &[u8], at: usize) -> Lexed
+fn number_at(edition: u64, text: &[u8], at: usize) -> Lexed
     requires { ⌜ at < length (now text) ⌝ }
-    ensures { λ r. ⌜ r ≡ lexedAt at (number (drop at (now (text .entry)))) ⌝ }
+    ensures { λ r. ⌜ r ≡ lexedAt at (number edition (drop at (now (text .entry)))) ⌝ }
 {
     let a = text[at];
     let b = classes::byte_at(text, at + 1);
     if opens_hex(a, b) {
-        return hex_number_at(text, at);
+        return hex_number_at(edition, text, at);
     }
-    decimal_number_at(text, at)
+    decimal_number_at(edition, text, at)
 }
 
 // The string at `at`, whose opening quote is its second byte; m is the refusal without a closing one.
@@ -263,8 +298,8 @@ fn word_at(text: &[u8], at: usize) -> Lexed
 }
 
 // The token that starts at `at`.
-fn find_token(text: &[u8], at: usize) -> Lexed
-    ensures { λ r. ⌜ r ≡ lexedAt at (findToken (drop at (now (text .entry)))) ⌝ }
+fn find_token(edition: u64, text: &[u8], at: usize) -> Lexed
+    ensures { λ r. ⌜ r ≡ lexedAt at (findToken edition (drop at (now (text .entry)))) ⌝ }
 {
     if text.len() <= at {
         return Lexed::Found(Token {
@@ -278,7 +313,7 @@ fn find_token(text: &[u8], at: usize) -> Lexed
         return word_at(text, at);
     }
     if classes::is_digit(a) {
-        return number_at(text, at);
+        return number_at(edition, text, at);
     }
     mark_at(text, at)
 }
@@ -351,10 +386,9 @@ fn refused_answer(number: u32, start: usize, end: usize) -> Advanced
     }
 }
 
-// The next token from `at` on, and whether LF stands before it (advance of the Rust). The table of
-// classes is made once.
-pub fn advance(text: &[u8], at: usize) -> Advanced
-    ensures { λ r. ⌜ r ≡ advanced (now (text .entry)) at ⌝ }
+// The next token from `at` on, and whether LF stands before it (advance of the Rust).
+pub fn advance(edition: u64, text: &[u8], at: usize) -> Advanced
+    ensures { λ r. ⌜ r ≡ advanced edition (now (text .entry)) at ⌝ }
 {
     if TEXT_LIMIT < text.len() {
         return refused_answer(TEXT_TOO_LONG, 0, 0);
@@ -368,7 +402,7 @@ pub fn advance(text: &[u8], at: usize) -> Advanced
     match e {
         GapEnd::Clear(k) => {
             let feed = gap::either(b.feed, g.feed);
-            let l = find_token(text, k);
+            let l = find_token(edition, text, k);
             with_flag(l, feed)
         }
         GapEnd::Broken(o, q) => refused_answer(COMMENT_NOT_CLOSED, o, q),
@@ -376,22 +410,58 @@ pub fn advance(text: &[u8], at: usize) -> Advanced
 }
 
 // The next token from `at` on.
-pub fn next_token(text: &[u8], at: usize) -> Lexed
-    ensures { λ r. ⌜ r ≡ nextToken (now (text .entry)) at ⌝ }
+pub fn next_token(edition: u64, text: &[u8], at: usize) -> Lexed
+    ensures { λ r. ⌜ r ≡ nextToken edition (now (text .entry)) at ⌝ }
 {
-    let a = advance(text, at);
+    let a = advance(edition, text, at);
     a.lexed
 }
 
-// The first doc comment in the gap from `at` on.
-pub fn next_comment(text: &[u8], at: usize) -> DocComment
-    ensures { λ r. ⌜ r ≡ nextComment (now (text .entry)) at ⌝ }
+// Whether the number is no edition.
+pub fn no_edition(edition: u64) -> bool
+    ensures { λ r. ⌜ r ≡ noEdition edition ⌝ }
+{
+    if edition == 0 {
+        return true;
+    }
+    LATER < edition
+}
+
+// The refusal of a call whose edition is none: 1 and 2 come first.
+fn edition_refusal(text: &[u8], at: usize) -> u32
+    ensures { λ r. ⌜ r ≡ editionRefusal (now (text .entry)) at ⌝ }
+{
+    if TEXT_LIMIT < text.len() {
+        return TEXT_TOO_LONG;
+    }
+    if text.len() < at {
+        return START_PAST_END;
+    }
+    NO_SUCH_EDITION
+}
+
+// The token call: the edition is tested here, and not at each token that a reader asks for.
+pub fn token_call(edition: u64, text: &[u8], at: usize) -> Advanced
+    ensures { λ r. ⌜ r ≡ tokenCall edition (now (text .entry)) at ⌝ }
+{
+    if no_edition(edition) {
+        return refused_answer(edition_refusal(text, at), 0, 0);
+    }
+    advance(edition, text, at)
+}
+
+// The comment call: the first doc comment in the gap from `at` on.
+pub fn next_comment(edition: u64, text: &[u8], at: usize) -> DocComment
+    ensures { λ r. ⌜ r ≡ nextComment edition (now (text .entry)) at ⌝ }
 {
     if TEXT_LIMIT < text.len() {
         return DocComment::Broken(refuse(TEXT_TOO_LONG, 0, 0));
     }
     if text.len() < at {
         return DocComment::Broken(refuse(START_PAST_END, 0, 0));
+    }
+    if no_edition(edition) {
+        return DocComment::Broken(refuse(NO_SUCH_EDITION, 0, 0));
     }
     let d = gap::first_doc(text, at);
     match d {

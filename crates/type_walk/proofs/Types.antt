@@ -93,125 +93,125 @@ module _ (f : ℕ) (empty : Bool) (l : List ℕ) (s b r : Spot) where
   pub angled-both : (k m : List ℕ) → empty ≡ false → Placed l b (markIn f (bytes ">")) r k → m ≡ sets k (s .pos) (markIn f (bytes "<")) → Angled f empty l s b r m
   angled-both k m h y e = rw h (record { ends = y .ends; holds = e ∙ ap (λ (x : List ℕ). sets x (s .pos) (markIn f (bytes "<"))) (y .holds) })
 
-module _ (f : ℕ) (text : List ℕ) (item : Reader) (a : Answer) (s : Spot) (l : List ℕ) where
+module _ (f ed : ℕ) (text : List ℕ) (item : Reader) (a : Answer) (s : Spot) (l : List ℕ) where
   abbrev Is : Ans Tree → Parsed → List ℕ → Type 0
-  Is x r m = Reads f text (Fits text a) x (a .end) s l r m
+  Is x r m = Reads f ed text (Fits text a) x (a .end) s l r m
 
   -- brackets
-  module _ (p : Spot) (m₁ m₂ : List ℕ) (t : Listed) (w : ReadsAll f text (Fits text a) (listBehind item RParen (held text a)) (a .end) p m₁ t m₂) where
+  module _ (p : Spot) (m₁ m₂ : List ℕ) (t : Listed) (w : ReadsAll f ed text (Fits text a) (listBehind item RParen (held ed text a)) (a .end) p m₁ t m₂) where
     abbrev types : Ans Trees
-    types = listBehind item RParen (held text a)
+    types = listBehind item RParen (held ed text a)
 
-    pub brackets-refused : (r : Refusal) → t ≡ Broken r → Is (brackets item (held text a)) (Refused r) m₂
+    pub brackets-refused : (r : Refusal) → t ≡ Broken r → Is (brackets item (held ed text a)) (Refused r) m₂
     unfolding brackets
     brackets-refused r e =
-        reads-refused f text (Fits text a) (brackets item (held text a)) (a .end) s l m₂ r
-        (λ fit. refuses-ok types r (λ xs u. bracketed (held text a) u xs) (all-not f text (Fits text a) types (a .end) p m₁ m₂ t w r e fit))
+        reads-refused f ed text (Fits text a) (brackets item (held ed text a)) (a .end) s l m₂ r
+        (λ fit. refuses-ok types r (λ xs u. bracketed (held ed text a) u xs) (all-not f ed text (Fits text a) types (a .end) p m₁ m₂ t w r e fit))
 
     module _ (n : Items) (e : t ≡ All n) (h : length l ≤ last) (i : Spot) (g : i ≡ inside f s) (y : Placed l i (markIn f (bytes "(")) p m₁) where
       pub brackets-read : (to : Spot) (m₃ m : List ℕ) (k : ℕ) → Placed m₂ (n .to) (markIn f (bytes ")")) to m₃ → k ≡ bracketsKind (n .count) → m ≡ sealed f k (a .start) (n .end) s to m₃
-          → Is (brackets item (held text a)) (Read (record { to = to; end = n .end; next = n .next })) m
+          → Is (brackets item (held ed text a)) (Read (record { to = to; end = n .end; next = n .next })) m
       unfolding brackets then
       brackets-read to m₃ m k v c d =
-          let goes = all-goes f text (Fits text a) types (a .end) p m₁ m₂ t w n e in
-          reads-built f text (Fits text a) (brackets item (held text a)) (a .end) s l m (record { to = to; end = n .end; next = n .next }) built (goes .0) (goes .1)
+          let goes = all-goes f ed text (Fits text a) types (a .end) p m₁ m₂ t w n e in
+          reads-built f ed text (Fits text a) (brackets item (held ed text a)) (a .end) s l m (record { to = to; end = n .end; next = n .next }) built (goes .0) (goes .1)
         where
-          built : Fits text a → Had f text (brackets item (held text a)) s l (record { to = to; end = n .end; next = n .next }) m
+          built : Fits text a → Had f ed text (brackets item (held ed text a)) s l (record { to = to; end = n .end; next = n .next }) m
           built fit =
-              let z = all-had f text (Fits text a) types (a .end) p m₁ m₂ t w n e fit in
-              let what = bracketed (held text a) (opened text (n .end)) (z .what) in
+              let z = all-had f ed text (Fits text a) types (a .end) p m₁ m₂ t w n e fit in
+              let what = bracketed (held ed text a) (opened ed text (n .end)) (z .what) in
               let same = ap (λ (x : ℕ). headed f x (a .start) (n .end) (markIn f (bytes "(") ++ (laidItems f (z .what) ++ markIn f (bytes ")")))) (c ∙ ap bracketsKind (z .counts)) in
               record {
                 what = what;
-                is = ap (λ (x : Ans Trees). then x (λ xs u. ok (bracketed (held text a) u xs) u)) (z .is);
+                is = ap (λ (x : Ans Trees). then x (λ xs u. ok (bracketed (held ed text a) u xs) u)) (z .is);
                 bytes =
-                    placed-as l m _ (laid f what) s to (same ∙ sym (bracketed-laid f (held text a) (opened text (n .end)) (z .what)))
+                    placed-as l m _ (laid f what) s to (same ∙ sym (bracketed-laid f (held ed text a) (opened ed text (n .end)) (z .what)))
                     (placed-parted f k (a .start) (n .end) l m₁ m₂ m₃ m (markIn f (bytes "(")) (laidItems f (z .what)) (markIn f (bytes ")")) s i p (n .to) to h g y (z .bytes) v d);
               }
 
   -- references
   module _ (b : Bool) where
     abbrev refer : Ans Tree
-    refer = reference item (cond b RecRefMut RecRef) (held text a)
+    refer = reference item (cond b RecRefMut RecRef) (held ed text a)
 
-    pub reference-bad : (m : List ℕ) (r : Refusal) → nextToken text (a .end) ≡ Bad r → Is refer (Refused r) m
+    pub reference-bad : (m : List ℕ) (r : Refusal) → nextToken ed text (a .end) ≡ Bad r → Is refer (Refused r) m
     unfolding reference
-    reference-bad m r h = reads-no f text (Fits text a) refer (a .end) s l m r (λ fit. look-refused text a fit _ r h)
+    reference-bad m r h = reads-no f ed text (Fits text a) refer (a .end) s l m r (λ fit. look-refused ed text a fit _ r h)
 
-    module _ (c : Answer) (h : nextToken text (a .end) ≡ Found c) (q : Spot) (m₁ m₂ : List ℕ) (t : Parsed) (w : Reads f text (Fits text c) (item (held text c)) (c .end) q m₁ t m₂) where
-      abbrev next : Next text (a .end) c
-      next = next-found text (a .end) c h
+    module _ (c : Answer) (h : nextToken ed text (a .end) ≡ Found c) (q : Spot) (m₁ m₂ : List ℕ) (t : Parsed) (w : Reads f ed text (Fits text c) (item (held ed text c)) (c .end) q m₁ t m₂) where
+      abbrev next : Next ed text (a .end) c
+      next = next-found ed text (a .end) c h
 
-      refer-is : Fits text a → refer ≡ then (item (held text c)) (λ x u. ok (spanned (cond b RecRefMut RecRef) (held text a) u (more x none)) u)
+      refer-is : Fits text a → refer ≡ then (item (held ed text c)) (λ x u. ok (spanned (cond b RecRefMut RecRef) (held ed text a) u (more x none)) u)
       unfolding reference
-      refer-is fit = look-found text a fit _ c h
+      refer-is fit = look-found ed text a fit _ c h
 
       pub reference-refused : (r : Refusal) → t ≡ Refused r → Is refer (Refused r) m₂
       reference-refused r e =
-          reads-refused f text (Fits text a) refer (a .end) s l m₂ r
+          reads-refused f ed text (Fits text a) refer (a .end) s l m₂ r
           (λ fit. subst (λ (x : Ans Tree). Refuses x r) (sym (refer-is fit))
-          (refuses-ok (item (held text c)) r (λ x u. spanned (cond b RecRefMut RecRef) (held text a) u (more x none)) (reads-not f text (Fits text c) (item (held text c)) (c .end) q m₁ m₂ t w r e (next .fits))))
+          (refuses-ok (item (held ed text c)) r (λ x u. spanned (cond b RecRefMut RecRef) (held ed text a) u (more x none)) (reads-not f ed text (Fits text c) (item (held ed text c)) (c .end) q m₁ m₂ t w r e (next .fits))))
 
       pub reference-read : (p : Part) → t ≡ Read p → length l ≤ last → (i : Spot) → i ≡ inside f s → Placed l i (markIn f (cond b (bytes "&mut ") (bytes "& "))) q m₁ → (m : List ℕ) (k : ℕ) → k ≡ cond b RecRefMut RecRef
           → m ≡ sealed f k (a .start) (p .end) s (p .to) m₂ → Is refer (Read p) m
       unfolding then
       reference-read p e g i z y m k c₁ d =
-          let v = reads-had f text (Fits text c) (item (held text c)) (c .end) q m₁ m₂ t w p e (next .fits) in
-          let goes = reads-goes f text (Fits text c) (item (held text c)) (c .end) q m₁ m₂ t w p e in
+          let v = reads-had f ed text (Fits text c) (item (held ed text c)) (c .end) q m₁ m₂ t w p e (next .fits) in
+          let goes = reads-goes f ed text (Fits text c) (item (held ed text c)) (c .end) q m₁ m₂ t w p e in
           let marks = markIn f (cond b (bytes "&mut ") (bytes "& ")) in
           let what = node (cond b RecRefMut RecRef) (a .start) (p .end) (more (v .what) none) in
           let body = placed-both l m₁ m₂ marks (laid f (v .what)) i q (p .to) g y (v .bytes) in
           let all = placed-headed f k (a .start) (p .end) l m₂ m (marks ++ laid f (v .what)) s (p .to) g (subst (λ (x : Spot). Placed l x (marks ++ laid f (v .what)) (p .to) m₂) z body) d in
-          reads-built f text (Fits text a) refer (a .end) s l m p
+          reads-built f ed text (Fits text a) refer (a .end) s l m p
           (λ fit. record {
             what = what;
-            is = refer-is fit ∙ ap (λ (x : Ans Tree). then x (λ x u. ok (spanned (cond b RecRefMut RecRef) (held text a) u (more x none)) u)) (v .is);
+            is = refer-is fit ∙ ap (λ (x : Ans Tree). then x (λ x u. ok (spanned (cond b RecRefMut RecRef) (held ed text a) u (more x none)) u)) (v .is);
             bytes = placed-as l m _ (laid f what) s (p .to) (ap (λ (x : ℕ). headed f x (a .start) (p .end) (marks ++ laid f (v .what))) c₁ ∙ sym (reference-laid f b (a .start) (p .end) (v .what))) all;
           })
           (omega (arith, next .from, next .fits .1, goes .0)) (goes .1)
 
   -- functions
-  module _ (p : Spot) (m₁ m₂ : List ℕ) (t : Listed) (w : ReadsAll f text (Fits text a) (listBehind item Pipe (held text a)) (a .end) p m₁ t m₂) where
+  module _ (p : Spot) (m₁ m₂ : List ℕ) (t : Listed) (w : ReadsAll f ed text (Fits text a) (listBehind item Pipe (held ed text a)) (a .end) p m₁ t m₂) where
     abbrev arguments : Ans Trees
-    arguments = listBehind item Pipe (held text a)
+    arguments = listBehind item Pipe (held ed text a)
 
     abbrev result : Trees → Tree → Source → Ans Tree
-    result xs x u = ok (spanned RecFunction (held text a) u (behind xs x)) u
+    result xs x u = ok (spanned RecFunction (held ed text a) u (behind xs x)) u
 
-    pub function-refused : (r : Refusal) → t ≡ Broken r → Is (function item (held text a)) (Refused r) m₂
+    pub function-refused : (r : Refusal) → t ≡ Broken r → Is (function item (held ed text a)) (Refused r) m₂
     unfolding function
     function-refused r e =
-        reads-no f text (Fits text a) (function item (held text a)) (a .end) s l m₂ r
-        (λ fit. refuses-look arguments r _ (all-not f text (Fits text a) arguments (a .end) p m₁ m₂ t w r e fit))
+        reads-no f ed text (Fits text a) (function item (held ed text a)) (a .end) s l m₂ r
+        (λ fit. refuses-look arguments r _ (all-not f ed text (Fits text a) arguments (a .end) p m₁ m₂ t w r e fit))
 
-    module _ (n : Items) (e : t ≡ All n) (d : Spot) (m₄ m₅ : List ℕ) (x : Parsed) (v : Reads f text (Fits text (n .next)) (item (held text (n .next))) (n .next .end) d m₄ x m₅) where
-      abbrev goes : (a .end ≤ n .end) × (nextToken text (n .end) ≡ Found (n .next))
-      goes = all-goes f text (Fits text a) arguments (a .end) p m₁ m₂ t w n e
+    module _ (n : Items) (e : t ≡ All n) (d : Spot) (m₄ m₅ : List ℕ) (x : Parsed) (v : Reads f ed text (Fits text (n .next)) (item (held ed text (n .next))) (n .next .end) d m₄ x m₅) where
+      abbrev goes : (a .end ≤ n .end) × (nextToken ed text (n .end) ≡ Found (n .next))
+      goes = all-goes f ed text (Fits text a) arguments (a .end) p m₁ m₂ t w n e
 
-      abbrev next-one : Next text (n .end) (n .next)
-      next-one = next-found text (n .end) (n .next) (goes .1)
+      abbrev next-one : Next ed text (n .end) (n .next)
+      next-one = next-found ed text (n .end) (n .next) (goes .1)
 
-      abbrev had-all : Fits text a → HadAll f text arguments p m₁ n m₂
-      had-all fit = all-had f text (Fits text a) arguments (a .end) p m₁ m₂ t w n e fit
+      abbrev had-all : Fits text a → HadAll f ed text arguments p m₁ n m₂
+      had-all fit = all-had f ed text (Fits text a) arguments (a .end) p m₁ m₂ t w n e fit
 
-      function-is : (fit : Fits text a) → function item (held text a) ≡ then (item (held text (n .next))) (result (had-all fit .what))
-      function-is fit = function-of item (held text a) (had-all fit .what) (opened text (n .end)) (held text (n .next)) (had-all fit .is) (next-one .is)
+      function-is : (fit : Fits text a) → function item (held ed text a) ≡ then (item (held ed text (n .next))) (result (had-all fit .what))
+      function-is fit = function-of item (held ed text a) (had-all fit .what) (opened ed text (n .end)) (held ed text (n .next)) (had-all fit .is) (next-one .is)
 
-      pub result-refused : (r : Refusal) → x ≡ Refused r → Is (function item (held text a)) (Refused r) m₅
+      pub result-refused : (r : Refusal) → x ≡ Refused r → Is (function item (held ed text a)) (Refused r) m₅
       result-refused r z =
-          reads-refused f text (Fits text a) (function item (held text a)) (a .end) s l m₅ r
+          reads-refused f ed text (Fits text a) (function item (held ed text a)) (a .end) s l m₅ r
           (λ fit. subst (λ (y : Ans Tree). Refuses y r) (sym (function-is fit))
-          (refuses-ok (item (held text (n .next))) r (λ y u. spanned RecFunction (held text a) u (behind (had-all fit .what) y))
-          (reads-not f text (Fits text (n .next)) (item (held text (n .next))) (n .next .end) d m₄ m₅ x v r z (next-one .fits))))
+          (refuses-ok (item (held ed text (n .next))) r (λ y u. spanned RecFunction (held ed text a) u (behind (had-all fit .what) y))
+          (reads-not f ed text (Fits text (n .next)) (item (held ed text (n .next))) (n .next .end) d m₄ m₅ x v r z (next-one .fits))))
 
       pub function-read : (y : Part) → x ≡ Read y → length l ≤ last → (i c : Spot) (m₃ : List ℕ) → i ≡ inside f s → Placed l i (markIn f (bytes "|")) p m₁
           → Placed m₂ (n .to) (markIn f (cond (eqb (n .count) 0) (bytes " |") (bytes "|"))) c m₃ → Placed m₃ c (markIn f (bytes " ")) d m₄ → (m : List ℕ) → m ≡ sealed f RecFunction (a .start) (y .end) s (y .to) m₅
-          → Is (function item (held text a)) (Read y) m
+          → Is (function item (held ed text a)) (Read y) m
       unfolding then
       function-read y z h i c m₃ g bar close blank m seal =
-          let had = reads-had f text (Fits text (n .next)) (item (held text (n .next))) (n .next .end) d m₄ m₅ x v y z (next-one .fits) in
-          let on = reads-goes f text (Fits text (n .next)) (item (held text (n .next))) (n .next .end) d m₄ m₅ x v y z in
-          reads-built f text (Fits text a) (function item (held text a)) (a .end) s l m y
+          let had = reads-had f ed text (Fits text (n .next)) (item (held ed text (n .next))) (n .next .end) d m₄ m₅ x v y z (next-one .fits) in
+          let on = reads-goes f ed text (Fits text (n .next)) (item (held ed text (n .next))) (n .next .end) d m₄ m₅ x v y z in
+          reads-built f ed text (Fits text a) (function item (held ed text a)) (a .end) s l m y
           (λ fit.
           let all = had-all fit in
           let end = markIn f (cond (eqb (n .count) 0) (bytes " |") (bytes "|")) in
@@ -230,34 +230,34 @@ module _ (f : ℕ) (text : List ℕ) (item : Reader) (a : Answer) (s : Spot) (l 
           (omega (arith, goes .0, next-one .from, next-one .fits .1, on .0)) (on .1)
 
   -- names
-  module _ (i : Spot) (m₁ : List ℕ) (t : Parsed) (w : Reads f text (Fits text a) (chain (held text a)) (a .end) i l t m₁) where
-    pub named-refused : (r : Refusal) → t ≡ Refused r → Is (named item (held text a)) (Refused r) m₁
+  module _ (i : Spot) (m₁ : List ℕ) (t : Parsed) (w : Reads f ed text (Fits text a) (chain (held ed text a)) (a .end) i l t m₁) where
+    pub named-refused : (r : Refusal) → t ≡ Refused r → Is (named item (held ed text a)) (Refused r) m₁
     unfolding named withArguments
     named-refused r e =
-        reads-no f text (Fits text a) (named item (held text a)) (a .end) s l m₁ r
-        (λ fit. refuses-look (chain (held text a)) r _ (reads-not f text (Fits text a) (chain (held text a)) (a .end) i l m₁ t w r e fit))
+        reads-no f ed text (Fits text a) (named item (held ed text a)) (a .end) s l m₁ r
+        (λ fit. refuses-look (chain (held ed text a)) r _ (reads-not f ed text (Fits text a) (chain (held ed text a)) (a .end) i l m₁ t w r e fit))
 
     module _ (p : Part) (e : t ≡ Read p) where
-      abbrev on : (a .end ≤ p .end) × (nextToken text (p .end) ≡ Found (p .next))
-      on = reads-goes f text (Fits text a) (chain (held text a)) (a .end) i l m₁ t w p e
+      abbrev on : (a .end ≤ p .end) × (nextToken ed text (p .end) ≡ Found (p .next))
+      on = reads-goes f ed text (Fits text a) (chain (held ed text a)) (a .end) i l m₁ t w p e
 
-      abbrev after-name : Next text (p .end) (p .next)
-      after-name = next-found text (p .end) (p .next) (on .1)
+      abbrev after-name : Next ed text (p .end) (p .next)
+      after-name = next-found ed text (p .end) (p .next) (on .1)
 
-      abbrev name : Fits text a → Had f text (chain (held text a)) i l p m₁
-      name fit = reads-had f text (Fits text a) (chain (held text a)) (a .end) i l m₁ t w p e fit
+      abbrev name : Fits text a → Had f ed text (chain (held ed text a)) i l p m₁
+      name fit = reads-had f ed text (Fits text a) (chain (held ed text a)) (a .end) i l m₁ t w p e fit
 
       abbrev argued : Ans Trees
-      argued = listBehind item Greater (held text (p .next))
+      argued = listBehind item Greater (held ed text (p .next))
 
-      named-is : (fit : Fits text a) → named item (held text a)
-          ≡ when (eqb (p .next .kind) Less) (λ _. then argued λ xs v. ok (spanned RecType (held text a) v (more (name fit .what) xs)) v) (λ _. ok (spanned RecType (held text a) (opened text (p .end)) (more (name fit .what) none)) (opened text (p .end)))
-      named-is fit = named-of item (held text a) (name fit .what) (opened text (p .end)) (held text (p .next)) (name fit .is) (after-name .is)
+      named-is : (fit : Fits text a) → named item (held ed text a)
+          ≡ when (eqb (p .next .kind) Less) (λ _. then argued λ xs v. ok (spanned RecType (held ed text a) v (more (name fit .what) xs)) v) (λ _. ok (spanned RecType (held ed text a) (opened ed text (p .end)) (more (name fit .what) none)) (opened ed text (p .end)))
+      named-is fit = named-of item (held ed text a) (name fit .what) (opened ed text (p .end)) (held ed text (p .next)) (name fit .is) (after-name .is)
 
-      pub named-alone : (p .next .kind ≡ Less → ⊥) → length l ≤ last → i ≡ inside f s → (m : List ℕ) → m ≡ sealed f RecType (a .start) (p .end) s (p .to) m₁ → Is (named item (held text a)) (Read p) m
+      pub named-alone : (p .next .kind ≡ Less → ⊥) → length l ≤ last → i ≡ inside f s → (m : List ℕ) → m ≡ sealed f RecType (a .start) (p .end) s (p .to) m₁ → Is (named item (held ed text a)) (Read p) m
       unfolding inAngles
       named-alone k h g m d =
-          reads-built f text (Fits text a) (named item (held text a)) (a .end) s l m p
+          reads-built f ed text (Fits text a) (named item (held ed text a)) (a .end) s l m p
           (λ fit.
           let c = name fit in
           let what = node RecType (a .start) (p .end) (more (c .what) none) in
@@ -270,23 +270,23 @@ module _ (f : ℕ) (text : List ℕ) (item : Reader) (a : Answer) (s : Spot) (l 
           })
           (on .0) (on .1)
 
-      module _ (k : p .next .kind ≡ Less) (j : Spot) (m₂ : List ℕ) (x : Listed) (v : ReadsAll f text (Fits text (p .next)) argued (p .next .end) j m₁ x m₂) where
-        argued-is : (fit : Fits text a) → named item (held text a) ≡ then argued (λ xs u. ok (spanned RecType (held text a) u (more (name fit .what) xs)) u)
+      module _ (k : p .next .kind ≡ Less) (j : Spot) (m₂ : List ℕ) (x : Listed) (v : ReadsAll f ed text (Fits text (p .next)) argued (p .next .end) j m₁ x m₂) where
+        argued-is : (fit : Fits text a) → named item (held ed text a) ≡ then argued (λ xs u. ok (spanned RecType (held ed text a) u (more (name fit .what) xs)) u)
         argued-is fit = named-is fit ∙ when-true (eqb (p .next .kind) Less) _ _ (eq-eqb (p .next .kind) Less k)
 
-        pub arguments-refused : (r : Refusal) → x ≡ Broken r → Is (named item (held text a)) (Refused r) m₂
+        pub arguments-refused : (r : Refusal) → x ≡ Broken r → Is (named item (held ed text a)) (Refused r) m₂
         arguments-refused r z =
-            reads-refused f text (Fits text a) (named item (held text a)) (a .end) s l m₂ r
+            reads-refused f ed text (Fits text a) (named item (held ed text a)) (a .end) s l m₂ r
             (λ fit. subst (λ (y : Ans Tree). Refuses y r) (sym (argued-is fit))
-            (refuses-ok argued r (λ xs u. spanned RecType (held text a) u (more (name fit .what) xs)) (all-not f text (Fits text (p .next)) argued (p .next .end) j m₁ m₂ x v r z (after-name .fits))))
+            (refuses-ok argued r (λ xs u. spanned RecType (held ed text a) u (more (name fit .what) xs)) (all-not f ed text (Fits text (p .next)) argued (p .next .end) j m₁ m₂ x v r z (after-name .fits))))
 
         pub named-read : (n : Items) → x ≡ All n → length l ≤ last → i ≡ inside f s → j ≡ movedBy (p .to) (length (markIn f (bytes "<"))) → (to : Spot) (m₃ m : List ℕ) → Angled f (eqb (n .count) 0) m₂ (p .to) (n .to) to m₃
-            → m ≡ sealed f RecType (a .start) (n .end) s to m₃ → Is (named item (held text a)) (Read (record { to = to; end = n .end; next = n .next })) m
+            → m ≡ sealed f RecType (a .start) (n .end) s to m₃ → Is (named item (held ed text a)) (Read (record { to = to; end = n .end; next = n .next })) m
         unfolding then
         named-read n z h g q to m₃ m y d =
-            let all = all-had f text (Fits text (p .next)) argued (p .next .end) j m₁ m₂ x v n z (after-name .fits) in
-            let goes = all-goes f text (Fits text (p .next)) argued (p .next .end) j m₁ m₂ x v n z in
-            reads-built f text (Fits text a) (named item (held text a)) (a .end) s l m (record { to = to; end = n .end; next = n .next })
+            let all = all-had f ed text (Fits text (p .next)) argued (p .next .end) j m₁ m₂ x v n z (after-name .fits) in
+            let goes = all-goes f ed text (Fits text (p .next)) argued (p .next .end) j m₁ m₂ x v n z in
+            reads-built f ed text (Fits text a) (named item (held ed text a)) (a .end) s l m (record { to = to; end = n .end; next = n .next })
             (λ fit.
             let c = name fit in
             let what = node RecType (a .start) (n .end) (more (c .what) (all .what)) in
@@ -295,7 +295,7 @@ module _ (f : ℕ) (text : List ℕ) (item : Reader) (a : Answer) (s : Spot) (l 
             let body = placed-both l m₁ m₃ (laid f (c .what)) (inAngles f (all .what)) i (p .to) to h (c .bytes) angles in
             record {
               what = what;
-              is = argued-is fit ∙ ap (λ (b : Ans Trees). then b (λ xs u. ok (spanned RecType (held text a) u (more (c .what) xs)) u)) (all .is);
+              is = argued-is fit ∙ ap (λ (b : Ans Trees). then b (λ xs u. ok (spanned RecType (held ed text a) u (more (c .what) xs)) u)) (all .is);
               bytes =
                   placed-as l m _ (laid f what) s to (sym (laid-type f (a .start) (n .end) (c .what) (all .what)))
                   (placed-headed f RecType (a .start) (n .end) l m₃ m (laid f (c .what) ++ inAngles f (all .what)) s to h (subst (λ (b : Spot). Placed l b (laid f (c .what) ++ inAngles f (all .what)) to m₃) g body) d);
@@ -376,59 +376,59 @@ begins-kind a P x y e = go (eqb (a .kind) Identifier) refl
 pub begins-some : (a : Answer) → begins a ≡ true → 0 < a .kind
 begins-some a e = begins-kind a (λ k. 0 < k) (omega arith) (omega arith) e
 
-module _ (f : ℕ) (text : List ℕ) (item : Reader) (a : Answer) (s : Spot) (l m : List ℕ) (r : Parsed) where
+module _ (f ed : ℕ) (text : List ℕ) (item : Reader) (a : Answer) (s : Spot) (l m : List ℕ) (r : Parsed) where
   abbrev Whole : Ans Tree → Type 0
-  Whole x = Reads f text (Fits text a) x (a .end) s l r m
+  Whole x = Reads f ed text (Fits text a) x (a .end) s l r m
 
-  over-as : (x : Ans Tree) → typeOver item (held text a) ≡ x → Whole x → Whole (typeOver item (held text a))
-  over-as x e d = reads-as f text (Fits text a) (Fits text a) (typeOver item (held text a)) x (a .end) (a .end) s l m r (omega arith) (λ fit. fit) (λ fit. e) d
+  over-as : (x : Ans Tree) → typeOver item (held ed text a) ≡ x → Whole x → Whole (typeOver item (held ed text a))
+  over-as x e d = reads-as f ed text (Fits text a) (Fits text a) (typeOver item (held ed text a)) x (a .end) (a .end) s l m r (omega arith) (λ fit. fit) (λ fit. e) d
 
-  pub marked-brackets : a .kind ≡ LParen → Whole (brackets item (held text a)) → Whole (typeOver item (held text a))
-  marked-brackets e d = over-as (brackets item (held text a)) (over-brackets item (held text a) e) d
+  pub marked-brackets : a .kind ≡ LParen → Whole (brackets item (held ed text a)) → Whole (typeOver item (held ed text a))
+  marked-brackets e d = over-as (brackets item (held ed text a)) (over-brackets item (held ed text a) e) d
 
   module _ (k₁ : (a .kind ≡ LParen → ⊥)) where
     pub marked-reference : (x : Bool) → x ≡ (eqb (a .kind) Amp || eqb (a .kind) AmpMut) → x ≡ true
-        → Whole (reference item (cond (eqb (a .kind) AmpMut) RecRefMut RecRef) (held text a)) → Whole (typeOver item (held text a))
+        → Whole (reference item (cond (eqb (a .kind) AmpMut) RecRefMut RecRef) (held ed text a)) → Whole (typeOver item (held ed text a))
     marked-reference x r e d =
-        over-as (reference item (cond (eqb (a .kind) AmpMut) RecRefMut RecRef) (held text a)) (over-reference item (held text a) k₁ (sym r ∙ e)) d
+        over-as (reference item (cond (eqb (a .kind) AmpMut) RecRefMut RecRef) (held ed text a)) (over-reference item (held ed text a) k₁ (sym r ∙ e)) d
 
     module _ (k₂ : (a .kind ≡ Amp → ⊥)) (k₃ : (a .kind ≡ AmpMut → ⊥)) where
-      pub marked-function : a .kind ≡ Pipe → Whole (function item (held text a)) → Whole (typeOver item (held text a))
-      marked-function e d = over-as (function item (held text a)) (over-function item (held text a) k₁ k₂ k₃ e) d
+      pub marked-function : a .kind ≡ Pipe → Whole (function item (held ed text a)) → Whole (typeOver item (held ed text a))
+      marked-function e d = over-as (function item (held ed text a)) (over-function item (held ed text a) k₁ k₂ k₃ e) d
 
-      pub marked-other : (a .kind ≡ Pipe → ⊥) → begins a ≡ false → r ≡ refusedToken UnexpectedToken a → Whole (typeOver item (held text a))
+      pub marked-other : (a .kind ≡ Pipe → ⊥) → begins a ≡ false → r ≡ refusedToken UnexpectedToken a → Whole (typeOver item (held ed text a))
       marked-other e b d =
-          over-as (named item (held text a)) (over-named item (held text a) k₁ k₂ k₃ e)
-          (subst (λ (y : Parsed). Reads f text (Fits text a) (named item (held text a)) (a .end) s l y m) (sym d)
-          (named-refused f text item a s l s m r (chain-other f text s l m a (begins a) r refl b d) _ d))
+          over-as (named item (held ed text a)) (over-named item (held ed text a) k₁ k₂ k₃ e)
+          (subst (λ (y : Parsed). Reads f ed text (Fits text a) (named item (held ed text a)) (a .end) s l y m) (sym d)
+          (named-refused f ed text item a s l s m r (chain-other f ed text s l m a (begins a) r refl b d) _ d))
 
   -- a name begins it
   module _ (b : begins a ≡ true) where
-    pub begun-named : Whole (named item (held text a)) → Whole (typeOver item (held text a))
+    pub begun-named : Whole (named item (held ed text a)) → Whole (typeOver item (held ed text a))
     begun-named d =
-        over-as (named item (held text a))
-        (begins-kind a (λ k. (k ≡ a .kind → typeOver item (held text a) ≡ named item (held text a)))
-        (λ q. over-named item (held text a) (λ w. absurd (omega (arith, q, w))) (λ w. absurd (omega (arith, q, w))) (λ w. absurd (omega (arith, q, w))) (λ w. absurd (omega (arith, q, w))))
-        (λ q. over-named item (held text a) (λ w. absurd (omega (arith, q, w))) (λ w. absurd (omega (arith, q, w))) (λ w. absurd (omega (arith, q, w))) (λ w. absurd (omega (arith, q, w))))
+        over-as (named item (held ed text a))
+        (begins-kind a (λ k. (k ≡ a .kind → typeOver item (held ed text a) ≡ named item (held ed text a)))
+        (λ q. over-named item (held ed text a) (λ w. absurd (omega (arith, q, w))) (λ w. absurd (omega (arith, q, w))) (λ w. absurd (omega (arith, q, w))) (λ w. absurd (omega (arith, q, w))))
+        (λ q. over-named item (held ed text a) (λ w. absurd (omega (arith, q, w))) (λ w. absurd (omega (arith, q, w))) (λ w. absurd (omega (arith, q, w))) (λ w. absurd (omega (arith, q, w))))
         b refl) d
 
-pub begun-bad : (f : ℕ) (text : List ℕ) (item : Reader) (a : Answer) (s : Spot) (l m : List ℕ) (r : Refusal) → begins a ≡ true → nextToken text (a .end) ≡ Bad r
-    → Reads f text (Fits text a) (typeOver item (held text a)) (a .end) s l (Refused r) m
-begun-bad f text item a s l m r b h =
-    begun-named f text item a s l m (Refused r) b (named-refused f text item a s l s m (Refused r) (chain-bad f text s l m a (begins a) refl b r h) r refl)
+pub begun-bad : (f ed : ℕ) (text : List ℕ) (item : Reader) (a : Answer) (s : Spot) (l m : List ℕ) (r : Refusal) → begins a ≡ true → nextToken ed text (a .end) ≡ Bad r
+    → Reads f ed text (Fits text a) (typeOver item (held ed text a)) (a .end) s l (Refused r) m
+begun-bad f ed text item a s l m r b h =
+    begun-named f ed text item a s l m (Refused r) b (named-refused f ed text item a s l s m (Refused r) (chain-bad f ed text s l m a (begins a) refl b r h) r refl)
 
-module _ (f : ℕ) (text : List ℕ) (left : ℕ) (a : Answer) (s : Spot) (l m : List ℕ) (r : Parsed) where
+module _ (f ed : ℕ) (text : List ℕ) (left : ℕ) (a : Answer) (s : Spot) (l m : List ℕ) (r : Parsed) where
   abbrev Levelled : Ans Tree → Type 0
-  Levelled x = Reads f text (Fits text a) x (a .end) s l r m
+  Levelled x = Reads f ed text (Fits text a) x (a .end) s l r m
 
-  pub type-deep : left ≡ 0 → r ≡ refusedToken TooDeep a → Levelled (readType left (held text a))
+  pub type-deep : left ≡ 0 → r ≡ refusedToken TooDeep a → Levelled (readType left (held ed text a))
   unfolding readType
   type-deep h e =
-      subst (λ (y : Parsed). Reads f text (Fits text a) (readType left (held text a)) (a .end) s l y m) (sym e)
-      (reads-no f text (Fits text a) (readType left (held text a)) (a .end) s l m (refusal TooDeep (a .start) (a .end)) (λ fit. rw h (ap no (token-refused text TooDeep a fit))))
+      subst (λ (y : Parsed). Reads f ed text (Fits text a) (readType left (held ed text a)) (a .end) s l y m) (sym e)
+      (reads-no f ed text (Fits text a) (readType left (held ed text a)) (a .end) s l m (refusal TooDeep (a .start) (a .end)) (λ fit. rw h (ap no (token-refused ed text TooDeep a fit))))
 
-  pub type-over : 0 < left → Levelled (typeOver (readType (left - 1)) (held text a)) → Levelled (readType left (held text a))
+  pub type-over : 0 < left → Levelled (typeOver (readType (left - 1)) (held ed text a)) → Levelled (readType left (held ed text a))
   unfolding readType
   type-over h d =
       let e : left ≡ suc (left - 1) = omega (arith, h) in
-      reads-as f text (Fits text a) (Fits text a) (readType left (held text a)) (typeOver (readType (left - 1)) (held text a)) (a .end) (a .end) s l m r (omega arith) (λ fit. fit) (λ fit. ap (λ (n : ℕ). readType n (held text a)) e) d
+      reads-as f ed text (Fits text a) (Fits text a) (readType left (held ed text a)) (typeOver (readType (left - 1)) (held ed text a)) (a .end) (a .end) s l m r (omega arith) (λ fit. fit) (λ fit. ap (λ (n : ℕ). readType n (held ed text a)) e) d

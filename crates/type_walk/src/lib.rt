@@ -37,10 +37,10 @@ use words::kinds::PIPE;
 use words::kinds::R_PAREN;
 
 // The token behind t. A function of its own, so that the room for the answer is free again when the type is read.
-fn behind(text: &[u8], t: Token) -> Lexed
-    ensures { λ r. ⌜ r ≡ nextToken (now (text .entry)) (t .end) ⌝ }
+fn behind(edition: u64, text: &[u8], t: Token) -> Lexed
+    ensures { λ r. ⌜ r ≡ nextToken edition (now (text .entry)) (t .end) ⌝ }
 {
-    tokens::next_token(text, t.end)
+    tokens::next_token(edition, text, t.end)
 }
 
 // Whether a reference begins with a token of this kind.
@@ -91,19 +91,20 @@ fn close_angles(form: u8, none: bool, out: &mut [u8], s: Spot, b: Spot) -> Spot
 
 // The type whose first token is a; the levels that are left count its own.
 pub fn parse_type(w: Way, text: &[u8], a: Token, out: &mut [u8], s: Spot) -> Parsed
-    ensures { λ r. ⌜ Reads (w .form) (now (text .entry)) (Fits (now (text .entry)) a) (readType (w .left) (held (now (text .entry)) a)) (a .end) s (now (out .entry)) r (now (out .exit)) ⌝ }
+    ensures { λ r. ⌜ Reads (w .form) (w .edition) (now (text .entry)) (Fits (now (text .entry)) a) (readType (w .left) (held (w .edition) (now (text .entry)) a)) (a .end) s (now (out .entry)) r (now (out .exit)) ⌝ }
 {
     if w.left == 0 {
         return parts::too_deep(a);
     }
     let deeper = Way {
         form: w.form,
+        edition: w.edition,
         left: w.left - 1,
     };
     if !chains::is_first(a.kind) {
         return marked_at(deeper, text, a, out, s);
     }
-    let l = behind(text, a);
+    let l = behind(w.edition, text, a);
     match l {
         Lexed::Refused(r) => Parsed::Refused(r),
         Lexed::Found(n) => named_at(deeper, text, a, n, out, s),
@@ -112,7 +113,7 @@ pub fn parse_type(w: Way, text: &[u8], a: Token, out: &mut [u8], s: Spot) -> Par
 
 // The type that a begins, which begins no name.
 fn marked_at(w: Way, text: &[u8], a: Token, out: &mut [u8], s: Spot) -> Parsed
-    ensures { λ r. ⌜ (begins a ≡ false → Reads (w .form) (now (text .entry)) (Fits (now (text .entry)) a) (typeOver (readType (w .left)) (held (now (text .entry)) a)) (a .end) s (now (out .entry)) r (now (out .exit))) ⌝ }
+    ensures { λ r. ⌜ (begins a ≡ false → Reads (w .form) (w .edition) (now (text .entry)) (Fits (now (text .entry)) a) (typeOver (readType (w .left)) (held (w .edition) (now (text .entry)) a)) (a .end) s (now (out .entry)) r (now (out .exit))) ⌝ }
 {
     if a.kind == L_PAREN {
         return brackets_at(w, text, a, out, s);
@@ -128,7 +129,7 @@ fn marked_at(w: Way, text: &[u8], a: Token, out: &mut [u8], s: Spot) -> Parsed
 
 // The brackets that a opens round none, one or more types.
 fn brackets_at(w: Way, text: &[u8], a: Token, out: &mut [u8], s: Spot) -> Parsed
-    ensures { λ r. ⌜ Reads (w .form) (now (text .entry)) (Fits (now (text .entry)) a) (brackets (readType (w .left)) (held (now (text .entry)) a)) (a .end) s (now (out .entry)) r (now (out .exit)) ⌝ }
+    ensures { λ r. ⌜ Reads (w .form) (w .edition) (now (text .entry)) (Fits (now (text .entry)) a) (brackets (readType (w .left)) (held (w .edition) (now (text .entry)) a)) (a .end) s (now (out .entry)) r (now (out .exit)) ⌝ }
 {
     let i = forms::step_inside(w.form, s);
     let p = forms::put_mark(w.form, b'(', out, i);
@@ -150,9 +151,9 @@ fn brackets_at(w: Way, text: &[u8], a: Token, out: &mut [u8], s: Spot) -> Parsed
 
 // The reference that a begins.
 fn reference_at(w: Way, mutable: bool, text: &[u8], a: Token, out: &mut [u8], s: Spot) -> Parsed
-    ensures { λ r. ⌜ Reads (w .form) (now (text .entry)) (Fits (now (text .entry)) a) (reference (readType (w .left)) (cond mutable RecRefMut RecRef) (held (now (text .entry)) a)) (a .end) s (now (out .entry)) r (now (out .exit)) ⌝ }
+    ensures { λ r. ⌜ Reads (w .form) (w .edition) (now (text .entry)) (Fits (now (text .entry)) a) (reference (readType (w .left)) (cond mutable RecRefMut RecRef) (held (w .edition) (now (text .entry)) a)) (a .end) s (now (out .entry)) r (now (out .exit)) ⌝ }
 {
-    let l = tokens::next_token(text, a.end);
+    let l = tokens::next_token(w.edition, text, a.end);
     match l {
         Lexed::Refused(r) => Parsed::Refused(r),
         Lexed::Found(b) => {
@@ -180,7 +181,7 @@ fn reference_at(w: Way, mutable: bool, text: &[u8], a: Token, out: &mut [u8], s:
 
 // The function type that the `|` a begins: its arguments, then its result.
 fn function_at(w: Way, text: &[u8], a: Token, out: &mut [u8], s: Spot) -> Parsed
-    ensures { λ r. ⌜ Reads (w .form) (now (text .entry)) (Fits (now (text .entry)) a) (function (readType (w .left)) (held (now (text .entry)) a)) (a .end) s (now (out .entry)) r (now (out .exit)) ⌝ }
+    ensures { λ r. ⌜ Reads (w .form) (w .edition) (now (text .entry)) (Fits (now (text .entry)) a) (function (readType (w .left)) (held (w .edition) (now (text .entry)) a)) (a .end) s (now (out .entry)) r (now (out .exit)) ⌝ }
 {
     let i = forms::step_inside(w.form, s);
     let q = forms::put_mark(w.form, b'|', out, i);
@@ -205,7 +206,7 @@ fn function_at(w: Way, text: &[u8], a: Token, out: &mut [u8], s: Spot) -> Parsed
 
 // The type that the name at a begins, with its arguments; n is the token behind a.
 fn named_at(w: Way, text: &[u8], a: Token, n: Token, out: &mut [u8], s: Spot) -> Parsed
-    ensures { λ r. ⌜ (nextToken (now (text .entry)) (a .end) ≡ Found n → begins a ≡ true → Reads (w .form) (now (text .entry)) (Fits (now (text .entry)) a) (named (readType (w .left)) (held (now (text .entry)) a)) (a .end) s (now (out .entry)) r (now (out .exit))) ⌝ }
+    ensures { λ r. ⌜ (nextToken (w .edition) (now (text .entry)) (a .end) ≡ Found n → begins a ≡ true → Reads (w .form) (w .edition) (now (text .entry)) (Fits (now (text .entry)) a) (named (readType (w .left)) (held (w .edition) (now (text .entry)) a)) (a .end) s (now (out .entry)) r (now (out .exit))) ⌝ }
 {
     let i = forms::step_inside(w.form, s);
     let c = chains::name_behind(w, text, a, n, out, i);
@@ -238,7 +239,7 @@ fn named_at(w: Way, text: &[u8], a: Token, n: Token, out: &mut [u8], s: Spot) ->
 // The list of types that o opens and a token of the kind `close` ends, its items one behind the other
 // (parse_comma_list of the Rust).
 fn type_list(w: Way, close: u8, text: &[u8], o: Token, out: &mut [u8], s: Spot) -> Listed
-    ensures { λ r. ⌜ ReadsAll (w .form) (now (text .entry)) (Fits (now (text .entry)) o) (listBehind (readType (w .left)) close (held (now (text .entry)) o)) (o .end) s (now (out .entry)) r (now (out .exit)) ⌝ }
+    ensures { λ r. ⌜ ReadsAll (w .form) (w .edition) (now (text .entry)) (Fits (now (text .entry)) o) (listBehind (readType (w .left)) close (held (w .edition) (now (text .entry)) o)) (o .end) s (now (out .entry)) r (now (out .exit)) ⌝ }
 {
     let mut i = o.end;
     let mut to = forms::move_by(s, 0);
@@ -250,10 +251,10 @@ fn type_list(w: Way, close: u8, text: &[u8], o: Token, out: &mut [u8], s: Spot) 
                 return Listed::Refused(r);
             }
             Step::Closes(q) => {
-                return lists::close_list(text, q, count, to);
+                return lists::close_list(w.edition, text, q, count, to);
             }
             Step::Last(e, q) => {
-                return lists::close_list(text, q, lists::count_more(count), e);
+                return lists::close_list(w.edition, text, q, lists::count_more(count), e);
             }
             Step::Goes(e, q) => {
                 to = e;
@@ -275,9 +276,9 @@ fn type_step(
     out: &mut [u8],
     s: Spot,
 ) -> Step
-    ensures { λ r. ⌜ Steps (w .form) (now (text .entry)) (readType (w .left)) close o first s (now (out .entry)) (nextItem close (nextToken (now (text .entry)) at)) r (now (out .exit)) ⌝ }
+    ensures { λ r. ⌜ Steps (w .form) (w .edition) (now (text .entry)) (readType (w .left)) close o first s (now (out .entry)) (nextItem close (nextToken (w .edition) (now (text .entry)) at)) r (now (out .exit)) ⌝ }
 {
-    let b = lists::next_item(close, text, at);
+    let b = lists::next_item(w.edition, close, text, at);
     match b {
         Turn::Refused(r) => Step::Refused(r),
         Turn::Closes(q) => Step::Closes(q),
@@ -296,7 +297,7 @@ fn type_item(
     out: &mut [u8],
     s: Spot,
 ) -> Step
-    ensures { λ r. ⌜ Itemed (w .form) (now (text .entry)) (readType (w .left)) close o first s (now (out .entry)) a r (now (out .exit)) ⌝ }
+    ensures { λ r. ⌜ Itemed (w .form) (w .edition) (now (text .entry)) (readType (w .left)) close o first s (now (out .entry)) a r (now (out .exit)) ⌝ }
 {
     let p = forms::put_between(w.form, first, out, s);
     let t = parse_type(w, text, a, out, p);
@@ -306,7 +307,7 @@ fn type_item(
 // The type arguments behind the `<` o, up to `>`, or to the first byte of `>>`: the items alone, without the
 // marks. The levels that are left count each argument's own.
 pub fn parse_type_args(w: Way, text: &[u8], o: Token, out: &mut [u8], s: Spot) -> Listed
-    ensures { λ r. ⌜ ReadsAll (w .form) (now (text .entry)) (Fits (now (text .entry)) o) (listBehind (readType (w .left)) Greater (held (now (text .entry)) o)) (o .end) s (now (out .entry)) r (now (out .exit)) ⌝ }
+    ensures { λ r. ⌜ ReadsAll (w .form) (w .edition) (now (text .entry)) (Fits (now (text .entry)) o) (listBehind (readType (w .left)) Greater (held (w .edition) (now (text .entry)) o)) (o .end) s (now (out .entry)) r (now (out .exit)) ⌝ }
 {
     type_list(w, GREATER, text, o, out, s)
 }

@@ -7,4 +7,4 @@ pub mod Marks
 pub mod Found
 pub mod Suffix
 pub mod Quotes
-pub mod Positive
+pub mod Above

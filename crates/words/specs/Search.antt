@@ -51,8 +51,19 @@ unfoldable pub frontLen : List (List ℕ) → List ℕ → ℕ
 frontLen [] s = 0
 frontLen (w ∷ ws) s = cond (begins w s) (length w) (frontLen ws s)
 
-unfoldable pub suffixes : List (List ℕ)
-suffixes = bytes "u8" ∷ bytes "u64" ∷ bytes "u128" ∷ []
+-- the edition that knows the later integers; every other number is read as edition 1
+abbrev pub later : ℕ → Bool
+later ed = eqb ed 2
 
-unfoldable pub suffixLen : List ℕ → ℕ
-suffixLen s = frontLen suffixes s
+-- the types behind a number in each edition
+unfoldable pub suffixes1 : List (List ℕ)
+suffixes1 = bytes "u8" ∷ bytes "u64" ∷ bytes "u128" ∷ []
+
+unfoldable pub suffixes2 : List (List ℕ)
+suffixes2 = bytes "u8" ∷ bytes "u16" ∷ bytes "u32" ∷ bytes "u64" ∷ bytes "u128" ∷ bytes "u256" ∷ []
+
+unfoldable pub suffixesOf : ℕ → List (List ℕ)
+suffixesOf ed = cond (later ed) suffixes2 suffixes1
+
+unfoldable pub suffixLen : ℕ → List ℕ → ℕ
+suffixLen ed s = frontLen (suffixesOf ed) s

@@ -7,8 +7,8 @@ ghost use lib.ListN.{length, getD, take, drop};
 ghost use lib.Seq.{slice};
 ghost use Rattle.classes.specs.Bytes.{begins};
 ghost use Rattle.words.specs.Tables.{keywords, longMarks, doubleMarks, singleMarks};
-ghost use Rattle.words.specs.Search.{kindOf, noFit, markOf, firstFit, suffixLen};
-ghost use Rattle.words.specs.code.Rows.{number, rowLen, keywordRows, keywordKinds, packedKind, valueIf, rowFit};
+ghost use Rattle.words.specs.Search.{kindOf, noFit, markOf, firstFit, frontLen, suffixes1, suffixLen};
+ghost use Rattle.words.specs.code.Rows.{number, rowLen, keywordRows, keywordKinds, packedKind, valueIf, rowFit, addedSuffixes};
 ghost use Rattle.words.specs.Quote.{endsLine, quoteFrom};
 use classes::byte_at;
 use kinds::ABORT;
@@ -190,6 +190,9 @@ const MARKS: [[u8; 7]; 37] = [
     [b'#', 0, 0, 0, 0, 1, NUM_SIGN],
     [b'@', 0, 0, 0, 0, 1, AT_SIGN],
 ];
+// The edition that knows the later integers; every other number is read as edition 1.
+pub const LATER: u64 = 2;
+
 // Each search below has one loop of fixed bounds and a small body over a copy of its table: the compiler
 // unrolls such a loop, and the table becomes constants in the code.
 
@@ -473,18 +476,61 @@ pub fn mark_at(text: &[u8], at: usize) -> Fit
     single_mark(a)
 }
 
-// The length of the type at `at`, 0 where there is none (get_number_maybe_with_suffix of the Rust).
-pub fn suffix_len(text: &[u8], at: usize) -> usize
-    ensures { λ r. ⌜ r ≡ suffixLen (drop at (now (text .entry))) ⌝ }
+// The length of the type of edition 1 that is `u` with b, c and d behind it, or begins so; 0 for none.
+fn first_suffix(b: u8, c: u8, d: u8) -> u8
+    ensures { λ r. ⌜ r ≡ frontLen suffixes1 (117 ∷ b ∷ c ∷ d ∷ []) ⌝ }
 {
-    if starts(text, at, b"u8", 2) {
+    if b == b'8' {
         return 2;
     }
-    if starts(text, at, b"u64", 3) {
-        return 3;
+    if b == b'6' {
+        return value_if(c, b'4', 3);
     }
-    if starts(text, at, b"u128", 4) {
-        return 4;
+    if b != b'1' {
+        return 0;
+    }
+    if c != b'2' {
+        return 0;
+    }
+    value_if(d, b'8', 4)
+}
+
+// The same of the types that edition 2 adds.
+fn added_suffix(b: u8, c: u8, d: u8) -> u8
+    ensures { λ r. ⌜ r ≡ frontLen addedSuffixes (117 ∷ b ∷ c ∷ d ∷ []) ⌝ }
+{
+    if b == b'1' {
+        return value_if(c, b'6', 3);
+    }
+    if b == b'3' {
+        return value_if(c, b'2', 3);
+    }
+    if b != b'2' {
+        return 0;
+    }
+    if c != b'5' {
+        return 0;
+    }
+    value_if(d, b'6', 4)
+}
+
+// The length of the type at `at` in an edition, 0 where there is none (get_number_maybe_with_suffix of the
+// Rust). Most numbers have none, which one byte tells.
+pub fn suffix_len(edition: u64, text: &[u8], at: usize) -> usize
+    ensures { λ r. ⌜ r ≡ suffixLen edition (drop at (now (text .entry))) ⌝ }
+{
+    if byte_at(text, at) != b'u' {
+        return 0;
+    }
+    let b = byte_at(text, at + 1);
+    let c = byte_at(text, at + 2);
+    let d = byte_at(text, at + 3);
+    let n = first_suffix(b, c, d);
+    if n != 0 {
+        return n as usize;
+    }
+    if edition == LATER {
+        return added_suffix(b, c, d) as usize;
     }
     0
 }

@@ -16,6 +16,7 @@ mod station_items;
 use item_sets::Size;
 use oracle::{
     answer::{Answer, Call, ItemCall},
+    editions,
     expected::{self, Cause, Expected, Text},
     random::Random,
     reading::{silence_the_rust, Reading},
@@ -28,9 +29,11 @@ Compares the port's answers with those of the Rust lexer and parser: tokens,
 comments, reads with the bytes that they write, and displays with their lines;
 first some points whose answers are written down.
 
-usage: compare [--quick] [--seed N] [--reads-only | --displays-only] [--help]
+usage: compare [--quick] [--seed N] [--edition N] [--reads-only | --displays-only]
+               [--help]
 
   --quick          a few million answers, in seconds
+  --edition N      one edition alone, 1 or 2 (default both)
   --seed N         another choice of random texts (default 1)
   --reads-only     no tokens, comments and displays
   --displays-only  no tokens, comments and reads
@@ -72,16 +75,23 @@ fn main() {
 /// Compares tokens and comments; how many differences were found.
 fn run(options: &Options) -> u64 {
     let start = Instant::now();
-    let mut comparison = Comparison::default();
-    run_sets(&mut comparison, options);
-    comparison.print_summary();
+    let mut different = 0;
+    for edition in options.size().editions() {
+        println!("Tokens and comments, edition {edition}:");
+        let mut comparison = Comparison::new(edition, options.size().random(90));
+        run_sets(&mut comparison, options);
+        comparison.print_summary();
+        different += comparison.different;
+    }
     println!("\n{:.1} s", start.elapsed().as_secs_f64());
-    comparison.different
+    different
 }
 
 struct Options {
     quick: bool,
     seed: u64,
+    /// The one edition that is compared, if not both are.
+    edition: Option<u64>,
     /// The one call that is compared, if not all are.
     only: Option<ItemCall>,
 }
@@ -91,6 +101,7 @@ impl Options {
         Size {
             quick: self.quick,
             seed: self.seed,
+            edition: self.edition,
         }
     }
 }
@@ -99,6 +110,7 @@ fn options() -> Options {
     let mut options = Options {
         quick: false,
         seed: 1,
+        edition: None,
         only: None,
     };
     let mut words = env::args().skip(1);
@@ -108,6 +120,11 @@ fn options() -> Options {
             "--seed" => match words.next().and_then(|number| number.parse().ok()) {
                 Some(seed) => options.seed = seed,
                 None => bad_usage("--seed needs a number"),
+            },
+            "--edition" => match words.next().as_deref() {
+                Some("1") => options.edition = Some(1),
+                Some("2") => options.edition = Some(2),
+                _ => bad_usage("--edition needs 1 or 2"),
             },
             "--reads-only" => options.only = Some(ItemCall::Read),
             "--displays-only" => options.only = Some(ItemCall::Display),
@@ -160,6 +177,13 @@ fn run_sets(comparison: &mut Comparison, options: &Options) {
     let name = format!("every text up to {longest} bytes, marks");
     comparison.set(&name, |to| {
         every_text(b"&mut |<=>:.!", longest, |text| to.everywhere(text))
+    });
+    let longest = sized(7, 5);
+    let name = format!("every text up to {longest} bytes, numbers");
+    comparison.set(&name, |to| {
+        every_text(b"01x_u628\"bg ", longest, |text| {
+            to.walk(&Text::new(text), false)
+        })
     });
     comparison.set("Move-like texts of 0 to 64 bytes", |to| {
         let mut random = seeded(1);
@@ -233,21 +257,37 @@ fn every_text(alphabet: &[u8], longest: usize, mut visit: impl FnMut(&[u8])) {
 #[derive(PartialEq)]
 struct Difference {
     call: Call,
+    edition: u64,
     text: Vec<u8>,
     at: usize,
     expected: Expected,
     found: Answer,
 }
 
-#[derive(Default)]
 struct Comparison {
+    edition: u64,
+    random: Random,
     answers: u64,
+    /// Answers to numbers that are no edition.
+    of_none: u64,
     listed: [u64; Cause::ALL.len()],
     different: u64,
     shown: Vec<Difference>,
 }
 
 impl Comparison {
+    fn new(edition: u64, random: Random) -> Comparison {
+        Comparison {
+            edition,
+            random,
+            answers: 0,
+            of_none: 0,
+            listed: [0; Cause::ALL.len()],
+            different: 0,
+            shown: vec![],
+        }
+    }
+
     /// Runs one set and prints how many answers it compared.
     fn set(&mut self, name: &str, run: impl FnOnce(&mut Comparison)) {
         let (answers, different) = (self.answers, self.different);
@@ -258,18 +298,33 @@ impl Comparison {
         }
     }
 
-    /// Both calls at each offset and past the end, and the walk.
+    /// Both calls at each offset and past the end, and the walk. In edition 2 the same again
+    /// where the text's numbers can be spelled in its way.
     fn everywhere(&mut self, bytes: &[u8]) {
+        self.at_each_offset(bytes);
+        if self.edition == 2 && bytes.iter().any(u8::is_ascii_digit) {
+            let respelled = editions::respelled(&mut self.random, bytes, 0);
+            self.at_each_offset(&respelled);
+        }
+    }
+
+    fn at_each_offset(&mut self, bytes: &[u8]) {
         let text = Text::new(bytes);
         for at in 0..=bytes.len() + 1 {
             self.ask_both(&text, at);
         }
-        self.walk(&text);
+        self.walk(&text, true);
     }
 
     /// The walk, and both calls at some offsets, those around the end among them.
     fn along(&mut self, bytes: &[u8], random: &mut Random) {
-        let text = Text::new(bytes);
+        let mut bytes = bytes.to_vec();
+        if self.edition == 2 {
+            let length = bytes.len();
+            bytes = editions::respelled(&mut self.random, &bytes, 0);
+            bytes.truncate(length);
+        }
+        let text = Text::new(&bytes);
         let length = bytes.len();
         for _ in 0..50 {
             self.ask_both(&text, random.below(length + 1));
@@ -277,22 +332,31 @@ impl Comparison {
         for at in [length, length + 1, 65_536, 1 << 32, usize::MAX] {
             self.ask_both(&text, at);
         }
-        self.walk(&text);
+        self.walk(&text, true);
     }
 
     /// Token after token, each from where the last one ended, until EOF or a refusal;
-    /// the Rust goes the same way with one lexer. At each step the comment too. Whether a
+    /// the Rust goes the same way with one lexer. At each step the comment too, if asked for. Whether a
     /// line feed stands before a token is here told by line numbers, counted on the text alone.
-    fn walk(&mut self, text: &Text) {
+    fn walk(&mut self, text: &Text, comments: bool) {
         if text.bytes.len() > expected::LONGEST {
             return self.ask_both(text, 0);
         }
+        editions::judging(self.edition, text, 0, usize::MAX, |read| {
+            self.walk_beside(text, read, comments)
+        })
+    }
+
+    /// The port on the text, the Rust on the one by which it judges.
+    fn walk_beside(&mut self, text: &Text, read: &Text, comments: bool) {
         let mut at = 0;
-        let mut reading = Reading::new(text.for_the_rust(at), at);
+        let mut reading = Reading::new(read.for_the_rust(at), at);
         let lines = line_numbers(text.bytes);
         loop {
-            self.judge(Call::Comment, text, at, expected::comment(text, at));
-            let mut token = expected::token_of(text, at, reading.advance());
+            if comments {
+                self.judge(Call::Comment, text, at, expected::comment(read, at));
+            }
+            let mut token = expected::token_of(read, at, reading.advance());
             if let Some(answer) = token.answer.as_mut().filter(|answer| answer.result == 0) {
                 let start = answer.numbers[1] as usize;
                 answer.numbers[3] = (lines[start] != lines[at]).into();
@@ -304,31 +368,59 @@ impl Comparison {
             }
             // After a panic the Rust's lexer is of no use: a new one goes on.
             if token.cause.is_some() {
-                reading = Reading::new(text.for_the_rust(at), at);
+                reading = Reading::new(read.for_the_rust(at), at);
             }
         }
     }
 
     fn ask_both(&mut self, text: &Text, at: usize) {
         for call in [Call::Token, Call::Comment] {
-            self.judge(call, text, at, expected::answer(call, text, at));
+            self.judge(call, text, at, expected_in(self.edition, call, text, at));
         }
     }
 
     fn judge(&mut self, call: Call, text: &Text, at: usize, expected: Expected) {
-        let found = station::ask(call, text.bytes, at);
+        let found = station::ask(call, self.edition, text.bytes, at);
         self.answers += 1;
+        if self.edition == 1 {
+            self.judge_none(call, text, at, expected);
+        }
         if let Some(cause) = expected.cause {
             self.listed[cause as usize] += 1;
         }
         if expected.answer != Some(found) {
             self.differs(Difference {
                 call,
+                edition: self.edition,
                 text: text.bytes.to_vec(),
                 at,
                 expected,
                 found,
             });
+        }
+    }
+
+    /// The same call with a number that is no edition.
+    fn judge_none(&mut self, call: Call, text: &Text, at: usize, expected: Expected) {
+        let edition = editions::NONE[self.answers as usize % editions::NONE.len()];
+        let found = station::ask(call, edition, text.bytes, at);
+        self.of_none += 1;
+        let answer = editions::of_none(expected.answer);
+        if found != answer {
+            self.different += 1;
+            if self.shown.len() < SHOWN {
+                self.shown.push(Difference {
+                    call,
+                    edition,
+                    text: text.bytes.to_vec(),
+                    at,
+                    expected: Expected {
+                        answer: Some(answer),
+                        cause: None,
+                    },
+                    found,
+                });
+            }
         }
     }
 
@@ -344,6 +436,13 @@ impl Comparison {
 
     fn print_summary(&self) {
         println!("{:<50} {:>12}", "all", grouped(self.answers));
+        if self.edition == 1 {
+            let count = grouped(self.of_none);
+            println!(
+                "{:<50} {count:>12}",
+                "the same with numbers that are no edition"
+            );
+        }
         println!("\nOf these, decided by the specification (docs/DIFFERENCES.md), and held to it:");
         for cause in Cause::ALL {
             let count = grouped(self.listed[cause as usize]);
@@ -373,12 +472,20 @@ fn end_of_token(answer: Answer) -> Option<usize> {
     (answer.result == 0 && kind != 0).then_some(end as usize)
 }
 
+/// What must come of a call in an edition.
+fn expected_in(edition: u64, call: Call, text: &Text, at: usize) -> Expected {
+    editions::judging(edition, text, at, 1, |text| {
+        expected::answer(call, text, at)
+    })
+}
+
 /// The port's answer and the expected one, where they differ.
-fn difference(call: Call, text: &[u8], at: usize) -> Option<Difference> {
-    let expected = expected::answer(call, &Text::new(text), at);
-    let found = station::ask(call, text, at);
+fn difference(call: Call, edition: u64, text: &[u8], at: usize) -> Option<Difference> {
+    let expected = expected_in(edition, call, &Text::new(text), at);
+    let found = station::ask(call, edition, text, at);
     (expected.answer != Some(found)).then(|| Difference {
         call,
+        edition,
         text: text.to_vec(),
         at,
         expected,
@@ -388,11 +495,11 @@ fn difference(call: Call, text: &[u8], at: usize) -> Option<Difference> {
 
 /// A difference of the smallest text that is found.
 fn smallest(found: Difference) -> Difference {
-    let call = found.call;
+    let (call, edition) = (found.call, found.edition);
     let (text, at) = shrunk(found.text.clone(), found.at, |text, at| {
-        difference(call, text, at).is_some()
+        difference(call, edition, text, at).is_some()
     });
-    difference(call, &text, at).unwrap_or(found)
+    difference(call, edition, &text, at).unwrap_or(found)
 }
 
 /// Takes bytes out of the text, long pieces first, as long as it still differs.
@@ -426,7 +533,10 @@ fn shrunk(
 impl Difference {
     fn print(&self) {
         let length = self.text.len();
-        println!("\n  {:?} call at {} of {length} bytes", self.call, self.at);
+        println!(
+            "\n  {:?} call, edition {}, at {} of {length} bytes",
+            self.call, self.edition, self.at
+        );
         let cut = &self.text[..length.min(200)];
         let more = if length > cut.len() { "..." } else { "" };
         println!("    text     '{}'{more}", cut.escape_ascii());

@@ -1,10 +1,14 @@
 //! A station's inner loop: opens a file, lists its tokens, then reads and displays the type
-//! behind each colon. What is refused is shown with its number and place.
+//! behind each colon. What is refused is shown with its number and place. The file is read as one
+//! of edition 1.
 //!
 //!     cargo run --example station -- ../../examples/coin.move
 
-use movesig::{display, read, tokens, Kind, Refusal, TokenKind, Tree, LONGEST};
+use movesig::{display, read, tokens, Edition, Kind, Refusal, TokenKind, Tree, LONGEST};
 use std::{env, fs::File, io::Read, process::ExitCode};
+
+/// The edition of Move that the file is written in.
+const EDITION: Edition = Edition::One;
 
 fn main() -> ExitCode {
     let Some(name) = env::args_os().nth(1) else {
@@ -30,7 +34,7 @@ fn main() -> ExitCode {
 fn show(text: &[u8]) -> Result<(), Refusal> {
     // Lent to every call; no call needs more.
     let mut buffer = vec![0; LONGEST];
-    for token in tokens(text, 0) {
+    for token in tokens(EDITION, text, 0) {
         let token = token?;
         println!("token {} at {}", token.kind.number(), token.span);
         if token.kind == TokenKind::COLON {
@@ -42,10 +46,10 @@ fn show(text: &[u8]) -> Result<(), Refusal> {
 }
 
 fn show_type(text: &[u8], at: usize, buffer: &mut [u8]) -> Result<(), Refusal> {
-    let line = display(Kind::Type, text, at, buffer)?
+    let line = display(Kind::Type, EDITION, text, at, buffer)?
         .escape_ascii()
         .to_string();
-    let item = read(Kind::Type, text, at, buffer)?;
+    let item = read(Kind::Type, EDITION, text, at, buffer)?;
     println!("type {line}");
     show_records(item.tree);
     Ok(())

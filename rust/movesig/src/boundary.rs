@@ -8,8 +8,8 @@
 //! - Text, buffer and the six numbers do not overlap, since a `&mut` shuts out every other
 //!   reference to the same bytes.
 //!
-//! And what the calls do is proved (crates/station): for every text, offset, kind number and
-//! buffer they return, read no byte outside the text, write no byte outside the buffer and
+//! And what the calls do is proved (crates/station): for every text, offset, kind number,
+//! edition number and buffer they return, read no byte outside the text, write no byte outside the buffer and
 //! the six numbers, write all six, and keep no pointer. So no further test is needed here, and
 //! none is made.
 
@@ -62,10 +62,23 @@ impl Answer<'_> {
 
 unsafe extern "C" {
     safe fn movesig_version() -> u32;
-    fn movesig_next_token(text: *const u8, len: usize, at: usize, answer: *mut u64) -> u32;
-    fn movesig_next_comment(text: *const u8, len: usize, at: usize, answer: *mut u64) -> u32;
+    fn movesig_next_token(
+        edition: u64,
+        text: *const u8,
+        len: usize,
+        at: usize,
+        answer: *mut u64,
+    ) -> u32;
+    fn movesig_next_comment(
+        edition: u64,
+        text: *const u8,
+        len: usize,
+        at: usize,
+        answer: *mut u64,
+    ) -> u32;
     fn movesig_read(
         kind: u64,
+        edition: u64,
         text: *const u8,
         len: usize,
         at: usize,
@@ -75,6 +88,7 @@ unsafe extern "C" {
     ) -> u32;
     fn movesig_display(
         kind: u64,
+        edition: u64,
         text: *const u8,
         len: usize,
         at: usize,
@@ -93,22 +107,32 @@ pub fn library_version() -> (u32, u32) {
 }
 
 #[inline]
-pub(crate) fn next_token<'n>(text: &[u8], at: usize, numbers: &'n mut Numbers) -> Answer<'n> {
+pub(crate) fn next_token<'n>(
+    edition: u64,
+    text: &[u8],
+    at: usize,
+    numbers: &'n mut Numbers,
+) -> Answer<'n> {
     let answer = numbers.0.as_mut_ptr().cast();
     // SAFETY: pointer and length are one slice's, and `answer` points to six aligned numbers;
-    // both are lent for the call. Any offset may be asked for. The call writes all six numbers.
+    // both are lent for the call. Any edition and any offset may be asked for. The call writes all six numbers.
     unsafe {
-        let result = movesig_next_token(text.as_ptr(), text.len(), at, answer);
+        let result = movesig_next_token(edition, text.as_ptr(), text.len(), at, answer);
         numbers.answer(result)
     }
 }
 
 #[inline]
-pub(crate) fn next_comment<'n>(text: &[u8], at: usize, numbers: &'n mut Numbers) -> Answer<'n> {
+pub(crate) fn next_comment<'n>(
+    edition: u64,
+    text: &[u8],
+    at: usize,
+    numbers: &'n mut Numbers,
+) -> Answer<'n> {
     let answer = numbers.0.as_mut_ptr().cast();
     // SAFETY: as for `next_token`.
     unsafe {
-        let result = movesig_next_comment(text.as_ptr(), text.len(), at, answer);
+        let result = movesig_next_comment(edition, text.as_ptr(), text.len(), at, answer);
         numbers.answer(result)
     }
 }
@@ -116,6 +140,7 @@ pub(crate) fn next_comment<'n>(text: &[u8], at: usize, numbers: &'n mut Numbers)
 #[inline]
 pub(crate) fn read<'n>(
     kind: u64,
+    edition: u64,
     text: &[u8],
     at: usize,
     out: &mut [u8],
@@ -124,11 +149,12 @@ pub(crate) fn read<'n>(
     let answer = numbers.0.as_mut_ptr().cast();
     let (start, room) = (out.as_mut_ptr(), out.len());
     // SAFETY: each pointer stands with the length of its own slice, and all are lent for the call;
-    // `out` and `numbers` are `&mut`, so they overlap neither `text` nor each other. Any kind and
-    // any offset may be asked for. Every byte that is written is a valid `u8`, and the call writes
+    // `out` and `numbers` are `&mut`, so they overlap neither `text` nor each other. Any kind,
+    // edition and offset may be asked for. Every byte that is written is a valid `u8`, and the call writes
     // all six numbers.
     unsafe {
-        let result = movesig_read(kind, text.as_ptr(), text.len(), at, start, room, answer);
+        let (text, len) = (text.as_ptr(), text.len());
+        let result = movesig_read(kind, edition, text, len, at, start, room, answer);
         numbers.answer(result)
     }
 }
@@ -136,6 +162,7 @@ pub(crate) fn read<'n>(
 #[inline]
 pub(crate) fn display<'n>(
     kind: u64,
+    edition: u64,
     text: &[u8],
     at: usize,
     line: &mut [u8],
@@ -145,7 +172,8 @@ pub(crate) fn display<'n>(
     let (start, room) = (line.as_mut_ptr(), line.len());
     // SAFETY: as for `read`, with `line` in the place of `out`.
     unsafe {
-        let result = movesig_display(kind, text.as_ptr(), text.len(), at, start, room, answer);
+        let (text, len) = (text.as_ptr(), text.len());
+        let result = movesig_display(kind, edition, text, len, at, start, room, answer);
         numbers.answer(result)
     }
 }

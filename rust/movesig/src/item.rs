@@ -1,6 +1,6 @@
 use crate::{
     boundary::{self, Numbers},
-    Following, Refusal, Tree, LONGEST,
+    Edition, Following, Refusal, Tree, LONGEST,
 };
 use std::fmt;
 
@@ -87,11 +87,11 @@ pub struct Read<'t, 'b> {
 /// Refused with 1, 2 and 4 to 14.
 ///
 /// ```
-/// use movesig::{read, Kind, RecordKind};
+/// use movesig::{read, Edition, Kind, RecordKind};
 ///
 /// let text = b"fun f(x: &Coin<u8>)";
 /// let mut buffer = [0; 256];
-/// let item = read(Kind::Type, text, 9, &mut buffer)?;
+/// let item = read(Kind::Type, Edition::One, text, 9, &mut buffer)?;
 ///
 /// assert_eq!(item.tree.kind(), RecordKind::Ref);
 /// let coin = item.tree.children().next().expect("what it refers to");
@@ -103,12 +103,14 @@ pub struct Read<'t, 'b> {
 #[inline]
 pub fn read<'t, 'b>(
     kind: Kind,
+    edition: Edition,
     text: &'t [u8],
     at: usize,
     buffer: &'b mut [u8],
 ) -> Result<Read<'t, 'b>, Refusal> {
     let mut numbers = Numbers::new();
-    let answer = boundary::read(kind.number(), text, at, buffer, &mut numbers);
+    let (kind, edition) = (kind.number(), edition.number());
+    let answer = boundary::read(kind, edition, text, at, buffer, &mut numbers);
     if answer.result != 0 {
         return Err(Refusal::new(answer));
     }
@@ -128,26 +130,28 @@ pub fn read<'t, 'b>(
 /// where a string holds a byte that a line cannot hold.
 ///
 /// ```
-/// use movesig::{display, Kind, Refusal, Span};
+/// use movesig::{display, Edition, Kind, Refusal, Span};
 ///
 /// let mut buffer = [0; 80];
-/// let line = display(Kind::BindList, b"( x,S{f} )", 0, &mut buffer)?;
+/// let line = display(Kind::BindList, Edition::One, b"( x,S{f} )", 0, &mut buffer)?;
 /// assert_eq!(line, b"(x, S {f: f})");
 ///
 /// let byte = Span { start: 3, end: 4 };
-/// let refused = display(Kind::Value, b"b\"a\rb\"", 0, &mut buffer);
+/// let refused = display(Kind::Value, Edition::One, b"b\"a\rb\"", 0, &mut buffer);
 /// assert_eq!(refused, Err(Refusal::LineSpoiled { byte }));
 /// # Ok::<(), Refusal>(())
 /// ```
 #[inline]
 pub fn display<'b>(
     kind: Kind,
+    edition: Edition,
     text: &[u8],
     at: usize,
     buffer: &'b mut [u8],
 ) -> Result<&'b [u8], Refusal> {
     let mut numbers = Numbers::new();
-    let answer = boundary::display(kind.number(), text, at, buffer, &mut numbers);
+    let (kind, edition) = (kind.number(), edition.number());
+    let answer = boundary::display(kind, edition, text, at, buffer, &mut numbers);
     if answer.result != 0 {
         return Err(Refusal::new(answer));
     }
@@ -161,14 +165,25 @@ pub fn display<'b>(
 /// Refused as [`display`] is with a buffer of [`LONGEST`] bytes.
 ///
 /// ```
-/// use movesig::{display_to_string, Kind};
+/// use movesig::{display_to_string, Edition, Kind};
 ///
-/// assert_eq!(display_to_string(Kind::Type, b"|u8,&T|()", 0)?, "|u8, & T| ()");
+/// let line = display_to_string(Kind::Type, Edition::One, b"|u8,&T|()", 0)?;
+/// assert_eq!(line, "|u8, & T| ()");
+///
+/// // What is one number in edition 2 is a number and a name in edition 1.
+/// let value = |edition| display_to_string(Kind::Value, edition, b"1_000", 0);
+/// assert_eq!(value(Edition::One)?, "1");
+/// assert_eq!(value(Edition::Two)?, "1_000");
 /// # Ok::<(), movesig::Refusal>(())
 /// ```
-pub fn display_to_string(kind: Kind, text: &[u8], at: usize) -> Result<String, Refusal> {
+pub fn display_to_string(
+    kind: Kind,
+    edition: Edition,
+    text: &[u8],
+    at: usize,
+) -> Result<String, Refusal> {
     let mut buffer = vec![0; LONGEST];
-    let line = display(kind, text, at, &mut buffer)?;
+    let line = display(kind, edition, text, at, &mut buffer)?;
     Ok(String::from_utf8_lossy(line).into_owned())
 }
 

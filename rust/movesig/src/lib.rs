@@ -1,6 +1,7 @@
 //! The proved Move signature reader, for Rust: the four calls of `movesig.h` over slices.
 //!
-//! Each call takes a text, any bytes at all, and an offset from which it reads. It gives an
+//! Each call takes a text, any bytes at all, the [`Edition`] of Move that it is written in, and
+//! an offset from which it reads. It gives an
 //! answer or a [`Refusal`] with a number and a place; it neither panics nor fails in any other
 //! way, and it allocates nothing.
 //!
@@ -12,19 +13,20 @@
 //! | [`display`] | an item as one line, in a buffer of yours |
 //!
 //! ```
-//! use movesig::{display, read, Kind, RecordKind, Refusal, LONGEST};
+//! use movesig::{display, read, Edition, Kind, RecordKind, Refusal, LONGEST};
 //!
 //! let text = b"vector< u8 > {";
 //! let mut buffer = vec![0; LONGEST];
 //!
-//! let item = read(Kind::Type, text, 0, &mut buffer)?;
+//! let item = read(Kind::Type, Edition::One, text, 0, &mut buffer)?;
 //! assert_eq!(item.tree.kind(), RecordKind::Type);
 //! assert_eq!(item.tree.span().of(text), b"vector< u8 >");
 //! assert_eq!(item.next.span.of(text), b"{");
 //!
-//! assert_eq!(display(Kind::Type, text, 0, &mut buffer)?, b"vector<u8>");
+//! let line = display(Kind::Type, Edition::One, text, 0, &mut buffer)?;
+//! assert_eq!(line, b"vector<u8>");
 //!
-//! let refused = read(Kind::Type, b"(u8", 0, &mut buffer).unwrap_err();
+//! let refused = read(Kind::Type, Edition::One, b"(u8", 0, &mut buffer).unwrap_err();
 //! assert_eq!(refused.number(), 12);
 //! assert_eq!(
 //!     refused.to_string(),
@@ -46,6 +48,7 @@
 
 mod boundary;
 mod comment;
+mod edition;
 mod item;
 mod refusal;
 mod span;
@@ -54,6 +57,7 @@ mod tree;
 
 pub use boundary::library_version;
 pub use comment::{comments, next_comment, Comment, Comments};
+pub use edition::Edition;
 pub use item::{display, display_to_string, read, Kind, Read};
 pub use refusal::Refusal;
 pub use span::Span;
@@ -67,6 +71,6 @@ pub const LONGEST: usize = 65_535;
 /// The most levels of an item.
 pub const LEVELS: usize = 64;
 
-/// Bytes of stack that are enough for any call: what was measured and at least a twentieth more, as
+/// Bytes of stack that are enough for any call: what was measured and at least a fortieth more, as
 /// `MOVESIG_STACK` of `movesig.h`. It is measured, not proved.
 pub const STACK: usize = 49_152;

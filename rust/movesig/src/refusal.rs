@@ -75,6 +75,8 @@ pub enum Refusal {
         /// The first such byte.
         byte: Span,
     },
+    /// 19: the number is no edition. No [`Edition`](crate::Edition) leads here.
+    NoSuchEdition,
     /// A number that this version of the crate does not know. The library that it was written
     /// for gives none.
     Other {
@@ -118,6 +120,7 @@ impl Refusal {
             13 => NoValue { token: place },
             14 => TooDeep { token: place },
             18 => LineSpoiled { byte: place },
+            19 => NoSuchEdition,
             number => Other {
                 number,
                 place,
@@ -145,6 +148,7 @@ impl Refusal {
             NoValue { .. } => 13,
             TooDeep { .. } => 14,
             LineSpoiled { .. } => 18,
+            NoSuchEdition => 19,
             Other { number, .. } => number,
         }
     }
@@ -153,7 +157,7 @@ impl Refusal {
     #[must_use]
     pub fn place(&self) -> Span {
         match *self {
-            TextTooLong | StartPastEnd | NoSuchKind | NoRoom => Span::default(),
+            TextTooLong | StartPastEnd | NoSuchKind | NoRoom | NoSuchEdition => Span::default(),
             NoToken { at } | CommaForItem { at } | ListNotClosed { at, .. } => at,
             CommentNotClosed { opener } => opener,
             HexStringNotClosed { rest } | ByteStringNotClosed { rest } => rest,
@@ -175,10 +179,13 @@ impl Refusal {
         }
     }
 
-    /// Whether it was caused by what the caller asked (1 to 4) and not by the text.
+    /// Whether it was caused by what the caller asked (1 to 4 and 19) and not by the text.
     #[must_use]
     pub fn is_by_caller(&self) -> bool {
-        matches!(*self, TextTooLong | StartPastEnd | NoSuchKind | NoRoom)
+        matches!(
+            *self,
+            TextTooLong | StartPastEnd | NoSuchKind | NoRoom | NoSuchEdition
+        )
     }
 
     /// What is wrong, without number and place.
@@ -200,13 +207,14 @@ impl Refusal {
             NoValue { .. } => "no value here",
             TooDeep { .. } => "more than 64 levels",
             LineSpoiled { .. } => "the line would hold a control byte",
+            NoSuchEdition => "no such edition",
             Other { .. } => "a refusal that this version does not know",
         }
     }
 }
 
 /// As `refused 12: list neither continued nor closed, at 3..3 (second place 0..0)`; without
-/// places for 1 to 4, and without a second place that is the first again.
+/// places for 1 to 4 and 19, and without a second place that is the first again.
 impl fmt::Display for Refusal {
     fn fmt(&self, to: &mut fmt::Formatter<'_>) -> fmt::Result {
         write!(to, "refused {}: {}", self.number(), self.reason())?;

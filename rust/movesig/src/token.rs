@@ -1,6 +1,6 @@
 use crate::{
     boundary::{self, Answer, Numbers},
-    Refusal, Span,
+    Edition, Refusal, Span,
 };
 use std::{fmt, iter::FusedIterator};
 
@@ -70,25 +70,29 @@ impl Following {
 /// Refused with 1, 2 and 5 to 9.
 ///
 /// ```
-/// use movesig::{next_token, Span, TokenKind};
+/// use movesig::{next_token, Edition, Span, TokenKind};
 ///
-/// let token = next_token(b"  /* a gap */ vector<u8>", 0)?;
+/// let token = next_token(Edition::One, b"  /* a gap */ vector<u8>", 0)?;
 /// assert_eq!(token.kind, TokenKind::IDENTIFIER);
 /// assert_eq!(token.span, Span { start: 14, end: 20 });
 /// assert!(!token.line_feed);
 ///
 /// // The flag is about the bytes from the offset on.
-/// assert!(next_token(b"/*\n*/a", 0)?.line_feed);
-/// assert!(next_token(b"\na", 0)?.line_feed);
-/// assert!(!next_token(b"\na", 1)?.line_feed);
+/// assert!(next_token(Edition::One, b"/*\n*/a", 0)?.line_feed);
+/// assert!(next_token(Edition::One, b"\na", 0)?.line_feed);
+/// assert!(!next_token(Edition::One, b"\na", 1)?.line_feed);
 ///
-/// assert_eq!(next_token(b"$", 0).unwrap_err().number(), 5);
+/// // The editions differ in numbers alone.
+/// assert_eq!(next_token(Edition::One, b"1_000", 0)?.span, Span { start: 0, end: 1 });
+/// assert_eq!(next_token(Edition::Two, b"1_000", 0)?.span, Span { start: 0, end: 5 });
+///
+/// assert_eq!(next_token(Edition::One, b"$", 0).unwrap_err().number(), 5);
 /// # Ok::<(), movesig::Refusal>(())
 /// ```
 #[inline]
-pub fn next_token(text: &[u8], at: usize) -> Result<Token, Refusal> {
+pub fn next_token(edition: Edition, text: &[u8], at: usize) -> Result<Token, Refusal> {
     let mut numbers = Numbers::new();
-    let answer = boundary::next_token(text, at, &mut numbers);
+    let answer = boundary::next_token(edition.number(), text, at, &mut numbers);
     if answer.result == 0 {
         Ok(Token::new(answer))
     } else {
@@ -100,14 +104,14 @@ pub fn next_token(text: &[u8], at: usize) -> Result<Token, Refusal> {
 /// before it.
 ///
 /// ```
-/// use movesig::{tokens, Refusal};
+/// use movesig::{tokens, Edition, Refusal};
 ///
 /// let text = b"a<b>>c";
 /// let spelled: Result<Vec<&[u8]>, Refusal> =
-///     tokens(text, 0).map(|token| Ok(token?.span.of(text))).collect();
+///     tokens(Edition::One, text, 0).map(|token| Ok(token?.span.of(text))).collect();
 /// assert_eq!(spelled?, [&b"a"[..], b"<", b"b", b">>", b"c", b""]);
 ///
-/// let mut broken = tokens(b"a $ b", 0);
+/// let mut broken = tokens(Edition::One, b"a $ b", 0);
 /// assert!(broken.next().unwrap().is_ok());
 /// assert!(broken.next().unwrap().is_err());
 /// assert!(broken.next().is_none());
@@ -115,13 +119,15 @@ pub fn next_token(text: &[u8], at: usize) -> Result<Token, Refusal> {
 /// ```
 #[inline]
 #[must_use]
-pub fn tokens(text: &[u8], at: usize) -> Tokens<'_> {
-    Tokens { text, at: Some(at) }
+pub fn tokens(edition: Edition, text: &[u8], at: usize) -> Tokens<'_> {
+    let at = Some(at);
+    Tokens { edition, text, at }
 }
 
 /// The iterator that [`tokens`] gives.
 #[derive(Clone, Debug)]
 pub struct Tokens<'t> {
+    edition: Edition,
     text: &'t [u8],
     at: Option<usize>,
 }
@@ -131,7 +137,7 @@ impl Iterator for Tokens<'_> {
 
     #[inline]
     fn next(&mut self) -> Option<Self::Item> {
-        let token = next_token(self.text, self.at?);
+        let token = next_token(self.edition, self.text, self.at?);
         self.at = match token {
             Ok(token) if !token.is_eof() => Some(token.span.end),
             _ => None,

@@ -63,7 +63,7 @@ static uint8_t *lend(struct region region, size_t length)
 }
 
 static const char *const words[] = {
-    "a", "S", "u8", "mut", "0x1", "0x", "1u8", "true", "::", ":", "<", ">", ">>", ">=", "(", ")",
+    "a", "S", "u8", "mut", "0x1", "0x", "1u8", "1_0", "u256", "_", "true", "::", ":", "<", ">", ">>", ">=", "(", ")",
     "|", "||", ",", "&", "&mut ", "{", "}", "@", " ", "\t", "\r\n", "/*", "*/", "/**", "//",
     "b\"\\\"\"", "x\"", "\xff", "<u8>", "S {f: x}", "vector<u8>", "/// doc\n",
 };
@@ -142,6 +142,33 @@ static uint64_t some_kind(void)
     }
 }
 
+static uint64_t some_edition(void)
+{
+    switch (below(64)) {
+    case 0:
+        return random_number();
+    case 1:
+        return 0;
+    case 2:
+        return 3;
+    case 3:
+        return (uint64_t)-1;
+    case 4:
+        return ((uint64_t)1 << 32) + 2;
+    default:
+        return 1 + below(2);
+    }
+}
+
+/* Whether the first refusals come as they should: 1, 2, 3 and 19 by what was asked, and no other number then. */
+static int in_order(uint32_t number, int call, uint64_t kind, uint64_t edition, size_t len, size_t at)
+{
+    uint32_t due = len > 65535 ? 1 : at > len ? 2 : call >= 2 && (kind < 1 || kind > 5) ? 3 : 0;
+    if (due == 0 && edition != MOVESIG_EDITION_1 && edition != MOVESIG_EDITION_2)
+        due = 19;
+    return due != 0 ? number == due : number == 0 || (number >= 4 && number <= 14) || (call > 2 && number == 18);
+}
+
 static void unchanged(const uint8_t *from, const uint8_t *to, uint8_t fill, const char *what)
 {
     for (; from < to; from++)
@@ -159,7 +186,7 @@ int main(int count, char **given)
         rounds = (size_t)atol(given[1]);
     for (round = 0; round < rounds; round++) {
         size_t len = make_text(made, 400), at = some_offset(len), room = some_room();
-        uint64_t kind = some_kind();
+        uint64_t kind = some_kind(), edition = some_edition();
         uint8_t *lent_text = lend(texts, len);
         const uint8_t *text = len == 0 && below(2) ? NULL : lent_text;
         memcpy(lent_text, made, len);
@@ -180,21 +207,21 @@ int main(int count, char **given)
             memset(numbers.bytes, fill, numbers.length);
             switch (call) {
             case 0:
-                number = movesig_next_token(text, len, at, answer);
+                number = movesig_next_token(edition, text, len, at, answer);
                 break;
             case 1:
-                number = movesig_next_comment(text, len, at, answer);
+                number = movesig_next_comment(edition, text, len, at, answer);
                 break;
             case 2:
-                number = movesig_read(kind, text, len, at, buffer, room, answer);
+                number = movesig_read(kind, edition, text, len, at, buffer, room, answer);
                 break;
             default:
-                number = movesig_display(kind, text, len, at, buffer, room, answer);
+                number = movesig_display(kind, edition, text, len, at, buffer, room, answer);
                 break;
             }
             nulls += call >= 2 && buffer == NULL;
-            if (number > 14 && !(call > 2 && number == 18))
-                fail("a number that is no refusal");
+            if (!in_order(number, call, kind, edition, len, at))
+                fail("a number that is not due");
             if (number == 0)
                 accepted++;
             else

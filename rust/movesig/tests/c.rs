@@ -153,6 +153,7 @@ fn names() {
             0 => assert_eq!(reason, "accepted"),
             1..=14 => assert_eq!(reason, reasons[number - 1]),
             18 => assert_eq!(reason, reasons[14]),
+            19 => assert_eq!(reason, reasons[15]),
             _ => assert_eq!(reason, "unknown"),
         }
     }

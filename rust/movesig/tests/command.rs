@@ -806,6 +806,23 @@ fn usage() {
         &format!("no such kind: t\\x07: it is {kinds}"),
     );
     wrong(&["--frob"], "no such option: --frob");
+    for edition in [
+        "0",
+        "3",
+        "18446744073709551615",
+        "",
+        "01",
+        "one",
+        "-1",
+        "\x07",
+    ] {
+        let shown = edition.replace('\x07', "\\x07");
+        let message = format!("no such edition: {shown}: it is 1 or 2");
+        wrong(&["--edition", edition, "tokens", "a"], &message);
+        wrong(&["read", "type", "a", "--edition", edition], &message);
+    }
+    wrong(&["tokens", "a", "--edition"], "no edition is given: 1 or 2");
+    wrong(&["--edition"], "no edition is given: 1 or 2");
 
     let told = |word: &str| {
         let (status, output, errors) = run(Command::new(MOVESIG).arg(word), b"");
@@ -818,7 +835,7 @@ fn usage() {
     );
     let help = told("--help");
     assert_eq!(help, told("help"));
-    assert!(help.contains("usage: movesig [--json] tokens FILE ..."));
+    assert!(help.contains("usage: movesig [--json] [--edition N] tokens FILE ..."));
     assert!(help.lines().all(|line| line.chars().count() < 80));
 
     // the manual page has each word of the help
@@ -831,6 +848,45 @@ fn usage() {
         let word = word.trim_end_matches([':', '.']).to_uppercase();
         assert!(upper.contains(&word), "{word}");
     }
+}
+
+/// The edition before and behind the command, and 1 where it is left out.
+#[test]
+fn editions() {
+    for words in ["line value f.move", "line --edition 1 value f.move"] {
+        let (status, output, errors) = movesig(b"1_000", words);
+        assert_eq!((status, output.as_str()), (0, "1\n"), "{words}");
+        assert_eq!(errors, "followed by Identifier 1..5  _000\n");
+    }
+    for words in [
+        "--edition 2 line value f.move",
+        "line --edition 2 value f.move",
+        "line value f.move --edition 2",
+        "line value f.move --edition 2 0",
+        "line value f.move --edition 1 --edition 2",
+    ] {
+        let (status, output, errors) = movesig(b"1_000", words);
+        assert_eq!((status, output.as_str()), (0, "1_000\n"), "{words}");
+        assert_eq!(errors, "followed by EOF 5..5\n");
+    }
+    assert_eq!(
+        accepted(b"1u16", "tokens f.move"),
+        "1:  0..1  NumValue    1\n    1..4  Identifier  u16\n    4..4  EOF\n"
+    );
+    assert_eq!(
+        accepted(b"1u16", "--edition 2 tokens f.move"),
+        "1:  0..4  NumTypedValue  1u16\n    4..4  EOF\n"
+    );
+    assert_eq!(
+        accepted(b"/// a\n1_0", "--edition 2 comments f.move"),
+        "0..5  1:1  | a\n"
+    );
+    // what was found, what was due and what is noted are of the edition too
+    assert!(refused(b"1u16::a", "--edition 2 read name f.move").contains("found `1u16`"));
+    assert!(refused(b"(1_0::a 1_1", "--edition 2 read type f.move").contains("found `1_1`"));
+    assert!(refused(b"1_0 a", "--edition 2 read name f.move").contains("`::` behind a number"));
+    let (_, _, errors) = movesig(b"1_000", "--edition 2 line value f.move 2");
+    assert!(errors.contains("note: the offset is inside the token `1_000`"));
 }
 
 /// The completions, as bash takes them.
@@ -860,6 +916,15 @@ fn completions() {
         Some("binds")
     );
     assert_eq!(complete(&["movesig", "--j"]).as_deref(), Some("--json"));
+    assert_eq!(complete(&["movesig", "--e"]).as_deref(), Some("--edition"));
+    assert_eq!(
+        complete(&["movesig", "--edition", ""]).as_deref(),
+        Some("1 2")
+    );
+    assert_eq!(
+        complete(&["movesig", "--edition", "2", "line", "b"]).as_deref(),
+        Some("binds")
+    );
     assert_eq!(
         complete(&["movesig", "tokens", "/dev/nul"]).as_deref(),
         Some("/dev/null")

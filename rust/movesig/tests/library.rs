@@ -2,7 +2,7 @@
 
 use movesig::{
     comments, display, display_to_string, library_version, next_comment, next_token, read, tokens,
-    Kind, RecordKind, Refusal, Span, TokenKind, Tree, LEVELS, LONGEST, STACK,
+    Edition, Kind, RecordKind, Refusal, Span, TokenKind, Tree, LEVELS, LONGEST, STACK,
 };
 use std::error::Error;
 
@@ -11,19 +11,19 @@ fn span(start: usize, end: usize) -> Span {
 }
 
 fn token(text: &[u8]) -> Result<(u8, Span), Refusal> {
-    next_token(text, 0).map(|token| (token.kind.number(), token.span))
+    next_token(Edition::One, text, 0).map(|token| (token.kind.number(), token.span))
 }
 
 fn refused(kind: Kind, text: &[u8]) -> (u32, Span, Span) {
     let mut buffer = vec![7; LONGEST];
-    let refusal = read(kind, text, 0, &mut buffer).expect_err("this is refused");
-    assert_eq!(display_to_string(kind, text, 0), Err(refusal));
+    let refusal = read(kind, Edition::One, text, 0, &mut buffer).expect_err("this is refused");
+    assert_eq!(display_to_string(kind, Edition::One, text, 0), Err(refusal));
     assert!(buffer.iter().all(|&byte| byte == 7));
     (refusal.number(), refusal.place(), refusal.second())
 }
 
 fn line(kind: Kind, text: &[u8]) -> String {
-    display_to_string(kind, text, 0).expect("this is accepted")
+    display_to_string(kind, Edition::One, text, 0).expect("this is accepted")
 }
 
 #[test]
@@ -45,7 +45,7 @@ fn examples_of_tokens() {
 #[test]
 fn examples_of_items() {
     let mut buffer = [0xee; 20];
-    let item = read(Kind::Type, b"u8", 0, &mut buffer).expect("a type");
+    let item = read(Kind::Type, Edition::One, b"u8", 0, &mut buffer).expect("a type");
     let stored = [16, 0, 10, 0, 0, 0, 2, 0, 8, 0, 3, 0, 0, 0, 2, 0];
     assert_eq!(item.tree.as_bytes(), stored);
     assert!(item.next.is_eof());
@@ -53,7 +53,7 @@ fn examples_of_items() {
 
     // the tree that README.md shows byte by byte
     let mut buffer = [0; 32];
-    let item = read(Kind::Type, b"a<u8>", 0, &mut buffer).expect("a type");
+    let item = read(Kind::Type, Edition::One, b"a<u8>", 0, &mut buffer).expect("a type");
     let stored = [
         [0x20, 0, 0x0a, 0, 0, 0, 5, 0],
         [0x08, 0, 0x03, 0, 0, 0, 1, 0],
@@ -74,16 +74,25 @@ fn examples_of_items() {
 #[test]
 fn every_refusal() {
     let long = vec![b' '; LONGEST + 1];
-    assert_eq!(next_token(&long, 0), Err(Refusal::TextTooLong));
-    assert_eq!(next_comment(b"", 1), Err(Refusal::StartPastEnd));
-    assert_eq!(next_token(b"", usize::MAX), Err(Refusal::StartPastEnd));
+    assert_eq!(
+        next_token(Edition::One, &long, 0),
+        Err(Refusal::TextTooLong)
+    );
+    assert_eq!(
+        next_comment(Edition::One, b"", 1),
+        Err(Refusal::StartPastEnd)
+    );
+    assert_eq!(
+        next_token(Edition::One, b"", usize::MAX),
+        Err(Refusal::StartPastEnd)
+    );
     let room = &mut [0; 15];
     assert_eq!(
-        read(Kind::Type, b"u8", 0, room).err(),
+        read(Kind::Type, Edition::One, b"u8", 0, room).err(),
         Some(Refusal::NoRoom)
     );
     assert_eq!(
-        display(Kind::Type, b"u8", 0, &mut [0]),
+        display(Kind::Type, Edition::One, b"u8", 0, &mut [0]),
         Err(Refusal::NoRoom)
     );
 
@@ -114,13 +123,16 @@ fn spoiled_lines() {
             byte: span(byte, byte + 1),
         };
         for room in [0, 1, text.len(), LONGEST] {
-            let line = display(Kind::Value, text, 0, &mut buffer[..room]);
+            let line = display(Kind::Value, Edition::One, text, 0, &mut buffer[..room]);
             assert_eq!(line, Err(refusal));
         }
-        assert_eq!(display_to_string(Kind::Value, text, 0), Err(refusal));
+        assert_eq!(
+            display_to_string(Kind::Value, Edition::One, text, 0),
+            Err(refusal)
+        );
         assert!(!refusal.is_by_caller());
         assert_eq!(refusal.second(), refusal.place());
-        assert!(read(Kind::Value, text, 0, &mut buffer).is_ok());
+        assert!(read(Kind::Value, Edition::One, text, 0, &mut buffer).is_ok());
         assert_eq!(
             refusal.to_string(),
             format!(
@@ -132,10 +144,60 @@ fn spoiled_lines() {
     assert_eq!(line(Kind::Value, b"\tb\" ~\"\r\n"), "b\" ~\"");
 }
 
+/// What the editions tell apart: numbers with `_`, and the types `u16`, `u32` and `u256`.
+#[test]
+fn editions() {
+    let walk = |edition, text: &[u8]| -> Vec<(u8, usize, usize)> {
+        let tokens = tokens(edition, text, 0).map_while(Result::ok);
+        let all = tokens.map(|token| (token.kind.number(), token.span.start, token.span.end));
+        all.filter(|&(kind, ..)| kind != 0).collect()
+    };
+    let (one, two) = (Edition::One, Edition::Two);
+    assert_eq!(walk(one, b"1_000"), [(1, 0, 1), (4, 1, 5)]);
+    assert_eq!(walk(two, b"1_000"), [(1, 0, 5)]);
+    assert_eq!(walk(two, b"0x_1"), [(1, 0, 1), (4, 1, 4)]);
+    assert_eq!(walk(two, b"1_"), [(1, 0, 2)]);
+    assert_eq!(walk(two, b"1_u8"), [(2, 0, 4)]);
+    assert_eq!(walk(two, b"0xu16"), [(2, 0, 5)]);
+    assert_eq!(walk(two, b"1u2568"), [(2, 0, 5), (1, 5, 6)]);
+    assert_eq!(walk(one, b"1_x\"a\""), [(1, 0, 1), (4, 1, 3)]);
+    assert_eq!(walk(two, b"1_x\"a\""), [(1, 0, 2), (3, 2, 6)]);
+    for (suffix, length) in [("u16", 4), ("u32", 4), ("u256", 5)] {
+        let text = format!("1{suffix}");
+        assert_eq!(walk(one, text.as_bytes()), [(1, 0, 1), (4, 1, length)]);
+        assert_eq!(walk(two, text.as_bytes()), [(2, 0, length)]);
+    }
+
+    let shown = |edition, kind, text: &[u8]| display_to_string(kind, edition, text, 0);
+    assert_eq!(shown(one, Kind::Value, b"1_000").as_deref(), Ok("1"));
+    assert_eq!(shown(two, Kind::Value, b"1_000").as_deref(), Ok("1_000"));
+    assert_eq!(shown(two, Kind::Name, b"1_0 :: a").as_deref(), Ok("1_0::a"));
+    let refused = |edition, text: &[u8]| {
+        let refusal = shown(edition, Kind::Name, text).expect_err("this is refused");
+        (refusal.number(), refusal.place(), refusal.second())
+    };
+    assert_eq!(refused(one, b"1_0::a"), (10, span(1, 3), span(0, 1)));
+    assert_eq!(refused(two, b"1u16::a"), (10, span(0, 4), span(0, 4)));
+
+    // what stands behind an item's first token is of its edition too
+    for text in ["(u8, 1_0::a)", "& 1_0::a", "a<1_0::b>", "|1_0::a| 1_0::b"] {
+        assert_eq!(shown(two, Kind::Type, text.as_bytes()).as_deref(), Ok(text));
+        assert!(shown(one, Kind::Type, text.as_bytes()).is_err());
+    }
+
+    assert_eq!(Edition::ALL.map(Edition::number), [1, 2]);
+    assert_eq!(Refusal::NoSuchEdition.number(), 19);
+    assert!(Refusal::NoSuchEdition.is_by_caller());
+    let said = Refusal::NoSuchEdition.to_string();
+    assert_eq!(said, "refused 19: no such edition");
+}
+
 #[test]
 fn refusals_for_people() {
     let said = |text: &[u8]| {
-        let error: Box<dyn Error> = next_token(text, 0).expect_err("refused").into();
+        let error: Box<dyn Error> = next_token(Edition::One, text, 0)
+            .expect_err("refused")
+            .into();
         error.to_string()
     };
     assert_eq!(
@@ -153,12 +215,12 @@ fn refusals_for_people() {
 fn long_answers() {
     let flat = format!("({})", "a,".repeat(5_000));
     let mut buffer = vec![0; LONGEST];
-    let tree = read(Kind::Type, flat.as_bytes(), 0, &mut buffer);
+    let tree = read(Kind::Type, Edition::One, flat.as_bytes(), 0, &mut buffer);
     assert_eq!(tree.err(), Some(Refusal::NoRoom));
     assert_eq!(line(Kind::Type, flat.as_bytes()).len(), 15_000);
 
     let wide = format!("({})", "a,".repeat(30_000));
-    let line = display(Kind::Type, wide.as_bytes(), 0, &mut buffer);
+    let line = display(Kind::Type, Edition::One, wide.as_bytes(), 0, &mut buffer);
     assert_eq!(line, Err(Refusal::NoRoom));
 }
 
@@ -176,7 +238,7 @@ fn outline(tree: Tree) -> String {
 
 fn outlined(kind: Kind, text: &[u8]) -> String {
     outline(
-        read(kind, text, 0, &mut [0; 1_000])
+        read(kind, Edition::One, text, 0, &mut [0; 1_000])
             .expect("this is accepted")
             .tree,
     )
@@ -220,7 +282,7 @@ fn trees() {
 fn tree_views() {
     let text = b" (u8 , bool) {";
     let mut buffer = [0; 100];
-    let item = read(Kind::Type, text, 0, &mut buffer).expect("a type");
+    let item = read(Kind::Type, Edition::One, text, 0, &mut buffer).expect("a type");
     assert_eq!(item.next.kind, TokenKind::L_BRACE);
     assert_eq!(item.tree.span(), span(1, 12));
     assert_eq!(item.tree.text(), b"(u8 , bool)");
@@ -237,7 +299,7 @@ fn tree_views() {
 
 #[test]
 fn walks() {
-    let kinds: Vec<TokenKind> = tokens(b"a<b>>c", 0)
+    let kinds: Vec<TokenKind> = tokens(Edition::One, b"a<b>>c", 0)
         .map(|token| token.expect("a token").kind)
         .collect();
     assert_eq!(
@@ -252,12 +314,12 @@ fn walks() {
         ]
     );
     assert_eq!(
-        tokens(b"a", 7).collect::<Vec<_>>(),
+        tokens(Edition::One, b"a", 7).collect::<Vec<_>>(),
         [Err(Refusal::StartPastEnd)]
     );
 
     let text = b"/** a */ /// b\n x /* no */ /// c\r\n y $ /// d";
-    let found: Vec<Result<&[u8], u32>> = comments(text, 0)
+    let found: Vec<Result<&[u8], u32>> = comments(Edition::One, text, 0)
         .map(|comment| match comment {
             Ok(comment) => Ok(comment.text.of(text)),
             Err(refusal) => Err(refusal.number()),
@@ -273,8 +335,9 @@ fn small_stack() {
     let read = move || {
         let mut buffer = vec![0; LONGEST];
         let text = deep.as_bytes();
-        let read = read(Kind::LambdaBindList, text, 0, &mut buffer).map(|item| item.next);
-        let shown = display(Kind::LambdaBindList, text, 0, &mut buffer).is_ok();
+        let read =
+            read(Kind::LambdaBindList, Edition::One, text, 0, &mut buffer).map(|item| item.next);
+        let shown = display(Kind::LambdaBindList, Edition::One, text, 0, &mut buffer).is_ok();
         (read.is_ok(), shown)
     };
     let thread = std::thread::Builder::new().stack_size(STACK + (1 << 14));
@@ -343,7 +406,11 @@ fn names_of_the_header() {
         .collect();
     let items: Vec<_> = names.into_iter().zip(numbers).collect();
     assert_eq!(section("movesig_item"), items);
-    assert_eq!(section("movesig_result").len(), 16);
+    assert_eq!(section("movesig_result").len(), 17);
+    let editions = [("edition1".to_string(), 1), ("edition2".to_string(), 2)];
+    assert_eq!(section("movesig_edition"), editions);
+    let numbers: Vec<_> = Edition::ALL.map(|edition| edition.number() as usize).into();
+    assert_eq!(numbers, [1, 2]);
     let records: Vec<_> = RecordKind::ALL
         .iter()
         .map(|kind| (plain(&format!("{kind:?}")), kind.number() as usize))

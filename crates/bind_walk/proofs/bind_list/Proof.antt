@@ -10,13 +10,13 @@ use Rattle.bind_walk.proofs.bind_list.Statement.{statement}
 use Rattle.bind_walk.proofs.bind_list.Tie as tie
 
 abbrev Inv-loop : tie.InvT-loop
-Inv-loop w close text o out₀ i₀ to₀ count₀ out i to count = Going (w .form) text (readBind (w .left)) close o to₀ out₀ i to count out
+Inv-loop w close text o out₀ i₀ to₀ count₀ out i to count = Going (w .form) (w .edition) text (readBind (w .left)) close o to₀ out₀ i to count out
 
 abbrev μ-loop : tie.MeasureT-loop
 μ-loop w close text o out₀ i₀ to₀ count₀ out i to count = length text - i
 
 loop-holds : tie.Need-loop-holds Inv-loop μ-loop
-loop-holds c = going-first _ _ _ _ _ _ _ (c .move-by .ensures) _ (omega (arith, c .before .before .before .good .1 .1 .1 .1 .0 .0))
+loop-holds c = going-first _ _ _ _ _ _ _ _ (c .move-by .ensures) _ (omega (arith, c .before .before .before .good .1 .1 .1 .1 .0 .0))
 
 same-length : tie.Need-same-length Inv-loop μ-loop
 same-length c =
@@ -27,7 +27,7 @@ returns : tie.Need-returns Inv-loop μ-loop
 returns c =
     let c₁ = c .before .before .before .before .before in
     let c₂ = c₁ .before .before .before .before .before .before in
-    step-stopped _ _ _ _ _ _ _ (c₁ .before .before .before .move-by .ensures) _ (omega (arith, c₂ .good .1 .1 .1 .1 .0 .0)) _ _ _ _ (c₁ .before .before .loop .inv) _ _ _ (c₁ .bind-step .ensures) (c .before .c .given .1)
+    step-stopped _ _ _ _ _ _ _ _ (c₁ .before .before .before .move-by .ensures) _ (omega (arith, c₂ .good .1 .1 .1 .1 .0 .0)) _ _ _ _ (c₁ .before .before .loop .inv) _ _ _ (c₁ .bind-step .ensures) (c .before .c .given .1)
 
 same-length-2 : tie.Need-same-length-2 Inv-loop μ-loop
 same-length-2 c =
@@ -38,7 +38,7 @@ returns-2 : tie.Need-returns-2 Inv-loop μ-loop
 returns-2 c =
     let c₁ = c .before .before .before .before .before .before in
     let c₂ = c₁ .before .before .before .before .before .before in
-    step-closes _ _ _ _ _ _ _ (c₁ .before .before .before .move-by .ensures) _ (omega (arith, c₂ .good .1 .1 .1 .1 .0 .0)) _ _ _ _ (c₁ .before .before .loop .inv) _ _ _ _ (c₁ .bind-step .ensures)
+    step-closes _ _ _ _ _ _ _ _ (c₁ .before .before .before .move-by .ensures) _ (omega (arith, c₂ .good .1 .1 .1 .1 .0 .0)) _ _ _ _ (c₁ .before .before .loop .inv) _ _ _ _ (c₁ .bind-step .ensures)
     (c .before .before .c2 .given .1) (c .close-list .ensures)
 
 same-length-3 : tie.Need-same-length-3 Inv-loop μ-loop
@@ -50,14 +50,14 @@ returns-3 : tie.Need-returns-3 Inv-loop μ-loop
 returns-3 c =
     let c₁ = c .before .before .before .before .before .before .before in
     let c₂ = c₁ .before .before .before .before .before .before in
-    step-last _ _ _ _ _ _ _ (c₁ .before .before .before .move-by .ensures) _ (omega (arith, c₂ .good .1 .1 .1 .1 .0 .0)) _ _ _ _ (c₁ .before .before .loop .inv) _ _ _ _ _ (c .before .count-more .ensures)
+    step-last _ _ _ _ _ _ _ _ (c₁ .before .before .before .move-by .ensures) _ (omega (arith, c₂ .good .1 .1 .1 .1 .0 .0)) _ _ _ _ (c₁ .before .before .loop .inv) _ _ _ _ _ (c .before .count-more .ensures)
     (c₁ .bind-step .ensures) _ (c .before .before .before .c3 .given .1) (c .close-list2 .ensures)
 
 loop-less : tie.Need-loop-less Inv-loop μ-loop
 loop-less c =
     let c₁ = c .before .before .before .before .before .before in
     let c₂ = c₁ .before .before .before .before .before .before in
-    let d = step-on _ _ _ _ _ _ _ (c₁ .before .before .before .move-by .ensures) _ (omega (arith, c₂ .good .1 .1 .1 .1 .0 .0)) _ _ _ _ (c₁ .before .before .loop .inv) _ _ _ _ _ (c .count-more2 .ensures)
+    let d = step-on _ _ _ _ _ _ _ _ (c₁ .before .before .before .move-by .ensures) _ (omega (arith, c₂ .good .1 .1 .1 .1 .0 .0)) _ _ _ _ (c₁ .before .before .loop .inv) _ _ _ _ _ (c .count-more2 .ensures)
     (c₁ .bind-step .ensures) (c .before .before .c4 .given .1) in
     omega (arith, d .0, d .1)
 
@@ -65,7 +65,7 @@ loop-again : tie.Need-loop-again Inv-loop μ-loop
 loop-again c =
     let c₁ = c .before .before .before .before .before .before in
     let c₂ = c₁ .before .before .before .before .before .before in
-    step-goes _ _ _ _ _ _ _ (c₁ .before .before .before .move-by .ensures) _ (omega (arith, c₂ .good .1 .1 .1 .1 .0 .0)) _ _ _ _ (c₁ .before .before .loop .inv) _ _ _ _ _ (c .count-more2 .ensures)
+    step-goes _ _ _ _ _ _ _ _ (c₁ .before .before .before .move-by .ensures) _ (omega (arith, c₂ .good .1 .1 .1 .1 .0 .0)) _ _ _ _ (c₁ .before .before .loop .inv) _ _ _ _ _ (c .count-more2 .ensures)
     (c₁ .bind-step .ensures) (c .before .before .c4 .given .1)
 
 pub bind-list-spec : {M : Type 1} → statement M

@@ -5,10 +5,10 @@ use Rattle.bind_walk.proofs.bind_step.Statement.{statement}
 use Rattle.bind_walk.proofs.bind_step.Tie as tie
 
 returns : tie.Need-returns
-returns c = steps-refused _ _ _ _ _ _ _ _ _ _ (sym (c .before .before .before .next-item .ensures) ∙ c .before .b .given .1)
+returns c = steps-refused _ _ _ _ _ _ _ _ _ _ _ (sym (c .before .before .before .next-item .ensures) ∙ c .before .b .given .1)
 
 returns-2 : tie.Need-returns-2
-returns-2 c = steps-closes _ _ _ _ _ _ _ _ _ _ (sym (c .before .before .before .next-item .ensures) ∙ c .before .b2 .given .1)
+returns-2 c = steps-closes _ _ _ _ _ _ _ _ _ _ _ (sym (c .before .before .before .next-item .ensures) ∙ c .before .b2 .given .1)
 
 same-length : tie.Need-same-length
 same-length c =
@@ -19,7 +19,7 @@ returns-3 : tie.Need-returns-3
 returns-3 c =
     let c₁ = c .before .before .before .before .before .before .before in
     let c₂ = c₁ .before .before .before .before .before in
-    steps-item _ _ _ _ _ _ _ _ _ _ _ _ (sym (c₂ .next-item .ensures) ∙ c₁ .before .before .before .b3 .given .1)
+    steps-item _ _ _ _ _ _ _ _ _ _ _ _ _ (sym (c₂ .next-item .ensures) ∙ c₁ .before .before .before .b3 .given .1)
     (record { from = _; parted = _; between = c₁ .put-between .ensures; part = _; reads = c .before .before .before .parse-bind .ensures; is = c .after-item .ensures })
 
 pub bind-step-spec : {M : Type 1} → statement M

@@ -18,7 +18,7 @@ returns c =
     let c₂ = c₁ .before .before .before .before .before .before in
     let c₃ = c₂ .before .before .before .before .before .before in
     let x = c₃ .before .before .before .args in
-    binds-one (x .w .form) (now (x .text)) (x .a) (x .s) _ (now (x .out)) _ (omega (arith, c₃ .before .before .before .good .1 .1 .1 .0 .0)) (c₃ .step-inside .ensures) (c₂ .if1 .taken) _ _ _ _ _ _ _
+    binds-one (x .w .form) (x .w .edition) (now (x .text)) (x .a) (x .s) _ (now (x .out)) _ (omega (arith, c₃ .before .before .before .good .1 .1 .1 .0 .0)) (c₃ .step-inside .ensures) (c₂ .if1 .taken) _ _ _ _ _ _ _
     (c₂ .before .before .before .before .put-mark .ensures) (c₁ .before .before .before .before .parse-bind .ensures) (c₁ .end-part .ensures) (c .before .before .close-record .ensures)
 
 same-length-2 : tie.Need-same-length-2
@@ -35,7 +35,7 @@ returns-2 c =
     let c₃ = c₂ .before .before .before .before .before .before in
     let c₄ = c₃ .before .before .before .before .before in
     let x = c₄ .args in
-    binds-many (x .w .form) (now (x .text)) (x .a) (x .s) _ (now (x .out)) _ (omega (arith, c₄ .good .1 .1 .1 .0 .0)) (c₃ .before .before .step-inside .ensures) (c₂ .before .before .if1 .left) _ _ _ _ _ _ _ _
+    binds-many (x .w .form) (x .w .edition) (now (x .text)) (x .a) (x .s) _ (now (x .out)) _ (omega (arith, c₄ .good .1 .1 .1 .0 .0)) (c₃ .before .before .step-inside .ensures) (c₂ .before .before .if1 .left) _ _ _ _ _ _ _ _
     (c₃ .put-mark .ensures) (c₂ .bind-list .ensures) (c₁ .before .before .part-of .ensures) (c₁ .end-part2 .ensures) (c .before .before .close-record2 .ensures)
 
 pub parse-bind-list-spec : {M : Type 1} → statement M

@@ -9,7 +9,7 @@ use Rattle.bind_walk.proofs.parse_lambda_bind_list.Tie as tie
 returns : tie.Need-returns
 returns c =
     let x = c .before .before .before .before .before .args in
-    lambda-other (x .w .form) (now (x .text)) (x .a) (x .s) (now (x .out)) _ _ (c .before .if1 .taken) (c .unexpected .ensures)
+    lambda-other (x .w .form) (x .w .edition) (now (x .text)) (x .a) (x .s) (now (x .out)) _ _ (c .before .if1 .taken) (c .unexpected .ensures)
 
 same-length : tie.Need-same-length
 same-length c = c .before .before .before .before .before .bind-list .kept .1 .1 .1 .1 .0 ∙ c .before .before .before .before .before .before .before .before .before .put-mark .kept .1 .1 .0
@@ -19,7 +19,7 @@ returns-2 c =
     let c₁ = c .before .before .before .before .before in
     let c₂ = c₁ .before .before .before .before .before .before .before in
     let x = c₂ .before .before .before .before .args in
-    lambda-refused (x .w .form) (now (x .text)) (x .a) (x .s) (now (x .out)) (c₂ .if1 .left) _ _ _ _ (c₁ .bind-list .ensures) _ (c .before .l .given .1)
+    lambda-refused (x .w .form) (x .w .edition) (now (x .text)) (x .a) (x .s) (now (x .out)) (c₂ .if1 .left) _ _ _ _ (c₁ .bind-list .ensures) _ (c .before .l .given .1)
 
 same-length-2 : tie.Need-same-length-2
 same-length-2 c =
@@ -34,7 +34,7 @@ returns-3 c =
     let c₃ = c₂ .before .before .before .before .before .before .before .before in
     let c₄ = c₃ .before .before .before .before .before .before .before in
     let x = c₄ .args in
-    lambda-read (x .w .form) (now (x .text)) (x .a) (x .s) (now (x .out)) (c₃ .before .before .before .if1 .left) _ _ _ _ (c₂ .before .before .before .before .bind-list .ensures) _ (omega (arith, c₄ .good .1 .1 .1 .0 .0)) (c₃ .before .before .step-inside .ensures)
+    lambda-read (x .w .form) (x .w .edition) (now (x .text)) (x .a) (x .s) (now (x .out)) (c₃ .before .before .before .if1 .left) _ _ _ _ (c₂ .before .before .before .before .bind-list .ensures) _ (omega (arith, c₄ .good .1 .1 .1 .0 .0)) (c₃ .before .before .step-inside .ensures)
     (c₃ .put-mark .ensures) _ (c₂ .l2 .given .1) _ _ _ (c₁ .close-bars .ensures) (c .before .before .seal .ensures)
 
 pub parse-lambda-bind-list-spec : {M : Type 1} → statement M

@@ -10,7 +10,7 @@ returns c =
     let c₁ = c .before .before .before .before .before .before .before in
     let c₂ = c₁ .before .before .before .before .before .before .before .before in
     let x = c₂ .args in
-    types-enclosed (x .w .form) (now (x .text)) (x .w .left) (x .o) (x .s) _ (now (x .out)) _ _ _ _ _ _ (omega (arith, c₂ .good .1 .1 .1 .0 .0)) (c₁ .before .before .before .before .put-mark .ensures)
+    types-enclosed (x .w .form) (x .w .edition) (now (x .text)) (x .w .left) (x .o) (x .s) _ (now (x .out)) _ _ _ _ _ _ (omega (arith, c₂ .good .1 .1 .1 .0 .0)) (c₁ .before .before .before .before .put-mark .ensures)
     (c₁ .parse-type-args .ensures) (c .before .before .before .before .part-of .ensures) (c .before .before .end-part .ensures)
 
 pub types-at-spec : {M : Type 1} → statement M

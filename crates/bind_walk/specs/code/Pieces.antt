@@ -76,21 +76,21 @@ headedBy f k start s (Read p) l = sealed f k start (p .end) s (p .to) l
 headedBy f k start s (Refused r) l = l
 
 -- a contract as `Reads`, of what is laid down by `lay`
-pub record HadBy {A : Type 0} (lay : A → List ℕ) (text : List ℕ) (x : Ans A) (s : Spot) (l : List ℕ) (p : Part) (m : List ℕ) : Type 0 where
+pub record HadBy {A : Type 0} (lay : A → List ℕ) (ed : ℕ) (text : List ℕ) (x : Ans A) (s : Spot) (l : List ℕ) (p : Part) (m : List ℕ) : Type 0 where
   pub what : A
-  pub is : x ≡ ok what (opened text (p .end))
+  pub is : x ≡ ok what (opened ed text (p .end))
   pub bytes : Placed l s (lay what) (p .to) m
 
-unfoldable pub MeetsBy : {A : Type 0} → (A → List ℕ) → List ℕ → Ans A → Spot → List ℕ → Parsed → List ℕ → Type 0
-MeetsBy lay text x s l (Read p) m = HadBy lay text x s l p m
-MeetsBy lay text x s l (Refused r) m = Refuses x r
+unfoldable pub MeetsBy : {A : Type 0} → (A → List ℕ) → ℕ → List ℕ → Ans A → Spot → List ℕ → Parsed → List ℕ → Type 0
+MeetsBy lay ed text x s l (Read p) m = HadBy lay ed text x s l p m
+MeetsBy lay ed text x s l (Refused r) m = Refuses x r
 
-pub record ReadsBy {A : Type 0} (lay : A → List ℕ) (text : List ℕ) (fits : Type 0) (x : Ans A) (from : ℕ) (s : Spot) (l : List ℕ) (r : Parsed) (m : List ℕ) : Type 0 where
-  pub meets : (fits → MeetsBy lay text x s l r m)
-  pub goes : Follows text from r
+pub record ReadsBy {A : Type 0} (lay : A → List ℕ) (ed : ℕ) (text : List ℕ) (fits : Type 0) (x : Ans A) (from : ℕ) (s : Spot) (l : List ℕ) (r : Parsed) (m : List ℕ) : Type 0 where
+  pub meets : (fits → MeetsBy lay ed text x s l r m)
+  pub goes : Follows ed text from r
 
 -- the types of a struct behind its name p: none where no `<` stands there; and, whatever stands there, reading does not go on before it
-pub record TypesBehind (f : ℕ) (text : List ℕ) (n : ℕ) (p : Part) (l : List ℕ) (r : Parsed) (m : List ℕ) : Type 0 where
+pub record TypesBehind (f ed : ℕ) (text : List ℕ) (n : ℕ) (p : Part) (l : List ℕ) (r : Parsed) (m : List ℕ) : Type 0 where
   pub plain : ((p .next .kind ≡ Less → ⊥) → (r ≡ Read p) × (m ≡ l))
-  pub typed : (p .next .kind ≡ Less → ReadsBy (angled f) text (Fits text (p .next)) (listBehind (readType n) Greater (held text (p .next))) (p .next .end) (p .to) l r m)
+  pub typed : (p .next .kind ≡ Less → ReadsBy (angled f) ed text (Fits text (p .next)) (listBehind (readType n) Greater (held ed text (p .next))) (p .next .end) (p .to) l r m)
   pub past : Past (p .next .end) r

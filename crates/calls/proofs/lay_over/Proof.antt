@@ -7,22 +7,22 @@ use Rattle.calls.proofs.lay_over.Tie as tie
 returns : tie.Need-returns
 returns c =
     let x = c .before .before .before .before .before .before .before .before .before .before .before .before .before .before .before .before .args in
-    lay-long (x .form) (x .kind) (now (x .text)) (x .a) _ (c .before .before .before .before .before .before .before .before .before .before .before .at-start .ensures) (now (x .made)) _ (now (x .out)) _ _
+    lay-long (x .form) (x .kind) (x .edition) (now (x .text)) (x .a) _ (c .before .before .before .before .before .before .before .before .before .before .before .at-start .ensures) (now (x .made)) _ (now (x .out)) _ _
     (c .before .before .before .before .before .before .before .before .before .before .parse-item .ensures)
     (c .before .before .before .before .before .before .d2 .given .1) _ (c .before .before .too-long .ensures) _ (c .before .if1 .taken) (c .refused .ensures)
 
 returns-2 : tie.Need-returns-2
 returns-2 c =
     let x = c .before .before .before .before .before .before .before .before .before .before .before .args in
-    lay-refused (x .form) (x .kind) (now (x .text)) (x .a) _ (c .before .before .before .before .before .before .at-start .ensures) (now (x .made)) _ (now (x .out)) _ _
+    lay-refused (x .form) (x .kind) (x .edition) (now (x .text)) (x .a) _ (c .before .before .before .before .before .before .at-start .ensures) (now (x .made)) _ (now (x .out)) _ _
     (c .before .before .before .before .before .parse-item .ensures) (c .before .d .given .1)
 
 returns-3 : tie.Need-returns-3
 returns-3 c =
     let x = c .before .before .before .before .before .before .before .before .before .before .before .before .before .before .before .before .before .before .before .before .args in
     let d = c .before .before .before .before .before .before .before .before .before .before .before .before .before .before .parse-item in
-    lay-done (x .form) (x .kind) (now (x .text)) (x .a) _ (c .before .before .before .before .before .before .before .before .before .before .before .before .before .before .before .at-start .ensures) (now (x .made)) _ (now (x .out)) _ _
-    (d .ensures) (c .before .before .before .before .before .before .before .before .before .before .d2 .given .1) _ (c .before .before .before .before .before .before .too-long .ensures) _ (c .before .before .before .before .before .if1 .left) (d .kept .1 .1 .1 .1 .0) (c .before .before .write-item .ensures)
+    lay-done (x .form) (x .kind) (x .edition) (now (x .text)) (x .a) _ (c .before .before .before .before .before .before .before .before .before .before .before .before .before .before .before .at-start .ensures) (now (x .made)) _ (now (x .out)) _ _
+    (d .ensures) (c .before .before .before .before .before .before .before .before .before .before .d2 .given .1) _ (c .before .before .before .before .before .before .too-long .ensures) _ (c .before .before .before .before .before .if1 .left) (d .kept .1 .1 .1 .1 .1 .0) (c .before .before .write-item .ensures)
 
 pub lay-over-spec : {M : Type 1} → statement M
 lay-over-spec =

@@ -12,12 +12,12 @@ slice-aggregate-copy c = sym (length-take-le (c .before .before .before .before 
 returns : tie.Need-returns
 returns c =
     let x = c .before .before .before .before .before .before .before .before .before .args in
-    write-copied (x .form) (x .kind) (now (x .text)) (x .a) (now (x .out)) _ (x .n) (now (x .made)) (c .before .before .before .before .before .if1 .taken) (c .before .before .copy .ensures)
+    write-copied (x .form) (x .kind) (x .edition) (now (x .text)) (x .a) (now (x .out)) _ (x .n) (now (x .made)) (c .before .before .before .before .before .if1 .taken) (c .before .before .copy .ensures)
 
 returns-2 : tie.Need-returns-2
 returns-2 c =
     let x = c .before .before .before .before .before .before .before .before .before .args in
-    write-again (x .form) (x .kind) (now (x .text)) (x .a) (now (x .out)) _ (x .n) (now (x .made)) _ _ (c .before .before .before .at-start .ensures) (c .before .before .parse-item .ensures)
+    write-again (x .form) (x .kind) (x .edition) (now (x .text)) (x .a) (now (x .out)) _ (x .n) (now (x .made)) _ _ (c .before .before .before .at-start .ensures) (c .before .before .parse-item .ensures)
 
 pub write-item-spec : {M : Type 1} → statement M
 write-item-spec =

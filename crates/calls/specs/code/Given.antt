@@ -36,13 +36,13 @@ abbrev pub atStart : Spot
 atStart = record { pos = 0; low = 0 }
 
 -- the item of a kind whose first token is a
-abbrev pub itemFrom : ℕ → List ℕ → First → Item
-itemFrom kind text a = finished (readKind kind (held text a))
+abbrev pub itemFrom : ℕ → ℕ → List ℕ → First → Item
+itemFrom kind ed text a = finished (readKind kind (held ed text a))
 
 -- an item that is accepted is written in front of the buffer l, which becomes m: n is its length, and `made` begins with its bytes if
 -- it has so many
-abbrev pub Writes : ℕ → ℕ → List ℕ → First → ℕ → List ℕ → List ℕ → List ℕ → Type 0
-Writes form kind text a n made l m = Fits text a → (x : Tree) (t : Token) → itemFrom kind text a ≡ item x t → (n ≤ length made → take n made ≡ laid form x) → m ≡ sets l 0 (laid form x)
+abbrev pub Writes : ℕ → ℕ → ℕ → List ℕ → First → ℕ → List ℕ → List ℕ → List ℕ → Type 0
+Writes form kind ed text a n made l m = Fits text a → (x : Tree) (t : Token) → itemFrom kind ed text a ≡ item x t → (n ≤ length made → take n made ≡ laid form x) → m ≡ sets l 0 (laid form x)
 
 -- the answer for an item i in a form, over a buffer l that becomes m
 pub record Gives (form : ℕ) (i : Item) (l : List ℕ) (r : Answer) (m : List ℕ) : Type 0 where
@@ -50,11 +50,11 @@ pub record Gives (form : ℕ) (i : Item) (l : List ℕ) (r : Answer) (m : List �
   pub buffer : m ≡ written form (roomed form (length l) i) l
 
 -- for the item of a first token, where that fits; and for the item at an offset, where the token is the one found there
-abbrev pub Lays : ℕ → ℕ → List ℕ → First → List ℕ → Answer → List ℕ → Type 0
-Lays form kind text a l r m = Fits text a → Gives form (itemFrom kind text a) l r m
+abbrev pub Lays : ℕ → ℕ → ℕ → List ℕ → First → List ℕ → Answer → List ℕ → Type 0
+Lays form kind ed text a l r m = Fits text a → Gives form (itemFrom kind ed text a) l r m
 
-abbrev pub Calls : ℕ → ℕ → List ℕ → ℕ → Lexed → List ℕ → Answer → List ℕ → Type 0
-Calls form kind text at first l r m = first ≡ nextToken text at → Gives form (readItem kind text at) l r m
+abbrev pub Calls : ℕ → ℕ → ℕ → List ℕ → ℕ → Lexed → List ℕ → Answer → List ℕ → Type 0
+Calls form kind ed text at first l r m = first ≡ nextToken ed text at → Gives form (readItem kind ed text at) l r m
 
 -- where the bytes of a token that a line can hold end
 abbrev pub shownEnd : List ℕ → First → ℕ
@@ -79,10 +79,10 @@ inPlace q (refused r) = refused r
 abbrev pub replacedBy : Refusal → Refusal → Displayed
 replacedBy q r = Undisplayed (cond (eqb (r .number) NoRoom) q r)
 
-abbrev pub SpoiledFrom : ℕ → List ℕ → ℕ → Lexed → Refusal → Displayed → Type 0
-SpoiledFrom kind text at first q d = first ≡ nextToken text at → d ≡ displayed (inPlace q (readItem kind text at))
+abbrev pub SpoiledFrom : ℕ → ℕ → List ℕ → ℕ → Lexed → Refusal → Displayed → Type 0
+SpoiledFrom kind ed text at first q d = first ≡ nextToken ed text at → d ≡ displayed (inPlace q (readItem kind ed text at))
 
 -- the display with the token that is found at the offset
-pub record Displays (kind : ℕ) (text : List ℕ) (at : ℕ) (first : Lexed) (l : List ℕ) (r : Displayed) (m : List ℕ) : Type 0 where
-  pub answer : (first ≡ nextToken text at → r ≡ displayed (display kind text at (length l)))
-  pub buffer : (first ≡ nextToken text at → m ≡ displayBuffer kind text at l)
+pub record Displays (kind ed : ℕ) (text : List ℕ) (at : ℕ) (first : Lexed) (l : List ℕ) (r : Displayed) (m : List ℕ) : Type 0 where
+  pub answer : (first ≡ nextToken ed text at → r ≡ displayed (display kind ed text at (length l)))
+  pub buffer : (first ≡ nextToken ed text at → m ≡ displayBuffer kind ed text at l)

@@ -8,19 +8,19 @@ use Rattle.chains.proofs.last_part.Tie as tie
 returns : tie.Need-returns
 returns c =
     let x = c .before .before .before .before .before .before .before .before .before .args in
-    last-other (x .w .form) (now (x .text)) (x .s) (now (x .out)) _ (x .a) (x .b) (x .d) _ _
+    last-other (x .w .form) (x .w .edition) (now (x .text)) (x .s) (now (x .out)) _ (x .a) (x .b) (x .d) _ _
     (sym (c .before .before .before .before .before .before .next-token .ensures) ∙ c .before .before .before .before .l2 .given .1) (c .before .if1 .taken)
     (c .unexpected .ensures)
 
 returns-2 : tie.Need-returns-2
 returns-2 c =
     let x = c .before .before .before .before .before .before .args in
-    last-bad (x .w .form) (now (x .text)) (x .s) (now (x .out)) _ (x .a) (x .b) (x .d) _ (sym (c .before .before .before .next-token .ensures) ∙ c .before .l .given .1)
+    last-bad (x .w .form) (x .w .edition) (now (x .text)) (x .s) (now (x .out)) _ (x .a) (x .b) (x .d) _ (sym (c .before .before .before .next-token .ensures) ∙ c .before .l .given .1)
 
 returns-3 : tie.Need-returns-3
 returns-3 c =
     let x = c .before .before .before .before .before .before .before .before .before .before .before .before .before .args in
-    last-three (x .w .form) (now (x .text)) (x .s) (now (x .out)) _ (x .a) (x .b) (x .d) _ _ _
+    last-three (x .w .form) (x .w .edition) (now (x .text)) (x .s) (now (x .out)) _ (x .a) (x .b) (x .d) _ _ _
     (sym (c .before .before .before .before .before .before .before .before .before .before .next-token .ensures) ∙ c .before .before .before .before .before .before .before .before .l2 .given .1)
     (c .before .before .before .before .before .if1 .left) (c .before .before .before .put-three .ensures) (c .finish .ensures)
 

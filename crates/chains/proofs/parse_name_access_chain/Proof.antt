@@ -9,14 +9,14 @@ use Rattle.chains.proofs.parse_name_access_chain.Tie as tie
 returns : tie.Need-returns
 returns c =
     let x = c .before .before .before .before .before .args in
-    chain-other (x .w .form) (now (x .text)) (x .s) (now (x .out)) _ (x .a) _ _ (c .before .before .is-first .ensures) (not-true _ (c .before .if1 .taken)) (c .unexpected .ensures)
+    chain-other (x .w .form) (x .w .edition) (now (x .text)) (x .s) (now (x .out)) _ (x .a) _ _ (c .before .before .is-first .ensures) (not-true _ (c .before .if1 .taken)) (c .unexpected .ensures)
 
 returns-2 : tie.Need-returns-2
 returns-2 c =
     let c₁ = c .before .before .before .before in
     let c₂ = c₁ .before .before .before .before in
     let x = c₂ .args in
-    chain-bad (x .w .form) (now (x .text)) (x .s) (now (x .out)) _ (x .a) _ (c₁ .before .is-first .ensures) (not-false _ (c₁ .if1 .left)) _
+    chain-bad (x .w .form) (x .w .edition) (now (x .text)) (x .s) (now (x .out)) _ (x .a) _ (c₁ .before .is-first .ensures) (not-false _ (c₁ .if1 .left)) _
     (sym (c .before .before .before .next-token .ensures) ∙ c .before .l .given .1)
 
 returns-3 : tie.Need-returns-3

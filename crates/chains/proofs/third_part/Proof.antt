@@ -8,19 +8,19 @@ use Rattle.chains.proofs.third_part.Tie as tie
 returns : tie.Need-returns
 returns c =
     let x = c .before .before .before .before .before .before .before .before .before .before .before .before .args in
-    third-more (x .w .form) (now (x .text)) (x .s) (now (x .out)) _ (x .a) (x .b) _ _
+    third-more (x .w .form) (x .w .edition) (now (x .text)) (x .s) (now (x .out)) _ (x .a) (x .b) _ _
     (sym (c .before .before .before .before .before .before .before .before .before .next-token .ensures) ∙ c .before .before .before .before .before .before .before .l2 .given .1)
     (c .before .before .before .before .if1 .taken) (c .before .before .last-part .ensures)
 
 returns-2 : tie.Need-returns-2
 returns-2 c =
     let x = c .before .before .before .before .before .before .args in
-    third-bad (x .w .form) (now (x .text)) (x .s) (now (x .out)) _ (x .a) (x .b) _ (sym (c .before .before .before .next-token .ensures) ∙ c .before .l .given .1)
+    third-bad (x .w .form) (x .w .edition) (now (x .text)) (x .s) (now (x .out)) _ (x .a) (x .b) _ (sym (c .before .before .before .next-token .ensures) ∙ c .before .l .given .1)
 
 returns-3 : tie.Need-returns-3
 returns-3 c =
     let x = c .before .before .before .before .before .before .before .before .before .before .before .before .args in
-    third-two (x .w .form) (now (x .text)) (x .s) (now (x .out)) _ (x .a) (x .b) _ _
+    third-two (x .w .form) (x .w .edition) (now (x .text)) (x .s) (now (x .out)) _ (x .a) (x .b) _ _
     (sym (c .before .before .before .before .before .before .before .before .before .next-token .ensures) ∙ c .before .before .before .before .before .before .before .l2 .given .1)
     (c .before .before .before .before .if1 .left) (c .before .before .put-pair .ensures)
 

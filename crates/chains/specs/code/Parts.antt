@@ -55,6 +55,6 @@ Past e (Refused r) = Unit {0}
 
 -- a contract, as `Reads`, of a function that is given the token d behind its first one: where d is that token and a name may begin with
 -- a the answer is what x says; and, whatever they are, reading does not go on before the end of d
-pub record ReadsBehind (form : ℕ) (text : List ℕ) (a d : Token) (x : Ans Tree) (s : Spot) (l : List ℕ) (r : Parsed) (m : List ℕ) : Type 0 where
-  pub reads : (nextToken text (a .end) ≡ Found d → begins a ≡ true → Reads form text (Fits text a) x (a .end) s l r m)
+pub record ReadsBehind (form ed : ℕ) (text : List ℕ) (a d : Token) (x : Ans Tree) (s : Spot) (l : List ℕ) (r : Parsed) (m : List ℕ) : Type 0 where
+  pub reads : (nextToken ed text (a .end) ≡ Found d → begins a ≡ true → Reads form ed text (Fits text a) x (a .end) s l r m)
   pub past : Past (d .end) r

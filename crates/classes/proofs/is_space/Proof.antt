@@ -14,13 +14,13 @@ told-requires-2 c κs = (c .before .before .before .before .class-table .ensures
 
 returns : tie.Need-returns
 unfolding properties
-returns c = told-low _ (c .before .before .before .before .fits .b .fits) 7 (omega arith) (sym (c .before .told .ensures) ∙ c .if1 .taken)
+returns c = told-low _ (c .before .before .before .before .fits .b .fits) 9 (omega arith) (sym (c .before .told .ensures) ∙ c .if1 .taken)
 
 returns-2 : tie.Need-returns-2
 unfolding properties
 returns-2 c =
     let first = c .before .before in
-    told-high _ (first .before .before .before .before .fits .b .fits) 7 _ (omega arith) (sym (first .before .told .ensures) ∙ first .if1 .left)
+    told-high _ (first .before .before .before .before .fits .b .fits) 9 _ (omega arith) (sym (first .before .told .ensures) ∙ first .if1 .left)
     (c .told2 .ensures)
 
 pub is-space-spec : {M : Type 1} → statement M

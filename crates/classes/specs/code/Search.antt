@@ -16,6 +16,6 @@ toldIn lo hi k b = among lo hi b && tells k b
 unfoldable pub entryIn : ℕ → ℕ → ℕ → ℕ
 entryIn lo hi b = cond (among lo hi b) (entryOf b) 0
 
--- the property of the class that has the number k
+-- the property of the class that has the number k; any other number has that of no byte
 unfoldable pub known : ℕ → ℕ
-known k = cond (ltb k 5) k 5
+known k = cond (leb k 7) k 13

@@ -58,14 +58,14 @@ afterItem close o (Read p) = behindItem o (p .to) (p .next) (endingAt close (p .
 afterItem close o (Wrong r) = Stopped r
 
 -- a step of the list of such items that o opens, in the buffer l from the place s on
-module _ (form : ℕ) (text : List ℕ) (item : Reader) (close : ℕ) (o : Answer) (first : Bool) (s : Spot) (l : List ℕ) where
+module _ (form ed : ℕ) (text : List ℕ) (item : Reader) (close : ℕ) (o : Answer) (first : Bool) (s : Spot) (l : List ℕ) where
   -- the item a, laid down behind what parts it from the one before it; the step is what the token behind it says
   pub record Itemed (a : Answer) (r : Step) (m : List ℕ) : Type 0 where
     pub from : Spot
     pub parted : List ℕ
     pub between : Placed l s (cond first [] (markIn form (bytes ", "))) from parted
     pub part : Parsed
-    pub reads : Reads form text (Fits text a) (item (held text a)) (a .end) from parted part m
+    pub reads : Reads form ed text (Fits text a) (item (held ed text a)) (a .end) from parted part m
     pub is : r ≡ afterItem close o part
 
   -- by what stands before the item
@@ -89,22 +89,22 @@ closedAt q n s (Found t) = All (record { to = s; count = n; end = q; next = t })
 closedAt q n s (Bad r) = Broken r
 
 -- the list is `what`, and its items were laid down from the place s on
-pub record HadAll (form : ℕ) (text : List ℕ) (x : Ans Trees) (s : Spot) (l : List ℕ) (p : Items) (m : List ℕ) : Type 0 where
+pub record HadAll (form ed : ℕ) (text : List ℕ) (x : Ans Trees) (s : Spot) (l : List ℕ) (p : Items) (m : List ℕ) : Type 0 where
   pub what : Trees
-  pub is : x ≡ ok what (opened text (p .end))
+  pub is : x ≡ ok what (opened ed text (p .end))
   pub counts : p .count ≡ countOf what
   pub bytes : Placed l s (laidItems form what) (p .to) m
 
-unfoldable pub MeetsAll : ℕ → List ℕ → Ans Trees → Spot → List ℕ → Listed → List ℕ → Type 0
-MeetsAll form text x s l (All p) m = HadAll form text x s l p m
-MeetsAll form text x s l (Broken r) m = Refuses x r
+unfoldable pub MeetsAll : ℕ → ℕ → List ℕ → Ans Trees → Spot → List ℕ → Listed → List ℕ → Type 0
+MeetsAll form ed text x s l (All p) m = HadAll form ed text x s l p m
+MeetsAll form ed text x s l (Broken r) m = Refuses x r
 
 -- reading goes on at `end`, which is not before `from`, with the token that stands there
-unfoldable pub FollowsAll : List ℕ → ℕ → Listed → Type 0
-FollowsAll text from (All p) = (from ≤ p .end) × (nextToken text (p .end) ≡ Found (p .next))
-FollowsAll text from (Broken r) = Unit {0}
+unfoldable pub FollowsAll : ℕ → List ℕ → ℕ → Listed → Type 0
+FollowsAll ed text from (All p) = (from ≤ p .end) × (nextToken ed text (p .end) ≡ Found (p .next))
+FollowsAll ed text from (Broken r) = Unit {0}
 
 -- a contract, as `Reads`: where the tokens fit the answer is what x says; and, whatever they are, reading goes on behind `from`
-pub record ReadsAll (form : ℕ) (text : List ℕ) (fits : Type 0) (x : Ans Trees) (from : ℕ) (s : Spot) (l : List ℕ) (r : Listed) (m : List ℕ) : Type 0 where
-  pub meets : (fits → MeetsAll form text x s l r m)
-  pub goes : FollowsAll text from r
+pub record ReadsAll (form ed : ℕ) (text : List ℕ) (fits : Type 0) (x : Ans Trees) (from : ℕ) (s : Spot) (l : List ℕ) (r : Listed) (m : List ℕ) : Type 0 where
+  pub meets : (fits → MeetsAll form ed text x s l r m)
+  pub goes : FollowsAll ed text from r

@@ -24,8 +24,8 @@ use Rattle.parts.specs.declared.Parsed.the-variants.{Read, Refused}
 abbrev pub Fits : List ℕ → Answer → Type 0
 Fits text a = (length text ≤ textLimit) × (a .start + min 1 (a .kind) ≤ a .end) × (a .end ≤ length text)
 
-abbrev pub held : List ℕ → Answer → Token
-held text a = record { kind = a .kind; here = opened text (a .start); len = a .end - a .start }
+abbrev pub held : ℕ → List ℕ → Answer → Token
+held ed text a = record { kind = a .kind; here = opened ed text (a .start); len = a .end - a .start }
 
 abbrev pub refusedToken : ℕ → Answer → Parsed
 refusedToken n t = Refused (refusal n (t .start) (t .end))
@@ -41,21 +41,21 @@ Refuses (ok x u) r = lex u ≡ bad r
 Refuses (no r₂) r = r₂ ≡ r
 
 -- the reader read `what`, which was laid down from the place s on
-pub record Had (form : ℕ) (text : List ℕ) (x : Ans Tree) (s : Spot) (l : List ℕ) (p : Part) (m : List ℕ) : Type 0 where
+pub record Had (form ed : ℕ) (text : List ℕ) (x : Ans Tree) (s : Spot) (l : List ℕ) (p : Part) (m : List ℕ) : Type 0 where
   pub what : Tree
-  pub is : x ≡ ok what (opened text (p .end))
+  pub is : x ≡ ok what (opened ed text (p .end))
   pub bytes : Placed l s (laid form what) (p .to) m
 
-unfoldable pub Meets : ℕ → List ℕ → Ans Tree → Spot → List ℕ → Parsed → List ℕ → Type 0
-Meets form text x s l (Read p) m = Had form text x s l p m
-Meets form text x s l (Refused r) m = Refuses x r
+unfoldable pub Meets : ℕ → ℕ → List ℕ → Ans Tree → Spot → List ℕ → Parsed → List ℕ → Type 0
+Meets form ed text x s l (Read p) m = Had form ed text x s l p m
+Meets form ed text x s l (Refused r) m = Refuses x r
 
 -- reading goes on at `end`, which is not before `from`, with the token that stands there
-unfoldable pub Follows : List ℕ → ℕ → Parsed → Type 0
-Follows text from (Read p) = (from ≤ p .end) × (nextToken text (p .end) ≡ Found (p .next))
-Follows text from (Refused r) = Unit {0}
+unfoldable pub Follows : ℕ → List ℕ → ℕ → Parsed → Type 0
+Follows ed text from (Read p) = (from ≤ p .end) × (nextToken ed text (p .end) ≡ Found (p .next))
+Follows ed text from (Refused r) = Unit {0}
 
 -- a contract: where the tokens fit the answer is what x says; and, whatever they are, reading goes on behind `from`
-pub record Reads (form : ℕ) (text : List ℕ) (fits : Type 0) (x : Ans Tree) (from : ℕ) (s : Spot) (l : List ℕ) (r : Parsed) (m : List ℕ) : Type 0 where
-  pub meets : (fits → Meets form text x s l r m)
-  pub goes : Follows text from r
+pub record Reads (form ed : ℕ) (text : List ℕ) (fits : Type 0) (x : Ans Tree) (from : ℕ) (s : Spot) (l : List ℕ) (r : Parsed) (m : List ℕ) : Type 0 where
+  pub meets : (fits → Meets form ed text x s l r m)
+  pub goes : Follows ed text from r

@@ -15,6 +15,7 @@ item-holds-spec =
     tie.close
     (tie.spec
     (λ c κs. search needs) (λ c κs. search needs) (λ c κs. search needs) (λ c κs. search needs) (λ c κs. search needs)
+    (λ c κs. search needs)
     (λ c. search needs) (λ c. search needs) (λ c κs. search needs) (λ c. search needs) (λ c. search needs)
     (λ c κs. search needs) (λ c. search needs) (λ c. search needs) slice-aggregate-item-answers (λ c. search needs)
     slice-aggregate-item-answers-2 (λ c κs. search needs) (λ c. search needs))

@@ -4,10 +4,10 @@ use Rattle.station.proofs.movesig_next_token.Statement.{statement}
 use Rattle.station.proofs.movesig_next_token.Tie as tie
 
 returns : tie.Need-returns
-returns c = found _ _ _ (c .before .before .before .before .before .before .advance .ensures) _ (c .before .before .before .before .t .given .1) _ (c .before .before .one-if .ensures)
+returns c = found _ _ (c .before .before .before .before .before .before .token-call .ensures) _ (c .before .before .before .before .t .given .1) _ (c .before .before .one-if .ensures)
 
 returns-2 : tie.Need-returns-2
-returns-2 c = refused _ _ _ (c .before .before .before .before .advance .ensures) _ (c .before .before .t2 .given .1) _ (c .refusal-values .ensures)
+returns-2 c = refused _ _ (c .before .before .before .before .token-call .ensures) _ (c .before .before .t2 .given .1) _ (c .refusal-values .ensures)
 
 pub movesig-next-token-spec : {M : Type 1} → statement M
 movesig-next-token-spec =

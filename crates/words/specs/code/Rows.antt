@@ -4,7 +4,7 @@ use mathlib.Core.Bool.{cond, _&&_}
 use mathlib.Core.List.{List, [], _∷_, _++_, map}
 use lib.Dec.{eqb}
 use lib.ListN.{length, getD, take, drop, replicate}
-use Rattle.classes.specs.Bytes.{begins}
+use Rattle.classes.specs.Bytes.{bytes, begins}
 use Rattle.words.specs.Kinds.{Identifier}
 use Rattle.words.specs.Tables.{Entry, keywords}
 use Rattle.words.specs.Search.{noFit}
@@ -45,3 +45,7 @@ valueIf a b v = cond (eqb a b) v 0
 -- the mark of a row of the code, five bytes, the length and the kind, where s begins with it
 unfoldable pub rowFit : List ℕ → List ℕ → Fit
 rowFit row s = cond (begins (take (getD row 5 0) row) s) (record { len = getD row 5 0; kind = getD row 6 0 }) noFit
+
+-- the types behind a number that edition 2 adds
+unfoldable pub addedSuffixes : List (List ℕ)
+addedSuffixes = bytes "u16" ∷ bytes "u32" ∷ bytes "u256" ∷ []

@@ -1,11 +1,13 @@
 //! Writes a fixed sample of the Rust's answers, for the program that replays it.
 //!
-//! One case a line, single blanks between: `t` (token) or `c` (comment), the start
-//! offset, the result, the six numbers and the text; or `r` (read) or `d` (display), the
-//! item kind, the start offset, the room lent, the result, the six numbers, the text and
-//! the bytes that must be written: the tree or the line. Texts and bytes are in hex (`-`
-//! where there are none). First stand the points of oracle/src/points.rs; behind all
-//! stand some wrong answers, so that a replay that finds none of them is seen.
+//! One case a line, single blanks between: `t` (token) or `c` (comment), the edition, the
+//! start offset, the result, the six numbers and the text; or `r` (read) or `d` (display),
+//! the edition, the item kind, the start offset, the room lent, the result, the six
+//! numbers, the text and the bytes that must be written: the tree or the line. Texts and
+//! bytes are in hex (`-` where there are none). First stand the points of
+//! oracle/src/points.rs; behind what the Rust answers, which is edition 1, stand cases of
+//! the editions, and last some wrong answers, so that a replay that finds none of them is
+//! seen.
 
 mod calls;
 mod items;
@@ -17,22 +19,27 @@ use std::collections::BTreeSet;
 fn main() {
     silence_the_rust();
     let points = on_a_deep_stack(points::lines);
-    print!("{points}");
+    points.lines().for_each(print_first);
     print_new(&points, &calls::lines());
     for call in [ItemCall::Read, ItemCall::Display] {
         print_new(&points, &on_a_deep_stack(|| items::lines(call)));
     }
+    EDITIONS.iter().for_each(|line| println!("{line}"));
     for line in [WRONG_READS, WRONG_DISPLAYS, WRONG_CALLS].concat() {
-        println!("{line}");
+        print_first(line);
     }
 }
 
 /// Prints the lines that are none of the points'.
 fn print_new(points: &str, lines: &str) {
     let taken: BTreeSet<_> = points.lines().collect();
-    for line in lines.lines().filter(|line| !taken.contains(line)) {
-        println!("{line}");
-    }
+    lines.lines().filter(|line| !taken.contains(line)).for_each(print_first);
+}
+
+/// Prints a line, which has the call's letter first, as one of edition 1.
+fn print_first(line: &str) {
+    let (call, rest) = line.split_at(1);
+    println!("{call} 1{rest}");
 }
 
 fn hex(bytes: &[u8]) -> String {
@@ -41,6 +48,67 @@ fn hex(bytes: &[u8]) -> String {
     }
     bytes.iter().map(|byte| format!("{byte:02x}")).collect()
 }
+
+/// What the editions tell apart, as the request has it, with the edition behind the call's
+/// letter: runs and types of numbers, and that an item's later tokens are of its edition.
+/// Then numbers that are no edition: 19 behind 1, 2 and 3 and before what the text says.
+const EDITIONS: &[&str] = &[
+    // 1_000
+    "t 1 0 0 1 0 1 0 0 0 315f303030",
+    "t 1 1 0 4 1 5 0 0 0 315f303030",
+    "t 2 0 0 1 0 5 0 0 0 315f303030",
+    // 0x_1, 0x1_, 0xf_fu32
+    "t 2 0 0 1 0 1 0 0 0 30785f31",
+    "t 2 1 0 4 1 4 0 0 0 30785f31",
+    "t 2 0 0 1 0 4 0 0 0 3078315f",
+    "t 2 0 0 2 0 8 0 0 0 3078665f66753332",
+    // 1_, 1_u8, 1u16, 1u32, 1u256, 0xu16, 0xu8, 0x
+    "t 2 0 0 1 0 2 0 0 0 315f",
+    "t 2 0 0 2 0 4 0 0 0 315f7538",
+    "t 2 0 0 2 0 4 0 0 0 31753136",
+    "t 2 0 0 2 0 4 0 0 0 31753332",
+    "t 2 0 0 2 0 5 0 0 0 3175323536",
+    "t 2 0 0 2 0 5 0 0 0 3078753136",
+    "t 2 0 0 2 0 4 0 0 0 30787538",
+    "t 2 0 0 1 0 1 0 0 0 3078",
+    "t 1 0 0 1 0 1 0 0 0 31753136",
+    // 1u2568, 1u1 and 1u25
+    "t 2 0 0 2 0 5 0 0 0 317532353638",
+    "t 2 5 0 1 5 6 0 0 0 317532353638",
+    "t 2 0 0 1 0 1 0 0 0 317531",
+    "t 2 0 0 1 0 1 0 0 0 31753235",
+    // 1_x"a"
+    "t 1 3 5 3 3 3 3 0 0 315f78226122",
+    "t 2 0 0 1 0 2 0 0 0 315f78226122",
+    "t 2 2 0 3 2 6 0 0 0 315f78226122",
+    // a doc comment
+    "c 2 0 0 1 0 6 3 4 0 2f2a2a612a2f",
+    // the value 1_000
+    "r 1 2 0 8 0 8 4 1 5 0 0 315f303030 08001f0000000100",
+    "r 2 2 0 8 0 8 0 5 5 0 0 315f303030 08001f0000000500",
+    "d 2 2 0 5 0 5 0 0 0 0 0 315f303030 315f303030",
+    // the names 1_0::a, 1u16::a and a::1_0
+    "r 1 1 0 24 10 1 3 0 1 0 0 315f303a3a61 -",
+    "r 2 1 0 24 0 24 0 6 6 0 0 315f303a3a61 180004000000060008000200000003000800010005000600",
+    "d 2 1 0 6 0 6 0 0 0 0 0 315f303a3a61 315f303a3a61",
+    "r 2 1 0 24 10 0 4 0 4 0 0 317531363a3a61 -",
+    "r 2 1 0 24 10 3 6 3 6 0 0 613a3a315f30 -",
+    // the types & 1_0::a and a<1_0::b>, the bindings (1_0::S{f})
+    "d 2 3 0 8 0 8 0 0 0 0 0 2620315f303a3a61 2620315f303a3a61",
+    "d 2 3 0 9 0 9 0 0 0 0 0 613c315f303a3a623e 613c315f303a3a623e",
+    "d 2 4 0 15 0 15 0 0 0 0 0 28315f303a3a537b667d29 28315f303a3a53207b663a20667d29",
+    // editions that are none
+    "t 0 0 19 0 0 0 0 0 0 24",
+    "t 3 0 19 0 0 0 0 0 0 24",
+    "t 18446744073709551615 0 19 0 0 0 0 0 0 61",
+    "t 3 2 2 0 0 0 0 0 0 24",
+    "c 3 0 19 0 0 0 0 0 0 2f2a",
+    "c 0 2 2 0 0 0 0 0 0 24",
+    "r 0 3 0 8 19 0 0 0 0 0 0 24 -",
+    "r 3 7 0 8 3 0 0 0 0 0 0 24 -",
+    "d 3 3 0 8 19 0 0 0 0 0 0 24 -",
+    "d 3 3 2 8 2 0 0 0 0 0 0 24 -",
+];
 
 /// Wrong in a byte of the tree, in the kind and in the end of the token that follows, in
 /// a refusal's second place, and in what is written: a byte of the tree not told, one

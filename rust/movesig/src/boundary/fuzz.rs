@@ -1,6 +1,6 @@
-//! Random texts, lengths, offsets, kinds and rooms, between bytes that must stay as they are.
-//! The boundary is asked and not the crate's own functions, so that kinds that no `Kind` names
-//! are asked too, and every number of an answer is seen.
+//! Random texts, lengths, offsets, kinds, editions and rooms, between bytes that must stay as they are.
+//! The boundary is asked and not the crate's own functions, so that kinds that no `Kind`
+//! names and editions that no `Edition` names are asked too, and every number of an answer is seen.
 
 use super::Numbers;
 use std::mem::MaybeUninit;
@@ -18,20 +18,20 @@ fn asked(ask: impl FnOnce(&mut Numbers) -> super::Answer<'_>) -> Answer {
     )
 }
 
-fn next_token(text: &[u8], at: usize) -> Answer {
-    asked(|numbers| super::next_token(text, at, numbers))
+fn next_token(edition: u64, text: &[u8], at: usize) -> Answer {
+    asked(|numbers| super::next_token(edition, text, at, numbers))
 }
 
-fn next_comment(text: &[u8], at: usize) -> Answer {
-    asked(|numbers| super::next_comment(text, at, numbers))
+fn next_comment(edition: u64, text: &[u8], at: usize) -> Answer {
+    asked(|numbers| super::next_comment(edition, text, at, numbers))
 }
 
-fn read(kind: u64, text: &[u8], at: usize, out: &mut [u8]) -> Answer {
-    asked(|numbers| super::read(kind, text, at, out, numbers))
+fn read(kind: u64, edition: u64, text: &[u8], at: usize, out: &mut [u8]) -> Answer {
+    asked(|numbers| super::read(kind, edition, text, at, out, numbers))
 }
 
-fn display(kind: u64, text: &[u8], at: usize, line: &mut [u8]) -> Answer {
-    asked(|numbers| super::display(kind, text, at, line, numbers))
+fn display(kind: u64, edition: u64, text: &[u8], at: usize, line: &mut [u8]) -> Answer {
+    asked(|numbers| super::display(kind, edition, text, at, line, numbers))
 }
 
 const ROUNDS: usize = 100_000;
@@ -57,7 +57,7 @@ impl Random {
     }
 }
 
-const WORDS: [&[u8]; 37] = [
+const WORDS: [&[u8]; 40] = [
     b"a",
     b"S",
     b"u8",
@@ -65,6 +65,9 @@ const WORDS: [&[u8]; 37] = [
     b"0x1",
     b"0x",
     b"1u8",
+    b"1_0",
+    b"u256",
+    b"_",
     b"true",
     b"::",
     b":",
@@ -125,6 +128,30 @@ fn offset_of(random: &mut Random, length: usize) -> usize {
     }
 }
 
+fn edition_of(random: &mut Random) -> u64 {
+    match random.below(16) {
+        0 => random.next(),
+        1 => 0,
+        2 => 3,
+        3 => u64::MAX,
+        4 => 1 << 32 | 2,
+        other => other as u64 % 2 + 1,
+    }
+}
+
+/// Which of 1, 2, 3 and 19 is due by what is asked, if any. A call without a kind has none here.
+fn asked_wrongly(kind: Option<u64>, edition: u64, text: &[u8], at: usize) -> Option<u32> {
+    if text.len() > 65_535 {
+        Some(1)
+    } else if at > text.len() {
+        Some(2)
+    } else if kind.is_some_and(|kind| !(1..=5).contains(&kind)) {
+        Some(3)
+    } else {
+        (!(1..=2).contains(&edition)).then_some(19)
+    }
+}
+
 /// A span of a text.
 fn inside(start: usize, end: usize, text: &[u8]) -> bool {
     start <= end && end <= text.len()
@@ -144,8 +171,11 @@ fn token_and_comment() {
     for _ in 0..ROUNDS {
         let text = text_of(&mut random);
         let at = offset_of(&mut random, text.len());
-        let (number, values) = next_token(&text, at);
+        let edition = edition_of(&mut random);
+        let wrong = asked_wrongly(None, edition, &text, at);
+        let (number, values) = next_token(edition, &text, at);
         match number {
+            _ if wrong.is_some() => assert_eq!((Some(number), values), (wrong, [0; 6])),
             0 => {
                 let [kind, start, end, line_feed, rest @ ..] = values;
                 assert!(kind <= 67 && at <= start && inside(start, end, &text));
@@ -154,22 +184,23 @@ fn token_and_comment() {
                 assert!(line_feed <= 1);
                 assert_eq!(rest, [0; 2]);
             }
-            _ => refused_well(number, values, &text, &[1, 2, 5, 6, 7, 8, 9]),
+            _ => refused_well(number, values, &text, &[5, 6, 7, 8, 9]),
         }
-        let (number, values) = next_comment(&text, at);
+        let (number, values) = next_comment(edition, &text, at);
         match number {
+            _ if wrong.is_some() => assert_eq!((Some(number), values), (wrong, [0; 6])),
             0 => {
                 let [found, start, end, from, to, nothing] = values;
                 assert!(found <= 1 && inside(start, end, &text) && inside(from, to, &text));
                 assert!(start <= from && to <= end);
                 assert_eq!(nothing, 0);
             }
-            _ => refused_well(number, values, &text, &[1, 2, 6]),
+            _ => refused_well(number, values, &text, &[6]),
         }
     }
 }
 
-fn with_a_buffer(seed: u64, ask: fn(u64, &[u8], usize, &mut [u8]) -> Answer, tree: bool) {
+fn with_a_buffer(seed: u64, ask: fn(u64, u64, &[u8], usize, &mut [u8]) -> Answer, tree: bool) {
     let mut random = Random(seed);
     let mut whole = vec![0; 65_600 + 2 * BESIDE];
     let mut spoiled = 0;
@@ -189,12 +220,16 @@ fn with_a_buffer(seed: u64, ask: fn(u64, &[u8], usize, &mut [u8]) -> Answer, tre
             101 => 65_600,
             _ => random.below(400),
         };
+        let edition = edition_of(&mut random);
+        let wrong = asked_wrongly(Some(kind), edition, &text, at);
         let fill = random.next() as u8;
         let used = &mut whole[..room + 2 * BESIDE];
         used.fill(fill);
-        let (number, values) = ask(kind, &text, at, &mut used[BESIDE..BESIDE + room]);
+        let (number, values) = ask(kind, edition, &text, at, &mut used[BESIDE..BESIDE + room]);
         let mut written = 0;
-        if number == 0 {
+        if wrong.is_some() {
+            assert_eq!((Some(number), values), (wrong, [0; 6]));
+        } else if number == 0 {
             let [length, token, start, end, rest @ ..] = values;
             written = length;
             assert!(written <= room && written <= 65_535);
@@ -208,9 +243,8 @@ fn with_a_buffer(seed: u64, ask: fn(u64, &[u8], usize, &mut [u8]) -> Answer, tre
                 let line = &used[BESIDE..BESIDE + written];
                 assert!(line.iter().all(|byte| (32..=126).contains(byte)));
             }
-            assert!((1..=5).contains(&kind));
         } else {
-            let mut allowed: Vec<u32> = (1..=14).collect();
+            let mut allowed: Vec<u32> = (4..=14).collect();
             if !tree {
                 allowed.push(18);
             }
@@ -240,10 +274,42 @@ fn displaying() {
 
 #[test]
 fn empty_everything() {
-    assert_eq!(next_token(&[], 0), (0, [0; 6]));
-    assert_eq!(next_comment(&[], 0), (0, [0; 6]));
-    assert_eq!(read(3, &[], 0, &mut []), (10, [0; 6]));
-    assert_eq!(display(3, &[], 0, &mut []), (10, [0; 6]));
-    assert_eq!(read(3, b"u8", 0, &mut []), (4, [0; 6]));
-    assert_eq!(display(3, b"u8", 0, &mut []), (4, [0; 6]));
+    for edition in [1, 2] {
+        assert_eq!(next_token(edition, &[], 0), (0, [0; 6]));
+        assert_eq!(next_comment(edition, &[], 0), (0, [0; 6]));
+        assert_eq!(read(3, edition, &[], 0, &mut []), (10, [0; 6]));
+        assert_eq!(display(3, edition, &[], 0, &mut []), (10, [0; 6]));
+        assert_eq!(read(3, edition, b"u8", 0, &mut []), (4, [0; 6]));
+        assert_eq!(display(3, edition, b"u8", 0, &mut []), (4, [0; 6]));
+    }
+}
+
+/// A number that is no edition is 19, behind 1, 2 and 3 and before what the text says.
+#[test]
+fn no_edition() {
+    let long = vec![b'$'; 65_536];
+    for edition in [0, 3, u64::MAX] {
+        assert_eq!(next_token(edition, b"$", 0), (19, [0; 6]));
+        assert_eq!(next_comment(edition, b"/*", 0), (19, [0; 6]));
+        assert_eq!(next_token(edition, b"$", 2), (2, [0; 6]));
+        assert_eq!(next_comment(edition, &long, 0), (1, [0; 6]));
+        for call in [read, display] {
+            let mut buffer = [7; 20];
+            for kind in 1..=5 {
+                for room in [0, 20] {
+                    let answer = call(kind, edition, b"u8", 0, &mut buffer[..room]);
+                    assert_eq!(answer, (19, [0; 6]));
+                    let answer = call(kind, edition, b"$", 0, &mut buffer[..room]);
+                    assert_eq!(answer, (19, [0; 6]));
+                }
+            }
+            for kind in [0, 6, 7, u64::MAX] {
+                let answer = call(kind, edition, b"$", 0, &mut buffer);
+                assert_eq!(answer, (3, [0; 6]));
+            }
+            assert_eq!(call(3, edition, b"u8", 3, &mut buffer), (2, [0; 6]));
+            assert_eq!(call(3, edition, &long, 0, &mut buffer), (1, [0; 6]));
+            assert_eq!(buffer, [7; 20]);
+        }
+    }
 }

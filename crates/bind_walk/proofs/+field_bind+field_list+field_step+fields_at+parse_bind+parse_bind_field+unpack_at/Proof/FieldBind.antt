@@ -27,7 +27,7 @@ returns t c =
     let c₁ = c .before .before .before .before in
     let c₂ = c₁ .before .before .before .before in
     let x = c₂ .args in
-    λ e. bound-short (x .w .form) (now (x .text)) (x .s) (now (x .out)) _ (x .w .left) (x .a) (x .n) e _ (c₁ .if1 .taken) (c .before .before .put-leaf .ensures)
+    λ e. bound-short (x .w .form) (x .w .edition) (now (x .text)) (x .s) (now (x .out)) _ (x .w .left) (x .a) (x .n) e _ (c₁ .if1 .taken) (c .before .before .put-leaf .ensures)
 
 pub next-token-requires : (t : ℕ) → lts.Need-next-token-requires (claims t) (field-bind-at t) field-bind.Post
 next-token-requires t c κs = search needs
@@ -42,7 +42,7 @@ pub parse-bind-requires : (t : ℕ) → lts.Need-parse-bind-requires (claims t) 
 parse-bind-requires t c κs =
     let c₁ = c .before .before .before .before in
     let c₂ = c₁ .before .before .before .before .before in
-    let d = next-found _ _ _ (sym (c₁ .next-token .ensures) ∙ c .before .before .l2 .given .1) in
+    let d = next-found _ _ _ _ (sym (c₁ .next-token .ensures) ∙ c .before .before .l2 .given .1) in
     (omega (arith, c₂ .pre .0, c₁ .before .if1 .left, d .from, d .fits .1), tt)
 
 pub returns-2 : (t : ℕ) → lts.Need-returns-2 (claims t) (field-bind-at t) field-bind.Post
@@ -50,7 +50,7 @@ returns-2 t c =
     let c₁ = c .before .before .before .before in
     let c₂ = c₁ .before .before .before .before in
     let x = c₂ .args in
-    λ e. bound-bad (x .w .form) (now (x .text)) (x .s) (now (x .out)) _ (x .w .left) (x .a) (x .n) e (c₁ .if1 .left) _ (sym (c .before .before .before .next-token .ensures) ∙ c .before .l .given .1)
+    λ e. bound-bad (x .w .form) (x .w .edition) (now (x .text)) (x .s) (now (x .out)) _ (x .w .left) (x .a) (x .n) e (c₁ .if1 .left) _ (sym (c .before .before .before .next-token .ensures) ∙ c .before .l .given .1)
 
 pub same-length-2 : (t : ℕ) → lts.Need-same-length-2 (claims t) (field-bind-at t) field-bind.Post
 same-length-2 t c = search needs
@@ -60,4 +60,4 @@ returns-3 t c =
     let c₁ = c .before .before .before .before .before in
     let c₂ = c₁ .before .before .before .before .before .before .before in
     let x = c₂ .args in
-    λ e. bound-bind (x .w .form) (now (x .text)) (x .s) (now (x .out)) _ (x .w .left) (x .a) (x .n) e (c₁ .before .before .before .if1 .left) _ (sym (c₁ .before .before .next-token .ensures) ∙ c₁ .l2 .given .1) _ (c .before .before .parse-bind .ensures)
+    λ e. bound-bind (x .w .form) (x .w .edition) (now (x .text)) (x .s) (now (x .out)) _ (x .w .left) (x .a) (x .n) e (c₁ .before .before .before .if1 .left) _ (sym (c₁ .before .before .next-token .ensures) ∙ c₁ .l2 .given .1) _ (c .before .before .parse-bind .ensures)

@@ -34,17 +34,17 @@ pub parse-bind-field-requires : (t : ℕ) → lts.Need-parse-bind-field-requires
 parse-bind-field-requires t c κs =
     let c₁ = c .before .before .before .before .before .before in
     let c₂ = c₁ .before .before .before .before .before in
-    let d = item-there _ _ _ _ (sym (c₁ .before .before .next-item .ensures) ∙ c₁ .b3 .given .1) in
+    let d = item-there _ _ _ _ _ (sym (c₁ .before .before .next-item .ensures) ∙ c₁ .b3 .given .1) in
     (omega (arith, c₂ .pre .0, d .from, d .fits .1), tt)
 
 pub after-item-requires : (t : ℕ) → lts.Need-after-item-requires (claims t) (field-step-at t) field-step.Post
 after-item-requires t c κs = search needs
 
 pub returns : (t : ℕ) → lts.Need-returns (claims t) (field-step-at t) field-step.Post
-returns t c = steps-refused _ _ _ _ _ _ _ _ _ _ (sym (c .before .before .before .next-item .ensures) ∙ c .before .b .given .1)
+returns t c = steps-refused _ _ _ _ _ _ _ _ _ _ _ (sym (c .before .before .before .next-item .ensures) ∙ c .before .b .given .1)
 
 pub returns-2 : (t : ℕ) → lts.Need-returns-2 (claims t) (field-step-at t) field-step.Post
-returns-2 t c = steps-closes _ _ _ _ _ _ _ _ _ _ (sym (c .before .before .before .next-item .ensures) ∙ c .before .b2 .given .1)
+returns-2 t c = steps-closes _ _ _ _ _ _ _ _ _ _ _ (sym (c .before .before .before .next-item .ensures) ∙ c .before .b2 .given .1)
 
 pub same-length : (t : ℕ) → lts.Need-same-length (claims t) (field-step-at t) field-step.Post
 same-length t c =
@@ -55,5 +55,5 @@ pub returns-3 : (t : ℕ) → lts.Need-returns-3 (claims t) (field-step-at t) fi
 returns-3 t c =
     let c₁ = c .before .before .before .before .before .before .before in
     let c₂ = c₁ .before .before .before .before .before in
-    steps-item _ _ _ _ _ _ _ _ _ _ _ _ (sym (c₂ .next-item .ensures) ∙ c₁ .before .before .before .b3 .given .1)
+    steps-item _ _ _ _ _ _ _ _ _ _ _ _ _ (sym (c₂ .next-item .ensures) ∙ c₁ .before .before .before .b3 .given .1)
     (record { from = _; parted = _; between = c₁ .put-between .ensures; part = _; reads = c .before .before .before .parse-bind-field .ensures; is = c .after-item .ensures })

@@ -22,7 +22,7 @@ unexpected-requires t c κs = search needs
 pub returns : (t : ℕ) → lts.Need-returns (claims t) (fields-at-at t) fields-at.Post
 returns t c =
     let x = c .before .before .before .before .before .args in
-    fields-other (x .w .form) (now (x .text)) (x .w .left) (x .b) (x .s) (now (x .out)) _ _ (c .before .if1 .taken) (c .unexpected .ensures)
+    fields-other (x .w .form) (x .w .edition) (now (x .text)) (x .w .left) (x .b) (x .s) (now (x .out)) _ _ (c .before .if1 .taken) (c .unexpected .ensures)
 
 pub put-marks-requires : (t : ℕ) → lts.Need-put-marks-requires (claims t) (fields-at-at t) fields-at.Post
 put-marks-requires t c κs = search needs
@@ -44,5 +44,5 @@ returns-2 t c =
     let c₁ = c .before .before .before .before .before .before .before in
     let c₂ = c₁ .before .before .before .before .before .before in
     let x = c₂ .before .before .before .before .args in
-    fields-enclosed (x .w .form) (now (x .text)) (x .w .left) (x .b) (x .s) (now (x .out)) _ _ _ _ _ _ _ (omega (arith, c₂ .before .before .before .before .good .1 .1 .1 .0 .0)) (c₂ .if1 .left)
+    fields-enclosed (x .w .form) (x .w .edition) (now (x .text)) (x .w .left) (x .b) (x .s) (now (x .out)) _ _ _ _ _ _ _ (omega (arith, c₂ .before .before .before .before .good .1 .1 .1 .0 .0)) (c₂ .if1 .left)
     (c₁ .before .before .before .before .put-marks .ensures) (c₁ .field-list .ensures) (c .before .before .before .before .part-of .ensures) (c .before .before .end-part .ensures)

@@ -27,7 +27,7 @@ too-deep-requires t c κs = search needs
 pub returns : (t : ℕ) → lts.Need-returns (claims t) (parse-bind-at t) parse-bind.Post
 returns t c =
     let x = c .before .before .before .before .before .args in
-    bind-deep (x .w .form) (now (x .text)) (x .s) (now (x .out)) _ (x .a) (x .w .left) _ (c .before .if1 .taken) (c .too-deep .ensures)
+    bind-deep (x .w .form) (x .w .edition) (now (x .text)) (x .s) (now (x .out)) _ (x .a) (x .w .left) _ (c .before .if1 .taken) (c .too-deep .ensures)
 
 pub sub-t12 : (t : ℕ) → lts.Need-sub-t12 (claims t) (parse-bind-at t) parse-bind.Post
 sub-t12 t c = search needs
@@ -43,7 +43,7 @@ returns-2 t c =
     let c₁ = c .before .before .before .before in
     let c₂ = c₁ .before .before .before .before in
     let x = c₂ .args in
-    bind-unnamed (x .w .form) (now (x .text)) (x .s) (now (x .out)) _ (x .a) (x .w .left) (c₁ .if1 .left) _ (sym (c .before .before .is-first .ensures) ∙ not-true _ (c .before .if2 .taken)) (c .unexpected .ensures)
+    bind-unnamed (x .w .form) (x .w .edition) (now (x .text)) (x .s) (now (x .out)) _ (x .a) (x .w .left) (c₁ .if1 .left) _ (sym (c .before .before .is-first .ensures) ∙ not-true _ (c .before .if2 .taken)) (c .unexpected .ensures)
 
 pub next-token-requires : (t : ℕ) → lts.Need-next-token-requires (claims t) (parse-bind-at t) parse-bind.Post
 next-token-requires t c κs = search needs
@@ -70,14 +70,14 @@ returns-3 t c =
     let c₃ = c₂ .before .before .before .before in
     let c₄ = c₃ .before .before .before .before in
     let x = c₄ .args in
-    bind-one (x .w .form) (now (x .text)) (x .s) (now (x .out)) _ (x .a) (x .w .left) (c₃ .if1 .left) _ (sym (c₂ .next-token .ensures) ∙ c₁ .before .before .before .l2 .given .1) _
+    bind-one (x .w .form) (x .w .edition) (now (x .text)) (x .s) (now (x .out)) _ (x .a) (x .w .left) (c₃ .if1 .left) _ (sym (c₂ .next-token .ensures) ∙ c₁ .before .before .before .l2 .given .1) _
     (c₁ .before .is-variable .ensures) _ (c₁ .if3 .taken) (c .before .before .put-leaf .ensures)
 
 pub unpack-at-requires : (t : ℕ) → lts.Need-unpack-at-requires (claims t) (parse-bind-at t) parse-bind.Post
 unpack-at-requires t c κs =
     let c₁ = c .before .before .before .before in
     let c₂ = c₁ .before .before .before .before .before .before .before .before .before .before in
-    let d = next-found _ _ _ (sym (c₁ .before .before .next-token .ensures) ∙ c₁ .l2 .given .1) in
+    let d = next-found _ _ _ _ (sym (c₁ .before .before .next-token .ensures) ∙ c₁ .l2 .given .1) in
     (omega (arith, c₂ .pre .0, d .from, d .fits .1), tt)
 
 pub returns-4 : (t : ℕ) → lts.Need-returns-4 (claims t) (parse-bind-at t) parse-bind.Post
@@ -85,7 +85,7 @@ returns-4 t c =
     let c₁ = c .before .before .before .before in
     let c₂ = c₁ .before .before .before .before .before .before .before in
     let x = c₂ .args in
-    bind-refused (x .w .form) (now (x .text)) (x .s) (now (x .out)) _ (x .a) (x .w .left) (c₁ .before .before .before .if1 .left) _ (sym (c₁ .before .is-first .ensures) ∙ not-false _ (c₁ .if2 .left)) (sym (c .before .before .before .next-token .ensures) ∙ c .before .l .given .1)
+    bind-refused (x .w .form) (x .w .edition) (now (x .text)) (x .s) (now (x .out)) _ (x .a) (x .w .left) (c₁ .before .before .before .if1 .left) _ (sym (c₁ .before .is-first .ensures) ∙ not-false _ (c₁ .if2 .left)) (sym (c .before .before .before .next-token .ensures) ∙ c .before .l .given .1)
 
 pub same-length-2 : (t : ℕ) → lts.Need-same-length-2 (claims t) (parse-bind-at t) parse-bind.Post
 same-length-2 t c = search needs
@@ -98,5 +98,5 @@ returns-5 t c =
     let c₄ = c₃ .before .before .before .before in
     let x = c₄ .args in
     let e = sym (c₂ .next-token .ensures) ∙ c₁ .before .before .before .l2 .given .1 in
-    bind-unpack (x .w .form) (now (x .text)) (x .s) (now (x .out)) _ (x .a) (x .w .left) (c₃ .if1 .left) _ e _ (c₁ .before .is-variable .ensures) _ (c₁ .if3 .left)
+    bind-unpack (x .w .form) (x .w .edition) (now (x .text)) (x .s) (now (x .out)) _ (x .a) (x .w .left) (c₃ .if1 .left) _ e _ (c₁ .before .is-variable .ensures) _ (c₁ .if3 .left)
     (c .before .before .unpack-at .ensures e (sym (c₂ .before .before .is-first .ensures) ∙ not-false _ (c₂ .before .if2 .left)))

@@ -25,7 +25,7 @@ too-deep-requires t c κs = search needs
 pub returns : (t : ℕ) → lts.Need-returns (claims t) (parse-bind-field-at t) parse-bind-field.Post
 returns t c =
     let x = c .before .before .before .before .before .args in
-    field-deep (x .w .form) (now (x .text)) (x .s) (now (x .out)) _ (x .a) (x .w .left) _ (c .before .if1 .taken) (c .too-deep .ensures)
+    field-deep (x .w .form) (x .w .edition) (now (x .text)) (x .s) (now (x .out)) _ (x .a) (x .w .left) _ (c .before .if1 .taken) (c .too-deep .ensures)
 
 pub unexpected-requires : (t : ℕ) → lts.Need-unexpected-requires (claims t) (parse-bind-field-at t) parse-bind-field.Post
 unexpected-requires t c κs = search needs
@@ -34,7 +34,7 @@ pub returns-2 : (t : ℕ) → lts.Need-returns-2 (claims t) (parse-bind-field-at
 returns-2 t c =
     let c₁ = c .before .before .before .before .before .before .before in
     let x = c₁ .args in
-    field-other (x .w .form) (now (x .text)) (x .s) (now (x .out)) _ (x .a) (x .w .left) (c .before .before .before .if1 .left) _ (c .before .if2 .taken) (c .unexpected .ensures)
+    field-other (x .w .form) (x .w .edition) (now (x .text)) (x .s) (now (x .out)) _ (x .a) (x .w .left) (c .before .before .before .if1 .left) _ (c .before .if2 .taken) (c .unexpected .ensures)
 
 pub next-token-requires : (t : ℕ) → lts.Need-next-token-requires (claims t) (parse-bind-field-at t) parse-bind-field.Post
 next-token-requires t c κs = search needs
@@ -52,7 +52,7 @@ pub field-bind-requires : (t : ℕ) → lts.Need-field-bind-requires (claims t) 
 field-bind-requires t c κs =
     let c₁ = c .before .before .before .before .before .before in
     let c₂ = c₁ .before .before .before .before .before .before .before .before .before in
-    let d = next-found _ _ _ (sym (c₁ .before .before .next-token .ensures) ∙ c₁ .l2 .given .1) in
+    let d = next-found _ _ _ _ (sym (c₁ .before .before .next-token .ensures) ∙ c₁ .l2 .given .1) in
     (omega (arith, c₂ .pre .0, d .from, d .fits .1, d .fits .2), tt)
 
 pub close-record-requires : (t : ℕ) → lts.Need-close-record-requires (claims t) (parse-bind-field-at t) parse-bind-field.Post
@@ -63,7 +63,7 @@ returns-3 t c =
     let c₁ = c .before .before .before .before in
     let c₂ = c₁ .before .before .before .before .before .before in
     let x = c₂ .args in
-    field-bad (x .w .form) (now (x .text)) (x .s) (now (x .out)) _ (x .a) (x .w .left) (c₁ .before .before .if1 .left) (c₁ .if2 .left) _ (sym (c .before .before .before .next-token .ensures) ∙ c .before .l .given .1)
+    field-bad (x .w .form) (x .w .edition) (now (x .text)) (x .s) (now (x .out)) _ (x .a) (x .w .left) (c₁ .before .before .if1 .left) (c₁ .if2 .left) _ (sym (c .before .before .before .next-token .ensures) ∙ c .before .l .given .1)
 
 pub same-length : (t : ℕ) → lts.Need-same-length (claims t) (parse-bind-field-at t) parse-bind-field.Post
 same-length t c =
@@ -79,5 +79,5 @@ returns-4 t c =
     let c₄ = c₃ .before .before .before .before .before .before .before in
     let x = c₄ .args in
     let e = sym (c₃ .next-token .ensures) ∙ c₂ .before .before .before .l2 .given .1 in
-    field-bound (x .w .form) (now (x .text)) (x .s) (now (x .out)) _ (x .a) (x .w .left) (c₃ .before .before .before .if1 .left) (c₃ .before .if2 .left) _ e (omega (arith, c₄ .good .1 .1 .1 .0 .0)) _ _ _ _ _
+    field-bound (x .w .form) (x .w .edition) (now (x .text)) (x .s) (now (x .out)) _ (x .a) (x .w .left) (c₃ .before .before .before .if1 .left) (c₃ .before .if2 .left) _ e (omega (arith, c₄ .good .1 .1 .1 .0 .0)) _ _ _ _ _
     (c₂ .put-field-name .ensures) (c₁ .field-bind .ensures e) (c .before .before .close-record .ensures)

@@ -58,7 +58,7 @@ returns t c =
     let c₁ = c .before .before .before .before .before in
     let c₂ = c₁ .before .before .before .before in
     let x = c₂ .args in
-    λ h k. unpack-unnamed (x .w .form) (now (x .text)) (x .w .left) (x .a) (x .s) _ (now (x .out)) _ _ (c₁ .name-inside .ensures .reads h k) _ (c .before .c .given .1)
+    λ h k. unpack-unnamed (x .w .form) (x .w .edition) (now (x .text)) (x .w .left) (x .a) (x .s) _ (now (x .out)) _ _ (c₁ .name-inside .ensures .reads h k) _ (c .before .c .given .1)
 
 pub same-length-2 : (t : ℕ) → lts.Need-same-length-2 (claims t) (unpack-at-at t) unpack-at.Post
 same-length-2 t c = search needs
@@ -70,7 +70,7 @@ returns-2 t c =
     let c₃ = c₂ .before .before .before .before in
     let c₄ = c₃ .before .before .before .before in
     let x = c₄ .args in
-    λ h k. unpack-bad (x .w .form) (now (x .text)) (x .w .left) (x .a) (x .s) _ (now (x .out)) _ _ (c₃ .name-inside .ensures .reads h k) _ (c₂ .c2 .given .1) _ _
+    λ h k. unpack-bad (x .w .form) (x .w .edition) (now (x .text)) (x .w .left) (x .a) (x .s) _ (now (x .out)) _ _ (c₃ .name-inside .ensures .reads h k) _ (c₂ .c2 .given .1) _ _
     (c₁ .types-behind .ensures) _ (c .before .t .given .1)
 
 pub same-length-3 : (t : ℕ) → lts.Need-same-length-3 (claims t) (unpack-at-at t) unpack-at.Post
@@ -88,6 +88,6 @@ returns-3 t c =
     let c₄ = c₃ .before .before .before .before in
     let c₅ = c₄ .before .before .before .before in
     let x = c₅ .args in
-    λ h k. unpack-fields (x .w .form) (now (x .text)) (x .w .left) (x .a) (x .s) _ (now (x .out)) _ _ (c₄ .name-inside .ensures .reads h k) _ (c₃ .c2 .given .1) _ _
+    λ h k. unpack-fields (x .w .form) (x .w .edition) (now (x .text)) (x .w .left) (x .a) (x .s) _ (now (x .out)) _ _ (c₄ .name-inside .ensures .reads h k) _ (c₃ .c2 .given .1) _ _
     (c₂ .types-behind .ensures) (omega (arith, c₅ .good .1 .1 .1 .1 .0 .0)) refl _ (c₂ .before .before .struct-kind .ensures) _ (c₁ .before .before .before .t2 .given .1) _ _ _ _
     (c₁ .fields-at .ensures) (c .before .before .close-record .ensures)

@@ -43,7 +43,7 @@ pub same-length : (t : ℕ) → lts.Need-same-length (claims t) (brackets-at-at 
 same-length t c = search needs
 
 pub returns : (t : ℕ) → lts.Need-returns (claims t) (brackets-at-at t) brackets-at.Post
-returns t c = brackets-refused _ _ _ _ _ _ _ _ _ _ (c .before .before .before .before .before .type-list .ensures) _ (c .before .l .given .1)
+returns t c = brackets-refused _ _ _ _ _ _ _ _ _ _ _ (c .before .before .before .before .before .type-list .ensures) _ (c .before .l .given .1)
 
 pub same-length-2 : (t : ℕ) → lts.Need-same-length-2 (claims t) (brackets-at-at t) brackets-at.Post
 same-length-2 t c = search needs
@@ -55,6 +55,6 @@ returns-2 t c =
     let c₃ = c₂ .before .before .before .before in
     let c₄ = c₃ .before .before .before .before in
     let c₅ = c₄ .before .before .before .before .before in
-    brackets-read _ _ _ _ _ _ _ _ _ _ (c₃ .type-list .ensures) _ (c₂ .l2 .given .1) (omega (arith, c₅ .good .1 .1 .1 .0 .0)) _
+    brackets-read _ _ _ _ _ _ _ _ _ _ _ (c₃ .type-list .ensures) _ (c₂ .l2 .given .1) (omega (arith, c₅ .good .1 .1 .1 .0 .0)) _
     (c₄ .before .before .step-inside .ensures) (c₄ .put-mark .ensures) _ _ _ _ (c₁ .before .before .before .put-mark2 .ensures)
     (c₁ .brackets-kind .ensures) (c .before .before .seal .ensures)

@@ -45,8 +45,8 @@ parse-type-requires t c κs =
     let c₁ = c .before .before .before .before .before .before .before .before .before .before .before .before in
     let c₂ = c₁ .before .before .before .before in
     let c₃ = c₂ .before .before .before .before .before .before .before .before .before in
-    let g = all-goes _ _ _ _ _ _ _ _ _ (c₂ .type-list .ensures) _ (c₁ .l2 .given .1) in
-    let d = next-found _ _ _ (g .1) in
+    let g = all-goes _ _ _ _ _ _ _ _ _ _ (c₂ .type-list .ensures) _ (c₁ .l2 .given .1) in
+    let d = next-found _ _ _ _ (g .1) in
     (omega (arith, c₃ .pre .0, g .0, d .from, d .fits .1, d .fits .2), tt)
 
 pub enum-known-t : (t : ℕ) → lts.Need-enum-known-t (claims t) (function-at-at t) function-at.Post
@@ -62,7 +62,7 @@ pub same-length : (t : ℕ) → lts.Need-same-length (claims t) (function-at-at 
 same-length t c = search needs
 
 pub returns : (t : ℕ) → lts.Need-returns (claims t) (function-at-at t) function-at.Post
-returns t c = function-refused _ _ _ _ _ _ _ _ _ _ (c .before .before .before .before .before .type-list .ensures) _ (c .before .l .given .1)
+returns t c = function-refused _ _ _ _ _ _ _ _ _ _ _ (c .before .before .before .before .before .type-list .ensures) _ (c .before .l .given .1)
 
 pub same-length-2 : (t : ℕ) → lts.Need-same-length-2 (claims t) (function-at-at t) function-at.Post
 same-length-2 t c =
@@ -79,7 +79,7 @@ returns-2 t c =
     let c₁ = c .before .before .before .before .before in
     let c₂ = c₁ .before .before .before .before .before .before .before .before .before .before .before .before .before in
     let c₃ = c₂ .before .before .before .before in
-    result-refused _ _ _ _ _ _ _ _ _ _ (c₃ .type-list .ensures) _ (c₂ .l2 .given .1) _ _ _ _ (c₁ .parse-type .ensures) _ (c .before .t .given .1)
+    result-refused _ _ _ _ _ _ _ _ _ _ _ (c₃ .type-list .ensures) _ (c₂ .l2 .given .1) _ _ _ _ (c₁ .parse-type .ensures) _ (c .before .t .given .1)
 
 pub same-length-3 : (t : ℕ) → lts.Need-same-length-3 (claims t) (function-at-at t) function-at.Post
 same-length-3 t c =
@@ -101,6 +101,6 @@ returns-3 t c =
     let c₆ = c₅ .before .before .before .before in
     let c₇ = c₆ .before .before .before .before in
     let c₈ = c₇ .before .before .before .before .before in
-    function-read _ _ _ _ _ _ _ _ _ _ (c₆ .type-list .ensures) _ (c₅ .l2 .given .1) _ _ _ _ (c₂ .parse-type .ensures) _ (c₁ .t2 .given .1)
+    function-read _ _ _ _ _ _ _ _ _ _ _ (c₆ .type-list .ensures) _ (c₅ .l2 .given .1) _ _ _ _ (c₂ .parse-type .ensures) _ (c₁ .t2 .given .1)
     (omega (arith, c₈ .good .1 .1 .1 .0 .0)) _ _ _ (c₇ .before .before .step-inside .ensures) (c₇ .put-mark .ensures) (c₄ .close-bars .ensures)
     (c₃ .put-mark2 .ensures) _ (c .before .before .seal .ensures)

@@ -22,7 +22,7 @@ pub same-length : (t : ℕ) → lts.Need-same-length (claims t) (marked-at-at t)
 same-length t c = search needs
 
 pub returns : (t : ℕ) → lts.Need-returns (claims t) (marked-at-at t) marked-at.Post
-returns t c = λ _. marked-brackets _ _ _ _ _ _ _ _ (c .before .before .before .before .if1 .taken) (c .before .before .brackets-at .ensures)
+returns t c = λ _. marked-brackets _ _ _ _ _ _ _ _ _ (c .before .before .before .before .if1 .taken) (c .before .before .brackets-at .ensures)
 
 pub is-reference-requires : (t : ℕ) → lts.Need-is-reference-requires (claims t) (marked-at-at t) marked-at.Post
 is-reference-requires t c κs = search needs
@@ -38,7 +38,7 @@ same-length-2 t c = search needs
 pub returns-2 : (t : ℕ) → lts.Need-returns-2 (claims t) (marked-at-at t) marked-at.Post
 returns-2 t c =
     let c₁ = c .before .before .before .before .before in
-    λ _. marked-reference _ _ _ _ _ _ _ _ (c₁ .before .before .if1 .left) _ (c₁ .before .is-reference .ensures) (c₁ .if2 .taken) (c .before .before .reference-at .ensures)
+    λ _. marked-reference _ _ _ _ _ _ _ _ _ (c₁ .before .before .if1 .left) _ (c₁ .before .is-reference .ensures) (c₁ .if2 .taken) (c .before .before .reference-at .ensures)
 
 pub function-at-requires : (t : ℕ) → lts.Need-function-at-requires (claims t) (marked-at-at t) marked-at.Post
 function-at-requires t c κs =
@@ -53,7 +53,7 @@ returns-3 t c =
     let c₁ = c .before .before .before .before in
     let c₂ = c₁ .before .before .before .before in
     let e = c₁ .before .before .before .is-reference .ensures in
-    λ _. marked-function _ _ _ _ _ _ _ _ (c₂ .if1 .left) (no-reference _ _ e (c₁ .before .before .if2 .left)) (no-reference-mut _ _ e (c₁ .before .before .if2 .left)) (c₁ .if3 .taken)
+    λ _. marked-function _ _ _ _ _ _ _ _ _ (c₂ .if1 .left) (no-reference _ _ e (c₁ .before .before .if2 .left)) (no-reference-mut _ _ e (c₁ .before .before .if2 .left)) (c₁ .if3 .taken)
     (c .before .before .function-at .ensures)
 
 pub unexpected-requires : (t : ℕ) → lts.Need-unexpected-requires (claims t) (marked-at-at t) marked-at.Post
@@ -62,5 +62,5 @@ unexpected-requires t c κs = search needs
 pub returns-4 : (t : ℕ) → lts.Need-returns-4 (claims t) (marked-at-at t) marked-at.Post
 returns-4 t c =
     let e = c .before .before .before .before .is-reference .ensures in
-    λ k. marked-other _ _ _ _ _ _ _ _ (c .before .before .before .before .before .if1 .left) (no-reference _ _ e (c .before .before .before .if2 .left)) (no-reference-mut _ _ e (c .before .before .before .if2 .left)) (c .before .if3 .left) k
+    λ k. marked-other _ _ _ _ _ _ _ _ _ (c .before .before .before .before .before .if1 .left) (no-reference _ _ e (c .before .before .before .if2 .left)) (no-reference-mut _ _ e (c .before .before .before .if2 .left)) (c .before .if3 .left) k
     (c .unexpected .ensures)

@@ -41,7 +41,7 @@ returns t c =
     let c₁ = c .before .before .before .before in
     let c₂ = c₁ .before .before .before .before .before .before .before in
     let c₃ = c₂ .before .before .before .before .before in
-    λ h k. named-alone _ _ _ _ _ _ _ _ _ (c₂ .name-behind .ensures .reads h k) _ (c₁ .before .before .before .c2 .given .1) (c₁ .if1 .taken)
+    λ h k. named-alone _ _ _ _ _ _ _ _ _ _ (c₂ .name-behind .ensures .reads h k) _ (c₁ .before .before .before .c2 .given .1) (c₁ .if1 .taken)
     (omega (arith, c₃ .good .1 .1 .1 .1 .0 .0)) (c₂ .before .before .step-inside .ensures) _ (c .before .before .seal .ensures)
 
 pub step-angle-requires : (t : ℕ) → lts.Need-step-angle-requires (claims t) (named-at-at t) named-at.Post
@@ -67,7 +67,7 @@ same-length-2 t c = search needs
 
 pub returns-2 : (t : ℕ) → lts.Need-returns-2 (claims t) (named-at-at t) named-at.Post
 returns-2 t c =
-    λ h k. named-refused _ _ _ _ _ _ _ _ _ (c .before .before .before .before .before .name-behind .ensures .reads h k) _ (c .before .c .given .1)
+    λ h k. named-refused _ _ _ _ _ _ _ _ _ _ (c .before .before .before .before .before .name-behind .ensures .reads h k) _ (c .before .c .given .1)
 
 pub same-length-3 : (t : ℕ) → lts.Need-same-length-3 (claims t) (named-at-at t) named-at.Post
 same-length-3 t c = search needs
@@ -77,7 +77,7 @@ returns-3 t c =
     let c₁ = c .before .before .before .before .before in
     let c₂ = c₁ .before .before .before .before .before .before in
     let c₃ = c₂ .before .before .before .before in
-    λ h k. arguments-refused _ _ _ _ _ _ _ _ _ (c₃ .name-behind .ensures .reads h k) _ (c₂ .c2 .given .1) (c₁ .before .before .before .if1 .left) _ _ _
+    λ h k. arguments-refused _ _ _ _ _ _ _ _ _ _ (c₃ .name-behind .ensures .reads h k) _ (c₂ .c2 .given .1) (c₁ .before .before .before .if1 .left) _ _ _
     (c₁ .type-list .ensures) _ (c .before .l .given .1)
 
 pub same-length-4 : (t : ℕ) → lts.Need-same-length-4 (claims t) (named-at-at t) named-at.Post
@@ -96,6 +96,6 @@ returns-4 t c =
     let c₄ = c₃ .before .before .before .before .before .before in
     let c₅ = c₄ .before .before .before .before in
     let c₆ = c₅ .before .before .before .before .before in
-    λ h k. named-read _ _ _ _ _ _ _ _ _ (c₅ .name-behind .ensures .reads h k) _ (c₄ .c2 .given .1) (c₃ .before .before .before .if1 .left) _ _ _
+    λ h k. named-read _ _ _ _ _ _ _ _ _ _ (c₅ .name-behind .ensures .reads h k) _ (c₄ .c2 .given .1) (c₃ .before .before .before .if1 .left) _ _ _
     (c₃ .type-list .ensures) _ (c₂ .l2 .given .1) (omega (arith, c₆ .good .1 .1 .1 .1 .0 .0)) (c₅ .before .before .step-inside .ensures)
     (c₃ .before .before .step-angle .ensures) _ _ _ (c₁ .close-angles .ensures) (c .before .before .seal2 .ensures)

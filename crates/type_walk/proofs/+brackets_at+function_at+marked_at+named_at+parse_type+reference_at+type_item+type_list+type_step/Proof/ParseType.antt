@@ -22,7 +22,7 @@ pub too-deep-requires : (t : ℕ) → lts.Need-too-deep-requires (claims t) (par
 too-deep-requires t c κs = search needs
 
 pub returns : (t : ℕ) → lts.Need-returns (claims t) (parse-type-at t) parse-type.Post
-returns t c = type-deep _ _ _ _ _ _ _ _ (c .before .if1 .taken) (c .too-deep .ensures)
+returns t c = type-deep _ _ _ _ _ _ _ _ _ (c .before .if1 .taken) (c .too-deep .ensures)
 
 pub sub-t11 : (t : ℕ) → lts.Need-sub-t11 (claims t) (parse-type-at t) parse-type.Post
 sub-t11 t c = search needs
@@ -41,7 +41,7 @@ same-length t c = search needs
 pub returns-2 : (t : ℕ) → lts.Need-returns-2 (claims t) (parse-type-at t) parse-type.Post
 returns-2 t c =
     let c₁ = c .before .before .before .before in
-    type-over _ _ _ _ _ _ _ _ (omega (arith, c₁ .before .before .before .if1 .left)) (c .before .before .marked-at .ensures (sym (c₁ .before .is-first .ensures) ∙ not-true _ (c₁ .if2 .taken)))
+    type-over _ _ _ _ _ _ _ _ _ (omega (arith, c₁ .before .before .before .if1 .left)) (c .before .before .marked-at .ensures (sym (c₁ .before .is-first .ensures) ∙ not-true _ (c₁ .if2 .taken)))
 
 pub behind-requires : (t : ℕ) → lts.Need-behind-requires (claims t) (parse-type-at t) parse-type.Post
 behind-requires t c κs = search needs
@@ -56,15 +56,15 @@ pub named-at-requires : (t : ℕ) → lts.Need-named-at-requires (claims t) (par
 named-at-requires t c κs =
     let c₁ = c .before .before .before .before in
     let c₂ = c₁ .before .before .before .before .before .before .before .before in
-    let d = next-found _ _ _ (sym (c₁ .behind .ensures) ∙ c .before .before .l2 .given .1) in
+    let d = next-found _ _ _ _ (sym (c₁ .behind .ensures) ∙ c .before .before .l2 .given .1) in
     let k = begins-some (c₂ .args .a) (sym (c₁ .before .before .is-first .ensures) ∙ not-false _ (c₁ .before .if2 .left)) in
     (omega (arith, c₂ .pre .0, d .from, d .fits .1, k), tt)
 
 pub returns-3 : (t : ℕ) → lts.Need-returns-3 (claims t) (parse-type-at t) parse-type.Post
 returns-3 t c =
     let c₁ = c .before .before .before .before in
-    type-over _ _ _ _ _ _ _ _ (omega (arith, c₁ .before .before .before .if1 .left))
-    (begun-bad _ _ _ _ _ _ _ _ (sym (c₁ .before .is-first .ensures) ∙ not-false _ (c₁ .if2 .left)) (sym (c .before .before .before .behind .ensures) ∙ c .before .l .given .1))
+    type-over _ _ _ _ _ _ _ _ _ (omega (arith, c₁ .before .before .before .if1 .left))
+    (begun-bad _ _ _ _ _ _ _ _ _ (sym (c₁ .before .is-first .ensures) ∙ not-false _ (c₁ .if2 .left)) (sym (c .before .before .before .behind .ensures) ∙ c .before .l .given .1))
 
 pub same-length-2 : (t : ℕ) → lts.Need-same-length-2 (claims t) (parse-type-at t) parse-type.Post
 same-length-2 t c = search needs
@@ -74,5 +74,5 @@ returns-4 t c =
     let c₁ = c .before .before .before .before .before in
     let c₂ = c₁ .before .before .before .before in
     let k = sym (c₂ .is-first .ensures) ∙ not-false _ (c₁ .before .before .before .if2 .left) in
-    type-over _ _ _ _ _ _ _ _ (omega (arith, c₂ .before .before .if1 .left))
-    (begun-named _ _ _ _ _ _ _ _ k (c .before .before .named-at .ensures (sym (c₁ .before .before .behind .ensures) ∙ c₁ .l2 .given .1) k))
+    type-over _ _ _ _ _ _ _ _ _ (omega (arith, c₂ .before .before .if1 .left))
+    (begun-named _ _ _ _ _ _ _ _ _ k (c .before .before .named-at .ensures (sym (c₁ .before .before .behind .ensures) ∙ c₁ .l2 .given .1) k))

@@ -37,7 +37,7 @@ pub parse-type-requires : (t : ℕ) → lts.Need-parse-type-requires (claims t) 
 parse-type-requires t c κs =
     let c₁ = c .before .before .before .before .before .before .before in
     let c₂ = c₁ .before .before .before .before .before in
-    let d = next-found _ _ _ (sym (c₁ .before .before .next-token .ensures) ∙ c₁ .l2 .given .1) in
+    let d = next-found _ _ _ _ (sym (c₁ .before .before .next-token .ensures) ∙ c₁ .l2 .given .1) in
     (omega (arith, c₂ .pre .0, d .from, d .fits .1, d .fits .2), tt)
 
 pub enum-known-t : (t : ℕ) → lts.Need-enum-known-t (claims t) (reference-at-at t) reference-at.Post
@@ -55,7 +55,7 @@ seal-requires t c κs = search needs
 pub returns : (t : ℕ) → lts.Need-returns (claims t) (reference-at-at t) reference-at.Post
 returns t c =
     let c₁ = c .before .before .before .before .before .before in
-    reference-bad _ _ _ _ _ _ (c₁ .args .mutable) _ _ (sym (c .before .before .before .next-token .ensures) ∙ c .before .l .given .1)
+    reference-bad _ _ _ _ _ _ _ (c₁ .args .mutable) _ _ (sym (c .before .before .before .next-token .ensures) ∙ c .before .l .given .1)
 
 pub same-length : (t : ℕ) → lts.Need-same-length (claims t) (reference-at-at t) reference-at.Post
 same-length t c = search needs
@@ -65,7 +65,7 @@ returns-2 t c =
     let c₁ = c .before .before .before .before .before in
     let c₂ = c₁ .before .before .before .before .before .before .before .before in
     let c₃ = c₂ .before .before .before .before .before in
-    reference-refused _ _ _ _ _ _ (c₃ .args .mutable) _ (sym (c₂ .before .before .next-token .ensures) ∙ c₂ .l2 .given .1) _ _ _ _
+    reference-refused _ _ _ _ _ _ _ (c₃ .args .mutable) _ (sym (c₂ .before .before .next-token .ensures) ∙ c₂ .l2 .given .1) _ _ _ _
     (c₁ .parse-type .ensures) _ (c .before .t .given .1)
 
 pub same-length-2 : (t : ℕ) → lts.Need-same-length-2 (claims t) (reference-at-at t) reference-at.Post
@@ -78,6 +78,6 @@ returns-3 t c =
     let c₃ = c₂ .before .before .before .before in
     let c₄ = c₃ .before .before .before .before in
     let c₅ = c₄ .before .before .before .before .before in
-    reference-read _ _ _ _ _ _ (c₅ .args .mutable) _ (sym (c₄ .before .before .next-token .ensures) ∙ c₄ .l2 .given .1) _ _ _ _ (c₂ .parse-type .ensures)
+    reference-read _ _ _ _ _ _ _ (c₅ .args .mutable) _ (sym (c₄ .before .before .next-token .ensures) ∙ c₄ .l2 .given .1) _ _ _ _ (c₂ .parse-type .ensures)
     _ (c₁ .before .before .t2 .given .1) (omega (arith, c₅ .good .1 .1 .1 .1 .0 .0)) _ (c₃ .before .before .step-inside .ensures)
     (c₃ .put-reference .ensures) _ _ (c₁ .reference-kind .ensures) (c .before .before .seal .ensures)

@@ -20,7 +20,7 @@ abbrev pub claims : ℕ → lts.Claims
 claims t = (move-by-reads.Asked, move-by-reads.Learnt, type-step-below t, type-step.Post, close-list-reads.Asked, close-list-reads.Learnt, count-more-reads.Asked, count-more-reads.Learnt)
 
 abbrev pub Inv-loop : lts.InvT-loop
-Inv-loop w close text o out₀ i₀ to₀ count₀ out i to count = Going (w .form) text (readType (w .left)) close o to₀ out₀ i to count out
+Inv-loop w close text o out₀ i₀ to₀ count₀ out i to count = Going (w .form) (w .edition) text (readType (w .left)) close o to₀ out₀ i to count out
 
 abbrev pub μ-loop : lts.MeasureT-loop
 μ-loop w close text o out₀ i₀ to₀ count₀ out i to count = length text - i
@@ -29,7 +29,7 @@ pub move-by-requires : (t : ℕ) → lts.Need-move-by-requires (claims t) (type-
 move-by-requires t c κs = search needs
 
 pub loop-holds : (t : ℕ) → lts.Need-loop-holds (claims t) (type-list-at t) type-list.Post Inv-loop μ-loop
-loop-holds t c = going-first _ _ _ _ _ _ _ (c .move-by .ensures) _ (omega (arith, c .before .before .before .good .1 .1 .1 .1 .0 .0))
+loop-holds t c = going-first _ _ _ _ _ _ _ _ (c .move-by .ensures) _ (omega (arith, c .before .before .before .good .1 .1 .1 .1 .0 .0))
 
 pub type-step-requires : (t : ℕ) → lts.Need-type-step-requires (claims t) (type-list-at t) type-list.Post Inv-loop μ-loop
 type-step-requires t c κs = (omega (arith, c .before .before .before .before .before .pre .0, c .before .loop .inv .after), tt)
@@ -46,7 +46,7 @@ pub returns : (t : ℕ) → lts.Need-returns (claims t) (type-list-at t) type-li
 returns t c =
     let c₁ = c .before .before .before .before .before in
     let c₂ = c₁ .before .before .before .before .before .before in
-    step-stopped _ _ _ _ _ _ _ (c₁ .before .before .before .move-by .ensures) _ (omega (arith, c₂ .good .1 .1 .1 .1 .0 .0)) _ _ _ _ (c₁ .before .before .loop .inv) _ _ _ (c₁ .type-step .ensures) (c .before .c .given .1)
+    step-stopped _ _ _ _ _ _ _ _ (c₁ .before .before .before .move-by .ensures) _ (omega (arith, c₂ .good .1 .1 .1 .1 .0 .0)) _ _ _ _ (c₁ .before .before .loop .inv) _ _ _ (c₁ .type-step .ensures) (c .before .c .given .1)
 
 pub enum-known-c-2 : (t : ℕ) → lts.Need-enum-known-c-2 (claims t) (type-list-at t) type-list.Post Inv-loop μ-loop
 enum-known-c-2 t c = search needs
@@ -63,7 +63,7 @@ pub returns-2 : (t : ℕ) → lts.Need-returns-2 (claims t) (type-list-at t) typ
 returns-2 t c =
     let c₁ = c .before .before .before .before .before .before in
     let c₂ = c₁ .before .before .before .before .before .before in
-    step-closes _ _ _ _ _ _ _ (c₁ .before .before .before .move-by .ensures) _ (omega (arith, c₂ .good .1 .1 .1 .1 .0 .0)) _ _ _ _ (c₁ .before .before .loop .inv) _ _ _ _ (c₁ .type-step .ensures)
+    step-closes _ _ _ _ _ _ _ _ (c₁ .before .before .before .move-by .ensures) _ (omega (arith, c₂ .good .1 .1 .1 .1 .0 .0)) _ _ _ _ (c₁ .before .before .loop .inv) _ _ _ _ (c₁ .type-step .ensures)
     (c .before .before .c2 .given .1) (c .close-list .ensures)
 
 pub enum-known-c-3 : (t : ℕ) → lts.Need-enum-known-c-3 (claims t) (type-list-at t) type-list.Post Inv-loop μ-loop
@@ -84,7 +84,7 @@ pub returns-3 : (t : ℕ) → lts.Need-returns-3 (claims t) (type-list-at t) typ
 returns-3 t c =
     let c₁ = c .before .before .before .before .before .before .before in
     let c₂ = c₁ .before .before .before .before .before .before in
-    step-last _ _ _ _ _ _ _ (c₁ .before .before .before .move-by .ensures) _ (omega (arith, c₂ .good .1 .1 .1 .1 .0 .0)) _ _ _ _ (c₁ .before .before .loop .inv) _ _ _ _ _ (c .before .count-more .ensures)
+    step-last _ _ _ _ _ _ _ _ (c₁ .before .before .before .move-by .ensures) _ (omega (arith, c₂ .good .1 .1 .1 .1 .0 .0)) _ _ _ _ (c₁ .before .before .loop .inv) _ _ _ _ _ (c .before .count-more .ensures)
     (c₁ .type-step .ensures) _ (c .before .before .before .c3 .given .1) (c .close-list2 .ensures)
 
 pub enum-known-c-4 : (t : ℕ) → lts.Need-enum-known-c-4 (claims t) (type-list-at t) type-list.Post Inv-loop μ-loop
@@ -97,7 +97,7 @@ pub loop-less : (t : ℕ) → lts.Need-loop-less (claims t) (type-list-at t) typ
 loop-less t c =
     let c₁ = c .before .before .before .before .before .before in
     let c₂ = c₁ .before .before .before .before .before .before in
-    let d = step-on _ _ _ _ _ _ _ (c₁ .before .before .before .move-by .ensures) _ (omega (arith, c₂ .good .1 .1 .1 .1 .0 .0)) _ _ _ _ (c₁ .before .before .loop .inv) _ _ _ _ _ (c .count-more2 .ensures)
+    let d = step-on _ _ _ _ _ _ _ _ (c₁ .before .before .before .move-by .ensures) _ (omega (arith, c₂ .good .1 .1 .1 .1 .0 .0)) _ _ _ _ (c₁ .before .before .loop .inv) _ _ _ _ _ (c .count-more2 .ensures)
     (c₁ .type-step .ensures) (c .before .before .c4 .given .1) in
     omega (arith, d .0, d .1)
 
@@ -105,5 +105,5 @@ pub loop-again : (t : ℕ) → lts.Need-loop-again (claims t) (type-list-at t) t
 loop-again t c =
     let c₁ = c .before .before .before .before .before .before in
     let c₂ = c₁ .before .before .before .before .before .before in
-    step-goes _ _ _ _ _ _ _ (c₁ .before .before .before .move-by .ensures) _ (omega (arith, c₂ .good .1 .1 .1 .1 .0 .0)) _ _ _ _ (c₁ .before .before .loop .inv) _ _ _ _ _ (c .count-more2 .ensures)
+    step-goes _ _ _ _ _ _ _ _ (c₁ .before .before .before .move-by .ensures) _ (omega (arith, c₂ .good .1 .1 .1 .1 .0 .0)) _ _ _ _ (c₁ .before .before .loop .inv) _ _ _ _ _ (c .count-more2 .ensures)
     (c₁ .type-step .ensures) (c .before .before .c4 .given .1)

@@ -28,14 +28,14 @@ enum-known-b-3 t c = search needs
 pub type-item-requires : (t : ℕ) → lts.Need-type-item-requires (claims t) (type-step-at t) type-step.Post
 type-item-requires t c κs =
     let c₁ = c .before .before .before .before in
-    let d = item-there _ _ _ _ (sym (c₁ .next-item .ensures) ∙ c .before .before .b3 .given .1) in
+    let d = item-there _ _ _ _ _ (sym (c₁ .next-item .ensures) ∙ c .before .before .b3 .given .1) in
     (omega (arith, c₁ .before .before .before .pre .0, d .from, d .fits .1, d .fits .2), tt)
 
 pub returns : (t : ℕ) → lts.Need-returns (claims t) (type-step-at t) type-step.Post
-returns t c = steps-refused _ _ _ _ _ _ _ _ _ _ (sym (c .before .before .before .next-item .ensures) ∙ c .before .b .given .1)
+returns t c = steps-refused _ _ _ _ _ _ _ _ _ _ _ (sym (c .before .before .before .next-item .ensures) ∙ c .before .b .given .1)
 
 pub returns-2 : (t : ℕ) → lts.Need-returns-2 (claims t) (type-step-at t) type-step.Post
-returns-2 t c = steps-closes _ _ _ _ _ _ _ _ _ _ (sym (c .before .before .before .next-item .ensures) ∙ c .before .b2 .given .1)
+returns-2 t c = steps-closes _ _ _ _ _ _ _ _ _ _ _ (sym (c .before .before .before .next-item .ensures) ∙ c .before .b2 .given .1)
 
 pub same-length : (t : ℕ) → lts.Need-same-length (claims t) (type-step-at t) type-step.Post
 same-length t c = search needs
@@ -43,4 +43,4 @@ same-length t c = search needs
 pub returns-3 : (t : ℕ) → lts.Need-returns-3 (claims t) (type-step-at t) type-step.Post
 returns-3 t c =
     let c₁ = c .before .before .before .before .before in
-    steps-item _ _ _ _ _ _ _ _ _ _ _ _ (sym (c₁ .before .before .next-item .ensures) ∙ c₁ .b3 .given .1) (c .before .before .type-item .ensures)
+    steps-item _ _ _ _ _ _ _ _ _ _ _ _ _ (sym (c₁ .before .before .next-item .ensures) ∙ c₁ .b3 .given .1) (c .before .before .type-item .ensures)

@@ -3,24 +3,25 @@
 //! comes later, or not at all, that token could have stood there.
 
 use crate::visible;
-use movesig::{next_token, read, tokens, Kind, Refusal, Token, LONGEST};
+use movesig::{next_token, read, tokens, Edition, Kind, Refusal, Token, LONGEST};
 
-/// An item that is read: of a kind, from a byte on.
+/// An item that is read: of a kind, in an edition, from a byte on.
 #[derive(Clone, Copy)]
 pub struct Item {
     pub kind: Kind,
+    pub edition: Edition,
     pub at: usize,
 }
 
 /// The token at the refusal's place; none where the refusal is about no token.
-pub fn token_at(text: &[u8], refusal: &Refusal) -> Option<Token> {
+pub fn token_at(text: &[u8], item: Item, refusal: &Refusal) -> Option<Token> {
     let about = is_about_a_token(refusal);
-    about.then(|| next_token(text, refusal.place().start).ok())?
+    about.then(|| next_token(item.edition, text, refusal.place().start).ok())?
 }
 
 /// The same, for people.
-pub fn found(text: &[u8], refusal: &Refusal) -> Option<String> {
-    let token = token_at(text, refusal)?;
+pub fn found(text: &[u8], item: Item, refusal: &Refusal) -> Option<String> {
+    let token = token_at(text, item, refusal)?;
     Some(if token.is_eof() {
         "the end of the text".to_string()
     } else {
@@ -38,8 +39,8 @@ pub fn due(text: &[u8], item: Item, refusal: &Refusal) -> Vec<String> {
             vec!["`::` behind a number".to_string()]
         }
         Some(before) if before.len() + MARGIN <= LONGEST => {
-            let mut fitting = fitting(item.kind, before, refusal);
-            words(before, &mut fitting)
+            let mut fitting = fitting(item, before, refusal);
+            words(item.edition, before, &mut fitting)
         }
         _ => vec![],
     }
@@ -70,28 +71,28 @@ const MARGIN: usize = 8;
 /// Those that go on with a list or end it.
 const LIST_TOKENS: [&str; 5] = [",", ")", ">", "|", "}"];
 
-fn fitting(kind: Kind, before: &[u8], refusal: &Refusal) -> Vec<&'static str> {
+fn fitting(item: Item, before: &[u8], refusal: &Refusal) -> Vec<&'static str> {
     let tokens = match refusal {
         Refusal::ListNotClosed { .. } => &LIST_TOKENS[..],
         _ => &TOKENS,
     };
-    let fits = |token: &&str| fits(kind, before, token);
+    let fits = |token: &&str| fits(item, before, token);
     tokens.iter().copied().filter(fits).collect()
 }
 
 /// Whether the token can follow what is read before it. A line feed stands between them, which joins
 /// with neither.
-fn fits(kind: Kind, before: &[u8], token: &str) -> bool {
+fn fits(item: Item, before: &[u8], token: &str) -> bool {
     let text = [before, b"\n", token.as_bytes()].concat();
     let mut buffer = vec![0; LONGEST];
-    match read(kind, &text, 0, &mut buffer) {
+    match read(item.kind, item.edition, &text, 0, &mut buffer) {
         Ok(_) | Err(Refusal::NoRoom) => true,
         Err(refusal) => refusal.place().start > before.len() + 1,
     }
 }
 
 /// Sorts of items in place of the tokens that begin them.
-fn words(before: &[u8], fitting: &mut Vec<&str>) -> Vec<String> {
+fn words(edition: Edition, before: &[u8], fitting: &mut Vec<&str>) -> Vec<String> {
     let mut words = vec![];
     let mut take = |tokens: &[&str], name: &str| {
         if tokens.iter().all(|token| fitting.contains(token)) {
@@ -102,7 +103,7 @@ fn words(before: &[u8], fitting: &mut Vec<&str>) -> Vec<String> {
     take(&["x", "1", "&", "&mut ", "(", "|"], "a type");
     take(&["1", "1u8", "true", "b\"\"", "@"], "a value");
     take(&["x", "1"], "a name");
-    let last = tokens(before, 0).map_while(Result::ok);
+    let last = tokens(edition, before, 0).map_while(Result::ok);
     let last = last.filter(|token| !token.is_eof()).last();
     if last.is_some_and(|token| token.span.of(before) == b"::") {
         take(&["x"], "a name behind `::`");

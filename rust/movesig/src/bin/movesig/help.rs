@@ -5,10 +5,10 @@ use movesig::Kind;
 const PURPOSE: &str = "reads Move source with the proved signature reader";
 
 const USAGE: [&str; 5] = [
-    "movesig [--json] tokens FILE ...",
-    "movesig [--json] comments FILE ...",
-    "movesig [--json] read KIND FILE [PLACE] ...",
-    "movesig [--json] line KIND FILE [PLACE] ...",
+    "movesig [--json] [--edition N] tokens FILE ...",
+    "movesig [--json] [--edition N] comments FILE ...",
+    "movesig [--json] [--edition N] read KIND FILE [PLACE] ...",
+    "movesig [--json] [--edition N] line KIND FILE [PLACE] ...",
     "movesig help | man | completions",
 ];
 
@@ -33,6 +33,9 @@ const SECTIONS: [(&str, &str); 8] = [
         "Options",
         r"
   --json         one object a line, for machines: see below
+  --edition N    the edition of Move that the files are written in: 1, which it
+                 is if left out, or 2, where a number may hold _ behind its
+                 first digit and end in u16, u32 and u256 too
   -h, --help     this text
   -V, --version  the version
   --             no word behind it is an option
@@ -190,12 +193,15 @@ pub fn completions() -> String {
     format!(
         r#"# Completions of movesig for bash.
 _movesig() {{
-    local word=${{COMP_WORDS[COMP_CWORD]}} plain=() other
+    local word=${{COMP_WORDS[COMP_CWORD]}} plain=() other last=
     for other in "${{COMP_WORDS[@]:1:COMP_CWORD-1}}"; do
-        [[ $other == --* ]] || plain+=("$other")
+        [[ $other == --* || $last == --edition ]] || plain+=("$other")
+        last=$other
     done
-    if [[ $word == --* ]]; then
-        mapfile -t COMPREPLY < <(compgen -W '--json --help --version --' -- "$word")
+    if [[ $last == --edition ]]; then
+        mapfile -t COMPREPLY < <(compgen -W '1 2' -- "$word")
+    elif [[ $word == --* ]]; then
+        mapfile -t COMPREPLY < <(compgen -W '--json --edition --help --version --' -- "$word")
     elif ((${{#plain[@]}} == 0)); then
         mapfile -t COMPREPLY < <(compgen -W 'tokens comments read line help man completions' -- "$word")
     elif ((${{#plain[@]}} == 1)) && [[ ${{plain[0]}} == read || ${{plain[0]}} == line ]]; then

@@ -11,7 +11,7 @@ use crate::{
     text::{self, Text},
     visible, Said,
 };
-use movesig::{comments, display, read, tokens, Following, Kind, Refusal, LONGEST};
+use movesig::{comments, display, read, tokens, Edition, Following, Kind, Refusal, LONGEST};
 use std::{
     env,
     ffi::OsString,
@@ -36,6 +36,8 @@ pub enum Work {
 
 pub struct Job {
     pub work: Work,
+    /// The edition that the file is written in.
+    pub edition: Edition,
     pub file: OsString,
     /// Where the item begins, for a read and a line.
     pub place: Place,
@@ -74,7 +76,7 @@ impl Job {
         let report = self.report(text, item);
         said.errors += &report.of(refusal);
         if let Some(item) = item {
-            let notes = notes::refused(&text.bytes, item.at, refusal);
+            let notes = notes::refused(item.edition, &text.bytes, item.at, refusal);
             put_notes(&report, &notes, said);
         }
     }
@@ -93,7 +95,8 @@ impl Job {
                 .byte(line, column)
                 .map_err(|why| format!("no such place: {line}:{column}: {why}"))?,
         };
-        Ok((text, Some(Item { kind, at })))
+        let edition = self.edition;
+        Ok((text, Some(Item { kind, edition, at })))
     }
 
     fn failed(&self, why: &str) -> Said {
@@ -119,7 +122,7 @@ impl Job {
     }
 
     fn tokens(&self, text: &[u8], said: &mut Said) -> Result<(), Refusal> {
-        let (tokens, done) = up_to_refusal(tokens(text, 0));
+        let (tokens, done) = up_to_refusal(tokens(self.edition, text, 0));
         if self.json {
             let places = Places::new(text);
             let objects = tokens.iter();
@@ -133,7 +136,7 @@ impl Job {
     }
 
     fn comments(&self, text: &[u8], said: &mut Said) -> Result<(), Refusal> {
-        let (comments, done) = up_to_refusal(comments(text, 0));
+        let (comments, done) = up_to_refusal(comments(self.edition, text, 0));
         if self.json {
             let places = Places::new(text);
             let objects = comments.iter();
@@ -151,7 +154,7 @@ impl Job {
 
     fn tree(&self, text: &Text, item: Item, said: &mut Said) -> Result<(), Refusal> {
         let mut buffer = vec![0; LONGEST];
-        let found = read(item.kind, &text.bytes, item.at, &mut buffer)?;
+        let found = read(item.kind, item.edition, &text.bytes, item.at, &mut buffer)?;
         let beside = Beside::new(&text.bytes, item, Some(found.next));
         self.item(text, item, &Answer::Tree(found.tree), &beside, said);
         Ok(())
@@ -159,9 +162,9 @@ impl Job {
 
     fn line(&self, text: &Text, item: Item, said: &mut Said) -> Result<(), Refusal> {
         let mut buffer = vec![0; LONGEST];
-        let line = display(item.kind, &text.bytes, item.at, &mut buffer)?;
+        let line = display(item.kind, item.edition, &text.bytes, item.at, &mut buffer)?;
         let mut tree = vec![0; LONGEST];
-        let found = read(item.kind, &text.bytes, item.at, &mut tree);
+        let found = read(item.kind, item.edition, &text.bytes, item.at, &mut tree);
         let next = found.ok().map(|found| found.next);
         let beside = Beside::new(&text.bytes, item, next);
         self.item(text, item, &Answer::Line(line), &beside, said);
@@ -229,8 +232,10 @@ impl Job {
 impl Beside {
     fn new(text: &[u8], item: Item, next: Option<Following>) -> Beside {
         let end = next.map_or(item.at, |next| next.span.start);
-        let mut notes: Vec<_> = notes::offset(text, item.at).into_iter().collect();
-        notes.extend(notes::references(text, item.at, end));
+        let mut notes: Vec<_> = notes::offset(item.edition, text, item.at)
+            .into_iter()
+            .collect();
+        notes.extend(notes::references(item.edition, text, item.at, end));
         Beside { next, notes }
     }
 }

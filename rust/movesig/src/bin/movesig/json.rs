@@ -183,16 +183,17 @@ pub fn refusal(file: &[u8], text: &Text, item: Option<Item>, refusal: &Refusal) 
         let second = Object::new().place(&places, refusal.second());
         object = object.raw("second", &second.end());
     }
-    if let Some(found) = due::token_at(text, refusal) {
+    let found = item.and_then(|item| due::token_at(text, item, refusal));
+    if let Some(found) = found {
         let Token { kind, span, .. } = found;
         object = object.raw("found", &following(Following { kind, span }, text));
     }
     if let Some(item) = item {
-        if due::token_at(text, refusal).is_some() {
+        if found.is_some() {
             let due = due::due(text, item, refusal);
             object = object.list("due", due.iter().map(|word| string(word.as_bytes())));
         }
-        object = object.notes(&notes::refused(text, item.at, refusal));
+        object = object.notes(&notes::refused(item.edition, text, item.at, refusal));
     }
     object.line()
 }

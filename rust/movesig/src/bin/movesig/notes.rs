@@ -2,7 +2,7 @@
 //! and a type named `mut`. And what to do where an item has no line.
 
 use crate::visible;
-use movesig::{tokens, Refusal, Span, TokenKind};
+use movesig::{tokens, Edition, Refusal, Span, TokenKind};
 
 /// A note and the byte that it is about.
 pub struct Note {
@@ -11,8 +11,8 @@ pub struct Note {
 }
 
 /// What is noted beside a refusal of the item at this offset.
-pub fn refused(text: &[u8], at: usize, refusal: &Refusal) -> Vec<Note> {
-    let mut notes: Vec<_> = offset(text, at).into_iter().collect();
+pub fn refused(edition: Edition, text: &[u8], at: usize, refusal: &Refusal) -> Vec<Note> {
+    let mut notes: Vec<_> = offset(edition, text, at).into_iter().collect();
     if let Refusal::LineSpoiled { byte } = refusal {
         notes.push(Note {
             at: byte.start,
@@ -24,9 +24,9 @@ pub fn refused(text: &[u8], at: usize, refusal: &Refusal) -> Vec<Note> {
 
 /// Where the offset is inside a token or a comment of the text that is read from its start. None where
 /// the text before it is refused.
-pub fn offset(text: &[u8], at: usize) -> Option<Note> {
+pub fn offset(edition: Edition, text: &[u8], at: usize) -> Option<Note> {
     let mut gap = 0;
-    for token in tokens(text, 0) {
+    for token in tokens(edition, text, 0) {
         let Span { start, end } = token.ok()?.span;
         if at <= start {
             return comment(text, gap, at);
@@ -87,10 +87,10 @@ fn block_comment(text: &[u8], start: usize) -> usize {
 }
 
 /// Each `&mut` between the two bytes that has no space behind it.
-pub fn references(text: &[u8], from: usize, to: usize) -> Vec<Note> {
+pub fn references(edition: Edition, text: &[u8], from: usize, to: usize) -> Vec<Note> {
     let mut notes = vec![];
     let mut amp = None;
-    for token in tokens(text, from).map_while(Result::ok) {
+    for token in tokens(edition, text, from).map_while(Result::ok) {
         if token.span.start >= to {
             break;
         }

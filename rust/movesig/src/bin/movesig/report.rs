@@ -41,7 +41,9 @@ impl Report<'_> {
             .item
             .map(|item| due::due(&self.text.bytes, item, refusal));
         let due = due::listed(&due.unwrap_or_default());
-        let told = match due::found(&self.text.bytes, refusal) {
+        let found = self.item;
+        let found = found.and_then(|item| due::found(&self.text.bytes, item, refusal));
+        let told = match found {
             Some(found) if due.is_empty() => format!(": found {found}"),
             Some(found) => format!(": found {found} where {due} was due"),
             None => String::new(),

@@ -4,7 +4,7 @@ use crate::{
     job::{Job, Place, Work},
     visible,
 };
-use movesig::Kind;
+use movesig::{Edition, Kind};
 use std::ffi::{OsStr, OsString};
 
 /// What is asked for.
@@ -17,15 +17,17 @@ pub enum Asked {
 }
 
 /// What the words ask for, or what is wrong with them.
-pub fn asked(words: impl Iterator<Item = OsString>) -> Result<Asked, String> {
+pub fn asked(mut words: impl Iterator<Item = OsString>) -> Result<Asked, String> {
     let mut plain = vec![];
     let (mut options, mut json) = (true, false);
-    for word in words {
+    let mut edition = Edition::One;
+    while let Some(word) = words.next() {
         match word.to_str() {
             Some("--") if options => options = false,
             Some("--help" | "-h") if options => return Ok(Asked::Help),
             Some("--version" | "-V") if options => return Ok(Asked::Version),
             Some("--json") if options => json = true,
+            Some("--edition") if options => edition = edition_of(words.next())?,
             Some(name) if options && is_option(name) => {
                 return Err(format!("no such option: {}", shown(&word)));
             }
@@ -48,6 +50,7 @@ pub fn asked(words: impl Iterator<Item = OsString>) -> Result<Asked, String> {
     let several = files.len() > 1;
     let job = |(file, place)| Job {
         work,
+        edition,
         file,
         place,
         json,
@@ -94,6 +97,16 @@ fn is_like_a_place(word: &OsStr) -> bool {
     let sign = word.first().is_some_and(|byte| b"+-:".contains(byte));
     let first = word.get(usize::from(sign));
     word.is_empty() || first.is_some_and(u8::is_ascii_digit)
+}
+
+/// The edition that the word behind `--edition` names.
+fn edition_of(word: Option<OsString>) -> Result<Edition, String> {
+    let word = word.ok_or("no edition is given: 1 or 2")?;
+    match word.to_str() {
+        Some("1") => Ok(Edition::One),
+        Some("2") => Ok(Edition::Two),
+        _ => Err(format!("no such edition: {}: it is 1 or 2", shown(&word))),
+    }
 }
 
 fn kind(word: Option<OsString>) -> Result<Kind, String> {
