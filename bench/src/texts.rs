@@ -15,7 +15,7 @@ pub const PLAIN: &str = "plain numbers as long";
 pub const NUMBERS: [Kind; 2] = [(LATER, later_numbers), (PLAIN, plain_numbers)];
 
 /// The rows that both editions read alike.
-pub const KINDS: [Kind; 8] = [
+pub const KINDS: [Kind; 10] = [
     ("Move source", move_source),
     ("comments", comments),
     ("punctuation", punctuation),
@@ -24,6 +24,8 @@ pub const KINDS: [Kind; 8] = [
     ("short names", short_names),
     ("hex numbers", hex_numbers),
     ("keywords", keywords),
+    ("line feeds", line_feeds),
+    ("one comment", one_comment),
 ];
 
 /// Declarations as people write them. `$m`, `$s`, `$f`, `$v` and `$n` stand for a
@@ -212,6 +214,17 @@ fn nested_comments(random: &mut Random, length: usize) -> String {
     let depth = length / (opener.len() + closer.len()) - 1;
     let number = random.below(1000);
     opener.repeat(depth) + &closer.repeat(depth) + &number.to_string()
+}
+
+/// Line feeds, and a name behind them.
+fn line_feeds(_: &mut Random, length: usize) -> String {
+    "\n".repeat(length - 1) + "a"
+}
+
+/// One block comment whose last byte before its close is a line feed, and a name behind it.
+fn one_comment(_: &mut Random, length: usize) -> String {
+    let inside = "x".repeat(length - 6);
+    format!("/*{inside}\n*/a")
 }
 
 /// Names of 1 to 12 bytes that mix letters, digits and `_`.
