@@ -3,7 +3,7 @@
 ghost use mathlib.Core.Path.{_≡_};
 ghost use mathlib.Core.Bool.{cond, false, _&&_, _||_};
 ghost use mathlib.Core.List.{List, [], _∷_};
-ghost use Prim.Native.Nat.{ℕ, _+_, _-_, _^_, _<_};
+ghost use Prim.Native.Nat.{ℕ, _+_, _-_, _*_, _^_, _<_};
 ghost use lib.Dec.{eqb};
 ghost use lib.ListN.{length, drop};
 ghost use Rattle.gap.specs.Marks.{isBlank, docLine, docBlock};
@@ -97,14 +97,18 @@ fn is_blank(a: u8, b: u8) -> bool
     false
 }
 
+// Two bytes as one number, so that two are compared with two by one test.
+fn two_bytes(a: u8, b: u8) -> u32
+    ensures { λ r. ⌜ r ≡ a * 256 + b ⌝ }
+{
+    a as u32 * 256 + b as u32
+}
+
 // Whether two bytes are these.
 fn pair(a: u8, b: u8, x: u8, y: u8) -> bool
     ensures { λ r. ⌜ r ≡ (eqb a x && eqb b y) ⌝ }
 {
-    if a == x {
-        return b == y;
-    }
-    false
+    two_bytes(a, b) == two_bytes(x, y)
 }
 
 // Whether a block comment that goes on with a and b is a doc comment.

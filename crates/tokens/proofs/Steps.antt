@@ -24,7 +24,7 @@ use Rattle.words.specs.declared.Fit.{Fit}
 use Rattle.words.specs.declared.Quote.{Quote}
 use Rattle.words.specs.declared.Quote.the-variants.{Found as QuoteFound, Missing}
 use Rattle.classes.proofs.Cut.{begins-short, run-cut, drop-cut}
-use Rattle.classes.proofs.Runs.{run-stops}
+use Rattle.classes.proofs.Runs.{run-in, run-stops}
 use Rattle.words.proofs.Marks.{mark-short}
 use Rattle.words.proofs.Quotes.{Within, within, quote-shift}
 use Rattle.words.proofs.Suffix.{suffix-short}
@@ -159,6 +159,11 @@ module _ (text : List ℕ) (at m : ℕ) (k : Quote) (ek : k ≡ quoteFrom false 
       string-closed l = closed-by (2 + runLen isAscii (drop 2 (drop at text))) (quoteFrom false 2 (drop 2 (drop at text))) high-here (sym quote-here ∙ g) l
 
 -- names and marks
+-- the run of a name that a letter begins goes on behind it
+pub name-run : (text : List ℕ) (at : ℕ) → at < length text → isLetter (getD text at 0) ≡ true → runEnd (inClass 0) text (at + 1) ≡ runEnd (inClass 0) text at
+unfolding inClass isName
+name-run text at h e = sym (run-in (inClass 0) text at h (rw e))
+
 pub name-at : (text : List ℕ) (at e k : ℕ) → e ≡ runEnd (inClass 0) text at → k ≡ kindOf (take (e - at) (drop at text)) → Found (token k at e) ≡ lexedAt at (name (drop at text))
 unfolding name lexedAt runEnd inClass
 name-at text at e k h g =

@@ -3,8 +3,8 @@ ghost use mathlib.Core.Path.{_≡_};
 ghost use Prim.Native.Nat.{_+_, _^_, _<_, _≤_};
 ghost use lib.Dec.{eqb};
 ghost use lib.ListN.{length, getD, drop};
-ghost use mathlib.Core.Bool.{false, _&&_};
-ghost use Rattle.classes.specs.Class.{isSpace, inClass};
+ghost use mathlib.Core.Bool.{true, false, _&&_};
+ghost use Rattle.classes.specs.Class.{isLetter, isSpace, inClass};
 ghost use Rattle.classes.specs.Run.{runEnd};
 ghost use Rattle.gap.specs.Gap.{gap, gapEndOf};
 ghost use Rattle.gap.specs.LineFeed.{lineFeed, gapFeed};
@@ -54,11 +54,13 @@ pub struct Refusal {
     pub second: Place,
 }
 
-// A token: the number of its kind, in the order of the Rust's `Tok`, and its span.
+// A token: the number of its kind, in the order of the Rust's `Tok`, and its span. The end stands before the
+// start: with both in the order of the six numbers of the token call, the compiler loads the two as one, which
+// waits for both stores.
 pub struct Token {
     pub kind: u8,
-    pub start: usize,
     pub end: usize,
+    pub start: usize,
 }
 
 pub enum Lexed {
@@ -252,12 +254,12 @@ fn string_refusal(a: u8) -> u32
     BYTE_STRING_NOT_CLOSED
 }
 
-// The name or keyword at `at`.
+// The name or keyword at `at`, where a letter stands: its run goes on behind it.
 fn name_at(text: &[u8], at: usize) -> Lexed
-    requires { ⌜ at ≤ length (now text) ⌝ }
+    requires { ⌜ (at < length (now text)) × (isLetter (getD (now text) at 0) ≡ true) ⌝ }
     ensures { λ r. ⌜ r ≡ lexedAt at (name (drop at (now (text .entry)))) ⌝ }
 {
-    let e = classes::run_end(NAME, text, at);
+    let e = classes::run_end(NAME, text, at + 1);
     let k = words::name_kind(text, at, e - at);
     Lexed::Found(Token {
         kind: k,
@@ -285,7 +287,7 @@ fn mark_at(text: &[u8], at: usize) -> Lexed
 
 // The name, keyword or string at `at`, which a letter begins.
 fn word_at(text: &[u8], at: usize) -> Lexed
-    requires { ⌜ at < length (now text) ⌝ }
+    requires { ⌜ (at < length (now text)) × (isLetter (getD (now text) at 0) ≡ true) ⌝ }
     ensures { λ r. ⌜ r ≡ lexedAt at (word (drop at (now (text .entry)))) ⌝ }
 {
     let a = text[at];

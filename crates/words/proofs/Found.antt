@@ -2,7 +2,7 @@
 use mathlib.Core.Path.{_≡_, refl, ap, sym, _∙_}
 use mathlib.Core.Bool.{Bool, true, false, cond, not, _&&_}
 use mathlib.Core.List.{List, [], _∷_, _++_}
-use Prim.Native.Nat.{ℕ, zero, suc, _+_, _*_, _<_, _≤_}
+use Prim.Native.Nat.{ℕ, zero, suc, _+_, _<_, _≤_}
 use native.Mathlib.Omega.{arith}
 use native.Mathlib.Numerals.{add-one}
 use borrow.Author.Tests.{eqb-true, eqb-false, eq-eqb, ne-eqb, not-true, leb-true, lt-ltb, le-ltb}
@@ -14,8 +14,8 @@ use Rattle.words.specs.Tables.{Entry, none, longMarks, doubleMarks, sing
 use Rattle.words.specs.Search.{noFit, markOf, firstFit}
 use Rattle.words.specs.code.Rows.{valueIf, rowFit}
 use Rattle.words.specs.declared.Fit.{Fit}
-use Rattle.classes.proofs.Bools.{and-left, and-right, and-true, and-false}
-use Rattle.words.proofs.Tests.{below-at, all, all-head, all-tail, all-at, all-left, all-right, plain, plain-some, plain-tail}
+use Rattle.classes.proofs.Bools.{and-left, and-right, and-true}
+use Rattle.words.proofs.Tests.{all, all-head, all-tail, all-at, all-left, all-right, plain, plain-some, plain-tail}
 use Rattle.words.proofs.Rows.{markRows, sizeAt, MarkRow, mark-row}
 use Rattle.words.proofs.Marks.{mark-first}
 
@@ -142,22 +142,12 @@ double-off : (e : Entry) (a b : ℕ) → 2 ≡ length (e .word) → (getD (e .wo
 unfolding firstFit
 double-off e a b l n = rw (double-begins (e .word) a b l, ne-eqb a (getD (e .word) 0 0) (λ p. n (sym p)))
 
--- the byte at a place
-place : (text : List ℕ) (at : ℕ) → getD text at 0 ≡ getD (drop at text) 0 0
-place text at = let e : at + 0 ≡ at = omega arith in sym (getD-drop at text 0 0 ∙ rw e)
-
--- a word of which the first two bytes are not those of s
-other-two : (w s : List ℕ) → 2 ≤ length w → (getD w 0 0 ≡ getD s 0 0 → getD w 1 0 ≡ getD s 1 0 → ⊥) → begins w s ≡ false
+-- a word of which the first byte is another than that of s
+other-first : (w s : List ℕ) → 1 ≤ length w → (getD w 0 0 ≡ getD s 0 0 → ⊥) → begins w s ≡ false
 unfolding begins
-other-two [] s h n = absurd (omega arith)
-other-two (x ∷ []) s h n = absurd (omega arith)
-other-two (x ∷ y ∷ w) [] h n = refl
-other-two (x ∷ y ∷ w) (a ∷ []) h n = and-false (eqb a x)
-other-two (x ∷ y ∷ w) (a ∷ b ∷ s) h n = go (eqb a x) refl
-  where
-    go : (c : Bool) → eqb a x ≡ c → c && (eqb b y && begins w s) ≡ false
-    go true p = rw (ne-eqb b y (λ q. n (sym (eqb-true a x p)) (sym q)))
-    go false p = refl
+other-first [] s h n = absurd (omega arith)
+other-first (x ∷ w) [] h n = refl
+other-first (x ∷ w) (b ∷ s) h n = rw (ne-eqb b x (λ p. n (sym p)))
 
 -- the rows of three bytes and more
 pub row-fits : (row s : List ℕ) (n : ℕ) → n ≡ getD row 5 0 → (b : Bool) → b ≡ begins (take n row) s → b ≡ true
@@ -173,12 +163,11 @@ module _ (k : ℕ) (h : k < 3) where
   long : MarkRow k
   long = mark-row k (omega arith)
 
-  two-or-more : 2 ≤ length (getD marks k none .word)
-  unfolding marks longMarks doubleMarks singleMarks
-  two-or-more = leb-true _ _ (below-at (λ k. leb 2 (length (getD marks k none .word))) 3 k refl h)
+  some-bytes : 1 ≤ length (getD marks k none .word)
+  some-bytes = one-or-more (getD marks k none) (mark-of k (omega arith))
 
   pub long-room : (0 < getD (getD markRows k []) 5 0) × (getD (getD markRows k []) 5 0 ≤ 5)
-  long-room = rw (long .size) (omega (arith, two-or-more), five-or-less (getD marks k none) (mark-of k (omega arith)))
+  long-room = rw (long .size) (some-bytes, five-or-less (getD marks k none) (mark-of k (omega arith)))
 
   module _ (s : List ℕ) where
     long-row : rowFit (getD markRows k []) s ≡ firstFit (getD marks k none ∷ []) s
@@ -192,16 +181,10 @@ module _ (k : ℕ) (h : k < 3) where
       pub long-miss : f .len ≡ 0 → firstFit (slice k 3 marks) s ≡ firstFit (slice (k + 1) 3 marks) s
       long-miss z = fit-next 3 k s (omega arith) h f (e ∙ long-row) z
 
-  -- the bytes a and b stand at `at`, and the numbers of the first two of the row and of these differ
-  pub long-other : (text : List ℕ) (at a b : ℕ) → a ≡ getD text at 0 → b ≡ getD text (at + 1) 0
-      → (x y : ℕ) → x ≡ getD (getD markRows k []) 0 0 * 256 + getD (getD markRows k []) 1 0 → y ≡ a * 256 + b → (x ≡ y → ⊥)
-      → firstFit (slice k 3 marks) (drop at text) ≡ firstFit (slice (k + 1) 3 marks) (drop at text)
-  unfolding firstFit
-  long-other text at a b p q x y e f g =
-      fit-next 3 k (drop at text) (omega arith) h noFit
-      (rw (other-two (getD marks k none .word) (drop at text) two-or-more
-      (λ u v. let i : getD (getD markRows k []) 0 0 ≡ a = long .first ∙ u ∙ sym (p ∙ place text at) in
-      let j : getD (getD markRows k []) 1 0 ≡ b = long .second ∙ v ∙ getD-drop at text 1 0 ∙ sym q in g (omega arith)))) refl
+    pub long-other : (getD (getD markRows k []) 0 0 ≡ getD s 0 0 → ⊥) → firstFit (slice k 3 marks) s ≡ firstFit (slice (k + 1) 3 marks) s
+    unfolding firstFit
+    long-other g =
+        fit-next 3 k s (omega arith) h noFit (rw (other-first (getD marks k none .word) s some-bytes (λ p. g (long .first ∙ p)))) refl
 
 -- the rows of two bytes, from the row 3 on
 module _ (a b : ℕ) (k : ℕ) (l : 3 ≤ k) (h : k < 13) where
@@ -282,16 +265,19 @@ unfolding firstFit begins marks longMarks doubleMarks singleMarks
 past-end text at h = rw (drop-of-length-le text h) (sym (mark-first []))
 
 module _ (text : List ℕ) (at : ℕ) where
+  pub place : getD text at 0 ≡ getD (drop at text) 0 0
+  place = let e : at + 0 ≡ at = omega arith in sym (getD-drop at text 0 0 ∙ rw e)
+
   next : getD text (at + 1) 0 ≡ getD (drop 1 (drop at text)) 0 0
   next = sym (getD-drop 1 (drop at text) 0 0 ∙ getD-drop at text 1 0)
 
   two-front : firstFit doubleMarks (getD text at 0 ∷ getD text (at + 1) 0 ∷ []) ≡ firstFit doubleMarks (drop at text)
   unfolding front sized plain doubleMarks
-  two-front = rw (place text at, next) (fit-front 2 doubleMarks (drop at text) refl)
+  two-front = rw (place, next) (fit-front 2 doubleMarks (drop at text) refl)
 
   one-front : firstFit singleMarks (getD text at 0 ∷ []) ≡ firstFit singleMarks (drop at text)
   unfolding front sized plain singleMarks
-  one-front = rw (place text at) (fit-front 1 singleMarks (drop at text) refl)
+  one-front = rw place (fit-front 1 singleMarks (drop at text) refl)
 
   module _ (long : Fit) (g : long ≡ firstFit longMarks (drop at text)) where
     pub is-long : (long .len ≡ 0 → ⊥) → long ≡ markOf (drop at text)

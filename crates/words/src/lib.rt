@@ -394,23 +394,15 @@ fn row_fit(text: &[u8], at: usize, row: [u8; 7]) -> Fit
     no_mark()
 }
 
-// Two bytes as one number, so that two are compared with two by one test.
-fn two_bytes(a: u8, b: u8) -> u32
-    ensures { λ r. ⌜ r ≡ a * 256 + b ⌝ }
-{
-    a as u32 * 256 + b as u32
-}
-
-// The first of the rows of three bytes and more that fits at `at`, where the bytes a and b stand. Only a
-// row that begins with both is compared whole, so that most marks take none of these branches.
-fn long_mark(text: &[u8], at: usize, a: u8, b: u8) -> Fit
-    requires { ⌜ (a ≡ getD (now text) at 0) × (b ≡ getD (now text) (at + 1) 0) ⌝ }
+// The first of the rows of three bytes and more that fits at `at`, where the byte a stands.
+fn long_mark(text: &[u8], at: usize, a: u8) -> Fit
+    requires { ⌜ a ≡ getD (now text) at 0 ⌝ }
     ensures { λ r. ⌜ r ≡ firstFit longMarks (drop at (now (text .entry))) ⌝ }
 {
     let rows = MARKS;
     let mut k: usize = 0;
     while k < 3 {
-        if two_bytes(rows[k][0], rows[k][1]) == two_bytes(a, b) {
+        if rows[k][0] == a {
             let fit = row_fit(text, at, rows[k]);
             if fit.len != 0 {
                 return fit;
@@ -465,7 +457,7 @@ pub fn mark_at(text: &[u8], at: usize) -> Fit
     }
     let a = text[at];
     let b = byte_at(text, at + 1);
-    let long = long_mark(text, at, a, b);
+    let long = long_mark(text, at, a);
     if long.len != 0 {
         return long;
     }
