@@ -13,13 +13,13 @@ const char *movesig_reason(uint32_t refusal)
     case MOVESIG_ACCEPTED:
         return "accepted";
     case MOVESIG_TEXT_TOO_LONG:
-        return "text over 65,535 bytes";
+        return "text over 1,048,575 bytes";
     case MOVESIG_START_PAST_END:
         return "start past the text's end";
     case MOVESIG_NO_SUCH_KIND:
         return "no such kind of item";
     case MOVESIG_NO_ROOM:
-        return "answer longer than the buffer or than 65,535 bytes";
+        return "answer longer than the buffer, or a line than 65,535 bytes";
     case MOVESIG_NO_TOKEN:
         return "no token starts with this byte";
     case MOVESIG_COMMENT_NOT_CLOSED:

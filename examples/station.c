@@ -7,8 +7,8 @@
 #include <movesig.h>
 #include <stdio.h>
 
-#if MOVESIG_VERSION_MAJOR == 0 && MOVESIG_VERSION_MINOR < 5
-#error "the calls of this header take no edition"
+#if MOVESIG_VERSION_MAJOR == 0 && MOVESIG_VERSION_MINOR < 6
+#error "this header has no wide trees"
 #endif
 
 /* The edition of Move that the file is written in. */
@@ -17,9 +17,10 @@
 /* One byte more than a text may have, so that a longer file is refused and not cut. */
 static uint8_t text[MOVESIG_LONGEST + 1];
 
-/* Lent to every call; no call needs more. */
-static uint8_t tree[MOVESIG_LONGEST];
-static uint8_t line[MOVESIG_LONGEST];
+/* Lent to every call; no call needs more. The tree's is 42 MB for the longest text, nearly all of it never
+ * touched. */
+static uint8_t tree[MOVESIG_TREE_ROOM(MOVESIG_LONGEST)];
+static uint8_t line[MOVESIG_LONGEST_LINE];
 
 static void show_refusal(uint32_t number, const uint64_t answer[6])
 {
@@ -29,17 +30,17 @@ static void show_refusal(uint32_t number, const uint64_t answer[6])
     printf("\n");
 }
 
-/* A number of two bytes, the low one first. */
-static unsigned two_bytes(const uint8_t *at)
+/* A number of so many bytes, the low one first. */
+static unsigned number_of(const uint8_t *at, size_t bytes)
 {
-    return at[0] | (unsigned)at[1] << 8;
+    return bytes == 0 ? 0 : at[0] | number_of(at + 1, bytes - 1) << 8;
 }
 
 /* Reads the type at the offset, shows its records and its line. */
 static void show_type(size_t len, size_t at)
 {
     uint64_t answer[6];
-    size_t length, record;
+    size_t length, record, width;
     uint32_t number = movesig_read(MOVESIG_TYPE, EDITION, text, len, at, tree, sizeof tree, answer);
     if (number != MOVESIG_ACCEPTED) {
         show_refusal(number, answer);
@@ -54,10 +55,12 @@ static void show_type(size_t len, size_t at)
     printf("type ");
     fwrite(line, 1, (size_t)answer[0], stdout);
     printf("\n");
-    /* A record is eight bytes and its children follow, so this visits each, parents first. */
-    for (record = 0; record < length; record += 8)
-        printf("  record %u at %u..%u\n", two_bytes(tree + record + 2), two_bytes(tree + record + 4),
-               two_bytes(tree + record + 6));
+    /* A wide tree begins with 04 00 63 00. A record is a head and its children follow, so this visits each,
+     * parents first. */
+    width = number_of(tree, 4) == 0x630004 ? 4 : 2;
+    for (record = width == 4 ? 4 : 0; record < length; record += 2 + 3 * width)
+        printf("  record %u at %u..%u\n", number_of(tree + record + width, 2),
+               number_of(tree + record + width + 2, width), number_of(tree + record + 2 * width + 2, width));
 }
 
 int main(int count, char **words)

@@ -23,8 +23,9 @@
  *
  * LIMITS
  *
- * A text has at most MOVESIG_LONGEST (65,535) bytes, and so have a tree and a line. An item has at most
- * MOVESIG_LEVELS (64) levels. A tree has at most 24 bytes for each byte of text that was read.
+ * A text has at most MOVESIG_LONGEST (1,048,575) bytes, a line at most MOVESIG_LONGEST_LINE (65,535). An
+ * item has at most MOVESIG_LEVELS (64) levels. A tree is limited by its buffer alone, and
+ * MOVESIG_TREE_ROOM(len) bytes are enough for every tree of a text of `len` bytes.
  *
  * SPANS
  *
@@ -39,13 +40,13 @@
  *
  * number  when                                                  span
  *   By what the caller asked:
- *   1     the text is longer than 65,535 bytes                  (0, 0)
+ *   1     the text is longer than 1,048,575 bytes               (0, 0)
  *   2     `at` is past the text's end (`at` = `len` is not)     (0, 0)
  *   3     `kind` is no kind of item                             (0, 0)
  *  19     `edition` is neither 1 nor 2                          (0, 0)
  *   4     the item is accepted, but its tree (movesig_read) or
- *         its line (movesig_display) is longer than `room` or
- *         than 65,535 bytes                                     (0, 0)
+ *         its line (movesig_display) is longer than `room`, or
+ *         its line longer than 65,535 bytes                     (0, 0)
  *   By the text:
  *   5     no token starts with this byte                        (s, s) at the byte
  *   6     a block comment is not closed                         the innermost opener still open: 3 bytes
@@ -77,23 +78,31 @@
 extern "C" {
 #endif
 
-/* The most bytes of a text, of a tree and of a line. A buffer longer than this never changes an answer. */
-#define MOVESIG_LONGEST 65535
+/* The most bytes of a text. */
+#define MOVESIG_LONGEST 1048575
+
+/* The most bytes of a line. A buffer for a line that is longer than this never changes an answer. */
+#define MOVESIG_LONGEST_LINE 65535
+
+/* Room for every tree of a text of `len` bytes: at most three records of 14 bytes for each byte, and four
+ * bytes in front; 44,040,154 bytes for the longest text. Most trees have far less. */
+#define MOVESIG_TREE_ROOM(len) (4 + 42 * (size_t)(len))
 
 /* The most levels of an item. */
 #define MOVESIG_LEVELS 64
 
 /* Bytes of stack that are enough for any call. The most that was measured, over nests of every construct
- * and 1,000 at random, is 46,920; this is at least a fortieth more. Measured, not proved: a test holds it to
- * what is measured, and makes the calls in threads of this stack beside their own. Put no buffer of
- * MOVESIG_LONGEST bytes on the same small stack. */
+ * and 1,000 at random, in texts of up to MOVESIG_LONGEST bytes, is 47,056; this is at least a fortieth more.
+ * Measured, not proved: a test holds it to what is measured, and makes the calls in threads of this stack
+ * beside their own. Put no buffer for a line or a tree on the same small stack. */
 #define MOVESIG_STACK 49152
 
 /* The version of this header and of the calls in it, by semantic versioning: before 1.0 another MINOR may
  * change answers or calls, from then on only another MAJOR. CHANGELOG.md says what changed for a station.
- * A station can compare it when it is compiled: the calls take an edition from MINOR 5 on. */
+ * A station can compare it when it is compiled: the calls take an edition from MINOR 5 on, and trees may be
+ * wide from MINOR 6 on. */
 #define MOVESIG_VERSION_MAJOR 0
-#define MOVESIG_VERSION_MINOR 5
+#define MOVESIG_VERSION_MINOR 6
 #define MOVESIG_VERSION (MOVESIG_VERSION_MAJOR * 65536 + MOVESIG_VERSION_MINOR)
 
 /* What a call returns. */
@@ -150,13 +159,24 @@ uint32_t movesig_next_comment(uint64_t edition, const uint8_t *text, size_t len,
 /* Reads the item of the kind (enum movesig_item) from `at` on and writes its tree into the first bytes
  * of the `room` bytes at `out`. Accepted: { length of the tree, kind, start and end of the token that
  * follows the item, 0, 0 }, the token's kind as in enum movesig_token; whether a line feed stands before it
- * is not told. Bytes of `out` past the tree stay
- * as they are. Refusals 1 to 14 and 19.
+ * is not told. Bytes of `out` past the tree stay as they are. Refusals 1 to 14 and 19.
  *
- * The tree is one record with its children: two bytes each, the low one first, for the length of the
- * record with all its children, for its kind (enum movesig_record), its start and its end; then the
- * children, each a record again. Brackets round one type are a record of their own, 16, which trees
- * written by earlier versions do not have. */
+ * The tree is one record: its head, and then its children, each a record again. The length in a head is
+ * that of the record with all its children; the kind is one of enum movesig_record; every number has its
+ * low byte first. A tree has one of two forms.
+ *
+ *   narrow: the record alone.           wide: the four bytes 04 00 63 00, then the record.
+ *     bytes 0 and 1   length              bytes 0 to 3     length
+ *     bytes 2 and 3   kind                bytes 4 and 5    kind
+ *     bytes 4 and 5   start               bytes 6 to 9     start
+ *     bytes 6 and 7   end                 bytes 10 to 13   end
+ *     from 8 on       children            from 14 on       children
+ *
+ * A tree is wide where the whole text has more than 65,535 bytes, or where the tree would have more than
+ * 65,535 in the narrow form, 8 for each record; else it is narrow. The length of the tree counts the four
+ * bytes in front. A narrow tree never begins with 04 00 63 00, so that its first four bytes tell the form.
+ * Trees that earlier versions wrote are narrow and stay as they are, but for brackets round one type, which
+ * are a record of their own, 16, and which trees written before version 0.2 do not have. */
 uint32_t movesig_read(uint64_t kind, uint64_t edition, const uint8_t *text, size_t len, size_t at, uint8_t *out,
                       size_t room, uint64_t answer[6]);
 

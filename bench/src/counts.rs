@@ -2,8 +2,14 @@
 //! same on a busy machine. The port's counts in edition 1 are held to those of bench/COUNTS,
 //! those in edition 2 to those in edition 1.
 
-use crate::{runs::each_length, texts, walks::Walk, GROWTH};
-use oracle::answer::ItemCall;
+use crate::{
+    longer::{self, Unit},
+    over,
+    runs::{each_length, READ},
+    texts,
+    walks::Walk,
+    GROWTH,
+};
 use std::{
     collections::BTreeMap,
     env, fs,
@@ -23,46 +29,77 @@ pub fn measure_all(record: bool) -> bool {
         println!("\nNo valgrind: no instructions are counted.");
         return false;
     }
+    let mut counts = Counts {
+        recorded: recorded(),
+        found: vec![],
+        record,
+    };
+    let mut failed = of_walks(&mut counts);
+    failed |= of_reads(&mut counts);
+    failed |= of_numbers();
+    if record {
+        fs::write(file(), counts.found.concat()).expect("bench/COUNTS can be written");
+    }
+    failed
+}
+
+/// The same for texts of 1 MB and for wide trees, which are held to shorter ones.
+pub fn measure_longer() -> bool {
+    there_is_valgrind() && longer::measure_all(Unit::Instructions)
+}
+
+/// The counts in edition 1: those of bench/COUNTS, by the name of the row, and the lines of those
+/// that were found, which may have to become the recorded ones.
+struct Counts {
+    recorded: BTreeMap<String, f64>,
+    found: Vec<String>,
+    record: bool,
+}
+
+impl Counts {
+    /// The cells of a row's counts in both editions; whether one is too high.
+    fn cells(&mut self, name: &str, first: f64, later: f64) -> (String, bool) {
+        self.found.push(format!("{name}: {first:.1}\n"));
+        let recorded = self.recorded.get(name);
+        let cell = recorded.map_or("none".to_string(), |count| format!("{count:.1}"));
+        let more = first / recorded.unwrap_or(&0.0) - 1.0;
+        let mut failed = over(&format!("{name}, edition 2"), later / first - 1.0, OVER);
+        failed |= !self.record && over(&format!("{name}, beside the recorded"), more, OVER);
+        (format!("{first:.1} | {cell} | {later:.1}"), failed)
+    }
+}
+
+/// Walks over tokens, and the lexer in C beside them.
+fn of_walks(counts: &mut Counts) -> bool {
     println!("\n| text | tokens | port | recorded | edition 2 | lexer in C |");
     println!("|---|---:|---:|---:|---:|---:|");
-    let recorded = recorded();
-    let mut counts = vec![];
     let mut failed = false;
     for (name, _) in texts::KINDS {
         let tokens = Walk::long(name).tokens();
         let of =
             |edition, function| count("--walk", name, edition, function) as f64 / tokens as f64;
-        let [port, later] = [1, 2].map(|edition| of(edition, "movesig_next_token"));
+        let [first, later] = [1, 2].map(|edition| of(edition, "movesig_next_token"));
         let anchor = of(1, "anchor_next_token");
-        let limit = recorded.get(name);
-        println!(
-            "| {name} | {tokens} | {port:.1} | {} | {later:.1} | {anchor:.1} |",
-            limit.map_or("none".to_string(), |limit| format!("{limit:.1}"))
-        );
-        failed |= !record && limit.is_none_or(|limit| port > limit * (1.0 + OVER));
-        failed |= later > port * (1.0 + OVER);
-        counts.push(format!("{name}: {port:.1}\n"));
-    }
-    failed |= of_reads();
-    failed |= of_numbers();
-    if record {
-        fs::write(file(), counts.concat()).expect("bench/COUNTS can be written");
+        let (cells, high) = counts.cells(name, first, later);
+        println!("| {name} | {tokens} | {cells} | {anchor:.1} |");
+        failed |= high;
     }
     failed
 }
 
-/// Reads of items in both editions; whether edition 2 takes too many.
-fn of_reads() -> bool {
-    println!("\n| item | items | read | edition 2 |");
-    println!("|---|---:|---:|---:|");
+/// Reads of items.
+fn of_reads(counts: &mut Counts) -> bool {
+    println!("\n| item | items | read | recorded | edition 2 |");
+    println!("|---|---:|---:|---:|---:|");
     let mut failed = false;
     for row in each_length() {
-        row.agree(ItemCall::Read);
+        row.agree(READ.call);
         let (name, items) = (&row.name, row.texts.len());
-        let of = |edition| count("--read", name, edition, "movesig_read") as f64 / items as f64;
+        let of = |edition| count(READ.option, name, edition, READ.function) as f64 / items as f64;
         let [first, later] = [1, 2].map(of);
-        println!("| {name} | {items} | {first:.1} | {later:.1} |");
-        failed |= later > first * (1.0 + OVER);
+        let (cells, high) = counts.cells(name, first, later);
+        println!("| {name} | {items} | {cells} |");
+        failed |= high;
     }
     failed
 }
@@ -101,7 +138,7 @@ fn file() -> PathBuf {
     PathBuf::from(env!("CARGO_MANIFEST_DIR")).join("COUNTS")
 }
 
-/// Instructions a token, by the name of the row.
+/// Instructions a token or an item, by the name of the row.
 fn recorded() -> BTreeMap<String, f64> {
     let lines = fs::read_to_string(file()).unwrap_or_default();
     lines
@@ -112,7 +149,7 @@ fn recorded() -> BTreeMap<String, f64> {
 }
 
 /// The instructions that the row takes inside the function, done as the option says.
-fn count(option: &str, row: &str, edition: u64, function: &str) -> u64 {
+pub fn count(option: &str, row: &str, edition: u64, function: &str) -> u64 {
     let program = env::current_exe().expect("the program knows its file");
     let output = Command::new("valgrind")
         .args(["--tool=callgrind", "--callgrind-out-file=/dev/null"])

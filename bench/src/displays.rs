@@ -2,8 +2,7 @@
 //! with the Rust's reading of them beside it.
 
 use crate::{
-    reads::BRACKETS,
-    runs::{each_length, flat_lists, nested_list, strings, times, Items, Run},
+    runs::{each_length, flat_lists, nests, strings, times, Items, Run, BRACKETS},
     GROWTH,
 };
 use oracle::answer::ItemCall;
@@ -24,7 +23,7 @@ const ALL: [Run; 3] = [
 pub fn measure_all() -> bool {
     let mut failed = against_reads();
     failed |= growth();
-    failed |= nests();
+    failed |= in_nests();
     failed |= of_strings();
     failed
 }
@@ -102,14 +101,10 @@ fn of_strings() -> bool {
 /// A flat list of 60 KB alone, inside brackets, and as the argument of a function type
 /// that is the argument of another, and so on: both need brackets to be left out or
 /// shown only when what they hold is known.
-fn nests() -> bool {
+fn in_nests() -> bool {
     println!("\n| list of 60 KB | Rust reads | port reads | port displays | display/alone |");
     println!("|---|---:|---:|---:|---:|");
-    let all = [
-        nested_list("alone", 0, "", ""),
-        nested_list("in 60 brackets", BRACKETS, "(", ")"),
-        nested_list("in 30 arguments", BRACKETS / 2, "|(", ")|u8"),
-    ];
+    let all = nests();
     all.iter().for_each(|items| items.agree(ItemCall::Display));
     let times = times(&all.each_ref(), ALL);
     let [_, _, alone] = times[0];

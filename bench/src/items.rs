@@ -1,5 +1,6 @@
 //! The items that are measured. The same seed gives the same item.
 
+use crate::texts;
 use oracle::random::Random;
 
 const STRUCTS: [&str; 6] = ["Coin", "Balance", "T", "Config", "Capability", "vector"];
@@ -177,6 +178,32 @@ fn flat(
         }
         if text.len() > 1 {
             text += ", ";
+        }
+        text += &item;
+    }
+}
+
+/// Short types, each behind two comments: a list whose line is short.
+pub fn types_among_comments(random: &mut Random, length: usize) -> String {
+    spread(random, length, |random| {
+        texts::comment(random) + &texts::comment(random)
+    })
+}
+
+/// The same with blanks and a line feed in place of comments.
+pub fn types_among_blanks(random: &mut Random, length: usize) -> String {
+    spread(random, length, |random| {
+        "\n".to_string() + &" ".repeat(120 + random.below(80))
+    })
+}
+
+/// A flat list of short types, with a gap before each.
+fn spread(random: &mut Random, length: usize, gap: impl Fn(&mut Random) -> String) -> String {
+    let mut text = "(".to_string();
+    loop {
+        let item = gap(random) + random.pick(&["u8", "T", "Coin", "&T", "bool"]) + ",";
+        if text.len() + item.len() + 1 > length {
+            return text + ")";
         }
         text += &item;
     }

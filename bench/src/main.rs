@@ -4,6 +4,7 @@
 mod counts;
 mod displays;
 mod items;
+mod longer;
 mod reads;
 mod runs;
 #[path = "../../oracle/src/station.rs"]
@@ -11,7 +12,9 @@ mod station;
 mod texts;
 mod walks;
 
+use longer::Unit;
 use oracle::SOURCES;
+use runs::TASKS;
 use std::{
     env,
     hint::black_box,
@@ -24,34 +27,49 @@ const HELP: &str = "\
 Measures a walk over all tokens of a text, by the Rust lexer, by the port and by a
 small lexer in C.
 
-usage: bench [--check] [--displays-only | --counts-only] [--record] [--help]
-       bench --walk ROW | --short-walks ROW | --read ROW [--edition N]
+usage: bench [--check] [--displays-only | --counts-only | --longer-only] [--record]
+       bench --walk ROW | --short-walks ROW [--edition N]
+       bench --longest-walk ROW | --parts-walk ROW [--edition N]
+       bench --read ROW | --wide-read ROW | --display ROW [--edition N]
+       bench --help
 
-  --check          exit status 1 where the port is slower than the Rust on some text,
-                   or its time a byte grows by more than a fifth from 1 KB to 60 KB; by
-                   the fastest runs, since other work on the machine can only add time
+  --check          exit status 1 where the port is slower than the Rust on some text but
+                   that of line feeds, or its time a byte grows by more than a fifth from
+                   1 KB to 60 KB; by the fastest runs, since other work on the machine can
+                   only add time
   --displays-only  no tokens and reads
-  --counts-only    no times: the instructions a token
+  --counts-only    no times: the instructions a token and an item
+  --longer-only    only what is measured at 1 MB and in the wide form, in both
   --record         the counts become those that later ones are held to (bench/COUNTS)
   --walk ROW       walks once over the text of 60 KB of a row, by the port in the edition
                    (1 if left out) and, in edition 1, by the lexer in C
-  --short-walks ROW  the same over the texts of 1 KB, by the port alone
+  --short-walks ROW   the same over the texts of 1 KB, by the port alone
+  --longest-walk ROW  the same over the text of 1 MB
+  --parts-walk ROW    the same over as many bytes in texts of 60 KB
   --read ROW       reads each item of a row once
+  --wide-read ROW  the same behind 65,536 bytes
+  --display ROW    displays each item of a row once
   --help           these words
 
 Prints a table in nanoseconds a byte: the median of the runs and, in brackets, the
 fastest. The 1 KB are sixty different texts, so that both read as many bytes.
 
-Where valgrind is there, the instructions a token are counted too: --check fails where
-a count is over the recorded one by more than 3 %, where a walk or a read in edition 2
-takes more than 3 % more than in edition 1, where a byte of edition 2's numbers takes
-more than a tenth more than one of plain digits, or grows by more than a fifth.
+Where valgrind is there, the instructions a token and an item are counted too: --check
+fails where a count is over the recorded one by more than 3 %, where a walk or a read in
+edition 2 takes more than 3 % more than in edition 1, where a byte of edition 2's numbers
+takes more than a tenth more than one of plain digits, or grows by more than a fifth.
 
 Reads of items are measured too: see bench/README.md. --check fails where the port
 is slower than the Rust on types, bindings or nests, where its time a byte grows by
 more than a fifth from 2 KB to 60 KB of flat list, or where 60 brackets round such a
 list cost more than 60 times as much as none. Displays of the same items are measured
 against reads: --check fails where one takes more than 1.1 times as long.
+
+Walks, reads and displays are measured at 1 MB too, beside as many bytes in texts of
+60 KB: --check fails where a byte takes a fifth more, where a nest of 60 levels round a list
+costs more than 60 times as much as none, or where a read that writes a wide tree takes more
+than 1.5 times as much as one of the same item that writes a narrow one; each in time and in
+instructions.
 ";
 
 /// Each time is taken this often, over walks that last this long.
@@ -67,19 +85,19 @@ fn main() {
         return once(what, row, options.edition);
     }
     println!("Rust sources (sha256):\n\n```\n{SOURCES}```\n");
-    let mut failed = false;
-    if !options.displays_only {
-        if !options.counts_only {
-            failed |= all_walks();
+    let failed = match options.only {
+        Only::Everything => {
+            all_walks()
+                | counts::measure_all(options.record)
+                | reads::measure_all()
+                | displays::measure_all()
+                | longer::measure_all(Unit::Nanoseconds)
+                | counts::measure_longer()
         }
-        failed |= counts::measure_all(options.record);
-    }
-    if !options.counts_only {
-        if !options.displays_only {
-            failed |= reads::measure_all();
-        }
-        failed |= displays::measure_all();
-    }
+        Only::Displays => displays::measure_all(),
+        Only::Counts => counts::measure_all(options.record) | counts::measure_longer(),
+        Only::Longer => longer::measure_all(Unit::Nanoseconds) | counts::measure_longer(),
+    };
     if options.check && failed {
         eprintln!(
             "bench: the port is too slow, its time a byte grows too much, or it takes more \
@@ -89,19 +107,16 @@ fn main() {
     }
 }
 
-/// What is counted: one walk or one read of each item of a row.
+/// What is counted: one walk, or one call for each item of a row.
 fn once(what: &str, row: &str, edition: u64) {
-    if what == "--read" {
-        let rows = runs::each_length();
-        let items = rows.iter().find(|items| items.name == row);
-        return items
-            .unwrap_or_else(|| panic!("no row '{row}'"))
-            .read_once(edition);
+    if let Some(task) = TASKS.iter().find(|task| task.option == what) {
+        return (task.once)(&runs::row(row), edition);
     }
-    let walk = if what == "--walk" {
-        Walk::long(row)
-    } else {
-        Walk::short(row)
+    let walk = match what {
+        "--walk" => Walk::long(row),
+        "--longest-walk" => Walk::longest(row),
+        "--parts-walk" => Walk::parts(row),
+        _ => Walk::short(row),
     };
     for text in &walk.texts {
         walks::by_the_port_in(edition, text);
@@ -109,6 +124,15 @@ fn once(what: &str, row: &str, edition: u64) {
     if what == "--walk" && edition == 1 {
         walks::by_the_anchor(&walk.texts[0]);
     }
+}
+
+/// Whether a number is over what it may be; tells where.
+fn over(what: &str, number: f64, limit: f64) -> bool {
+    let over = number > limit;
+    if over {
+        eprintln!("bench: {what}: {number:.3}, where {limit:.3} is allowed");
+    }
+    over
 }
 
 /// Walks over tokens; whether the port is too slow somewhere.
@@ -124,7 +148,7 @@ fn all_walks() -> bool {
         short.tokens();
         let row = measure(&long.texts, &short.texts);
         println!("| {name} | {tokens} | {} |", row.cells());
-        failed |= row.fails();
+        failed |= row.grows() || (name != texts::LEVEL && row.is_slower());
     }
     failed | all_numbers()
 }
@@ -134,33 +158,36 @@ fn all_numbers() -> bool {
     println!("\n| numbers, edition 2 | port 60 KB | port 1 KB | growth |");
     println!("|---|---:|---:|---:|");
     let rows = [texts::LATER, texts::PLAIN];
-    let walks = rows.map(|row| (Walk::long(row), Walk::short(row)));
-    let mut times = [[vec![], vec![]], [vec![], vec![]]];
-    for _ in 0..RUNS {
-        for ((long, short), times) in walks.iter().zip(&mut times) {
-            for (walk, times) in [long, short].into_iter().zip(times) {
-                times.push(run(&walk.texts, |text| walks::by_the_port_in(2, text)));
-            }
-        }
-    }
-    let times = times.map(|row| row.map(time_of));
-    for (row, [long, short]) in rows.iter().zip(times) {
-        let growth = 100.0 * (long.fastest / short.fastest - 1.0);
+    let walks = rows.map(|row| [Walk::long(row), Walk::short(row)]);
+    let times = walks::times(2, walks.as_flattened());
+    for (row, times) in rows.iter().zip(times.chunks(2)) {
+        let growth = 100.0 * (times[0].fastest / times[1].fastest - 1.0);
         println!(
             "| {row} | {} | {} | {growth:+.0} % |",
-            long.cell(),
-            short.cell()
+            times[0].cell(),
+            times[1].cell()
         );
     }
-    let [[later, short], [plain, _]] = times;
+    let [later, short, plain, _] = times[..] else {
+        unreachable!("four walks have four times");
+    };
     later.fastest > 1.1 * plain.fastest || later.fastest / short.fastest - 1.0 > GROWTH
+}
+
+/// The tables that are asked for.
+#[derive(Default)]
+enum Only {
+    #[default]
+    Everything,
+    Displays,
+    Counts,
+    Longer,
 }
 
 #[derive(Default)]
 struct Options {
     check: bool,
-    displays_only: bool,
-    counts_only: bool,
+    only: Only,
     record: bool,
     /// What is done once with a row, if nothing else is done, and in which edition.
     once: Option<(String, String)>,
@@ -176,10 +203,12 @@ fn options() -> Options {
     while let Some(word) = words.next() {
         match word.as_str() {
             "--check" => options.check = true,
-            "--displays-only" => options.displays_only = true,
-            "--counts-only" => options.counts_only = true,
+            "--displays-only" => options.only = Only::Displays,
+            "--counts-only" => options.only = Only::Counts,
+            "--longer-only" => options.only = Only::Longer,
             "--record" => options.record = true,
-            "--walk" | "--short-walks" | "--read" => match words.next() {
+            "--walk" | "--short-walks" | "--longest-walk" | "--parts-walk" | "--read"
+            | "--wide-read" | "--display" => match words.next() {
                 Some(row) => options.once = Some((word, row)),
                 None => bad_usage(),
             },
@@ -237,13 +266,19 @@ fn measure(long: &[String], short: &[String]) -> Row {
 
 /// Walks over all the texts again and again; the time a byte.
 fn run(texts: &[String], mut walk: impl FnMut(&str)) -> f64 {
-    let bytes: usize = texts.iter().map(String::len).sum();
-    let start = Instant::now();
-    let mut rounds = 0;
-    while start.elapsed() < RUN {
+    repeat(texts.iter().map(String::len).sum(), || {
         for text in texts {
             walk(black_box(text));
         }
+    })
+}
+
+/// Does again and again what looks at so many bytes; the time a byte.
+fn repeat(bytes: usize, mut work: impl FnMut()) -> f64 {
+    let start = Instant::now();
+    let mut rounds = 0;
+    while start.elapsed() < RUN {
+        work();
         rounds += 1;
     }
     start.elapsed().as_nanos() as f64 / (rounds * bytes) as f64
@@ -268,8 +303,12 @@ impl Row {
         self.port.fastest / self.port_short.fastest - 1.0
     }
 
-    fn fails(&self) -> bool {
-        self.port.fastest > self.rust.fastest || self.growth() > GROWTH
+    fn is_slower(&self) -> bool {
+        self.port.fastest > self.rust.fastest
+    }
+
+    fn grows(&self) -> bool {
+        self.growth() > GROWTH
     }
 
     fn cells(&self) -> String {

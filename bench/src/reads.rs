@@ -2,13 +2,10 @@
 //! items.
 
 use crate::{
-    runs::{each_length, flat_lists, nested_list, times, Items, Run},
+    runs::{each_length, flat_lists, nests, times, Items, Run, BRACKETS},
     GROWTH,
 };
 use oracle::answer::ItemCall;
-
-/// Brackets round a list.
-pub const BRACKETS: usize = 60;
 
 const BOTH: [Run; 2] = [Items::run_of_the_rust, Items::run_of_reads];
 
@@ -70,8 +67,7 @@ fn growth() -> bool {
 fn brackets() -> bool {
     println!("\n| list of 60 KB | Rust | port | port/alone |");
     println!("|---|---:|---:|---:|");
-    let alone = nested_list("alone", 0, "", "");
-    let bracketed = nested_list("in 60 brackets", BRACKETS, "(", ")");
+    let [alone, bracketed, _] = nests();
     let all = [&alone, &bracketed];
     all.iter().for_each(|items| items.agree(ItemCall::Read));
     let times = times(&all, BOTH);

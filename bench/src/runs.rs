@@ -5,7 +5,7 @@
 #[path = "../../oracle/src/station_items.rs"]
 mod station_items;
 
-use crate::{items, run, time_of, Time, RUNS};
+use crate::{items, repeat, run, texts, time_of, Time, RUNS};
 use oracle::{
     answer::ItemCall,
     displays,
@@ -19,34 +19,67 @@ use oracle::{
     },
     parsing::ItemKind,
     random::Random,
-    reads::{expected, Expected, LONGEST_WRITTEN},
+    reads::{expected, Cause, Expected, LONGEST_LINE},
 };
-use std::hint::black_box;
+use std::{cell::LazyCell, hint::black_box};
 
 /// So many bytes are read in each row, as one item or as many.
 pub const BYTES: usize = 60_000;
+
+/// 1 MB: the longest text, but for brackets round it.
+pub const LONG: usize = 1_048_000;
+
+/// So many bytes before an item make its tree wide.
+const BEFORE: usize = 65_536;
+
+/// What a display answers whose line is too long.
+const NO_ROOM: u32 = 4;
+
+/// Made when they are first looked at, since one row is looked for among all.
+type Texts = LazyCell<Vec<String>, Box<dyn FnOnce() -> Vec<String>>>;
 
 /// Items of a kind, about as many bytes in each row.
 pub struct Items {
     pub name: String,
     kind: ItemKind,
-    pub texts: Vec<String>,
+    pub texts: Texts,
 }
 
 pub fn items_of(
     name: &str,
     kind: ItemKind,
     length: usize,
-    make: impl Fn(&mut Random) -> String,
+    make: impl Fn(&mut Random) -> String + 'static,
 ) -> Items {
-    let texts = (0..BYTES / length)
-        .map(|seed| make(&mut Random::new(seed as u64)))
-        .collect();
+    so_many(BYTES / length, name, kind, make)
+}
+
+/// So many items, each from a seed of its own.
+fn so_many(
+    count: usize,
+    name: &str,
+    kind: ItemKind,
+    make: impl Fn(&mut Random) -> String + 'static,
+) -> Items {
+    let all = move || {
+        (0..count)
+            .map(|seed| make(&mut Random::new(seed as u64)))
+            .collect()
+    };
     Items {
         name: name.to_string(),
         kind,
-        texts,
+        texts: LazyCell::new(Box::new(all)),
     }
+}
+
+/// The row of that name.
+pub fn row(name: &str) -> Items {
+    let grown = LONGER.iter().flat_map(grown);
+    let nests = [FLAT_LIST, SPREAD_LIST].into_iter().flat_map(long_nests);
+    let mut all = each_length().into_iter().chain(grown).chain(nests);
+    all.find(|items| items.name == name)
+        .unwrap_or_else(|| panic!("no row '{name}'"))
 }
 
 /// Types and bindings of some lengths, and nests.
@@ -54,13 +87,13 @@ pub fn each_length() -> Vec<Items> {
     let mut rows = vec![];
     for length in [20, 200, 2_000] {
         let name = format!("type, {length} bytes");
-        rows.push(items_of(&name, ItemKind::Type, length, |random| {
+        rows.push(items_of(&name, ItemKind::Type, length, move |random| {
             items::type_of(random, length)
         }));
     }
     for length in [20, 200, 2_000] {
         let name = format!("bindings, {length} bytes");
-        rows.push(items_of(&name, ItemKind::BindList, length, |random| {
+        rows.push(items_of(&name, ItemKind::BindList, length, move |random| {
             items::bindings_of(random, length)
         }));
     }
@@ -79,59 +112,158 @@ pub fn each_length() -> Vec<Items> {
 pub fn strings() -> Vec<Items> {
     let of_length = |length: usize| {
         let name = format!("string, {length} bytes");
-        items_of(&name, ItemKind::Value, length, |random| {
+        items_of(&name, ItemKind::Value, length, move |random| {
             items::string_of(random, length)
         })
     };
     [20, 200, BYTES].map(of_length).into()
 }
 
+/// A kind of item of any length: its name, and how to make one.
+pub type Kind = (&'static str, ItemKind, fn(&mut Random, usize) -> String);
+
 /// Flat lists of types and of bindings: the name, then 2 KB and 60 KB.
 pub fn flat_lists() -> [(&'static str, Items, Items); 2] {
     FLAT.map(|(name, kind, make)| {
-        let of_length = |length| items_of(name, kind, length, |random| make(random, length));
+        let of_length = |length| items_of(name, kind, length, move |random| make(random, length));
         (name, of_length(2_000), of_length(BYTES))
     })
 }
 
-type Flat = (&'static str, ItemKind, fn(&mut Random, usize) -> String);
-
-const FLAT: [Flat; 2] = [
+const FLAT: [Kind; 2] = [
     ("types", ItemKind::Type, items::flat_types),
     ("bindings", ItemKind::BindList, items::flat_bindings),
 ];
 
-/// A flat list of 60 KB between so many openers and closers.
-pub fn nested_list(name: &str, count: usize, open: &str, close: &str) -> Items {
-    items_of(name, ItemKind::Type, BYTES, |random| {
-        let list = items::flat_types(random, BYTES);
-        open.repeat(count) + &list + &close.repeat(count)
+/// A list whose line is about as long, and one whose line is short.
+pub const FLAT_LIST: Kind = ("flat list of types", ItemKind::Type, items::flat_types);
+pub const SPREAD_LIST: Kind = (
+    "types among comments",
+    ItemKind::Type,
+    items::types_among_comments,
+);
+
+/// The kinds that are measured at 60 KB and at 1 MB.
+pub const LONGER: [Kind; 6] = [
+    FLAT_LIST,
+    (
+        "flat list of bindings",
+        ItemKind::BindList,
+        items::flat_bindings,
+    ),
+    ("types as in source", ItemKind::Type, items::type_of),
+    ("one long name", ItemKind::Type, texts::long_name),
+    SPREAD_LIST,
+    (
+        "types among blanks",
+        ItemKind::Type,
+        items::types_among_blanks,
+    ),
+];
+
+/// One of them as several items of 60 KB and as one of 1 MB, so that both have as many bytes.
+pub fn grown(kind: &Kind) -> [Items; 2] {
+    let (name, kind, make) = *kind;
+    [BYTES, LONG].map(|length| {
+        let name = format!("{name}, {length} bytes");
+        so_many(LONG / length, &name, kind, move |random| {
+            make(random, length)
+        })
+    })
+}
+
+/// What stands round a list: its name, how often, the opener and the closer.
+type Nest = (&'static str, usize, &'static str, &'static str);
+
+/// Nothing, brackets, and function types each of which is the argument of the next.
+const NESTS: [Nest; 3] = [
+    ("alone", 0, "", ""),
+    ("in 60 brackets", BRACKETS, "(", ")"),
+    ("in 30 arguments", BRACKETS / 2, "|(", ")|u8"),
+];
+
+/// Brackets round a list.
+pub const BRACKETS: usize = 60;
+
+/// A flat list of 60 KB in each nest.
+pub fn nests() -> [Items; 3] {
+    NESTS.map(|nest| nested(nest.0, FLAT_LIST, BYTES, nest))
+}
+
+/// A list of 1 MB in each nest.
+pub fn long_nests(list: Kind) -> [Items; 3] {
+    NESTS.map(|nest| nested(&format!("{}, {}", list.0, nest.0), list, LONG, nest))
+}
+
+fn nested(name: &str, list: Kind, length: usize, nest: Nest) -> Items {
+    let (_, kind, make) = list;
+    let (_, count, open, close) = nest;
+    so_many(1, name, kind, move |random| {
+        open.repeat(count) + &make(random, length) + &close.repeat(count)
     })
 }
 
 impl Items {
     /// Stops where the call does not answer as the Rust, or the Rust refuses.
     pub fn agree(&self, call: ItemCall) {
+        self.agree_on(call, &self.texts, 0);
+    }
+
+    /// The same for reads of the items where they stand in longer texts.
+    pub fn agree_in_wide(&self) {
+        self.agree_on(
+            ItemCall::Read,
+            &self.wide_texts(&self.behind_blanks()),
+            BEFORE,
+        );
+    }
+
+    fn agree_on(&self, call: ItemCall, texts: &[impl AsRef<str>], at: usize) {
         let mut buffer = Buffer::new(station_items::ask);
-        for bytes in self.texts.iter().map(String::as_bytes) {
-            let told = || format!("{call:?}, {}: {}", self.name, bytes.escape_ascii());
-            let expected = self.expected(call, &Text::new(bytes));
-            let due = expected.within(LONGEST_WRITTEN);
-            assert!(!due.written.is_empty(), "not accepted: {}", told());
+        for bytes in texts.iter().map(|text| text.as_ref().as_bytes()) {
+            let front = &bytes[at..bytes.len().min(at + 400)];
+            let told = || format!("{call:?}, {}: {}", self.name, front.escape_ascii());
+            let expected = self.expected(call, &Text::new(bytes), at);
+            let room = LONGEST_LINE.max(expected.written.len());
+            let due = expected.within(room);
+            assert!(
+                !due.written.is_empty() || due.cause == Some(Cause::LineTooLong),
+                "not accepted: {}",
+                told()
+            );
             for edition in [1, 2] {
-                let item = (self.kind as u64, edition, bytes, 0);
-                let wrong = buffer.wrong(call, item, LONGEST_WRITTEN, due);
-                assert!(wrong.is_none(), "edition {edition}: {wrong:?} {}", told());
+                let item = (self.kind as u64, edition, bytes, at);
+                if let Some(wrong) = buffer.wrong(call, item, room, due) {
+                    let (found, fault) = (wrong.found, wrong.buffer);
+                    panic!("edition {edition}: {found}, {fault:?} {}", told());
+                }
             }
         }
     }
 
-    fn expected(&self, call: ItemCall, text: &Text) -> Expected {
-        let read = expected(self.kind as u64, text, 0);
+    fn expected(&self, call: ItemCall, text: &Text, at: usize) -> Expected {
+        let read = expected(self.kind as u64, text, at);
         match call {
             ItemCall::Read => read,
-            ItemCall::Display => displays::expected(&read, text, 0, line_of),
+            ItemCall::Display => displays::expected(&read, text, at, line_of),
         }
+    }
+
+    /// All items, behind blanks.
+    fn behind_blanks(&self) -> String {
+        " ".repeat(BEFORE) + &self.texts.concat()
+    }
+
+    /// Each item at the end of a text of its own, all of them parts of one: before the item stand
+    /// blanks and other items, which are not read.
+    fn wide_texts<'w>(&self, whole: &'w str) -> Vec<&'w str> {
+        let mut start = 0;
+        let text_of = |item: &String| {
+            let text = &whole[start..start + BEFORE + item.len()];
+            start += item.len();
+            text
+        };
+        self.texts.iter().map(text_of).collect()
     }
 
     pub fn bytes(&self) -> usize {
@@ -150,32 +282,110 @@ impl Items {
     }
 
     pub fn run_of_reads(&self, lent: &mut [u8]) -> f64 {
-        run(&self.texts, |text| self.ask(ItemCall::Read, 1, text, lent))
+        run(&self.texts, |text| {
+            self.ask(ItemCall::Read, 1, text, 0, lent);
+        })
     }
 
     pub fn run_of_displays(&self, lent: &mut [u8]) -> f64 {
         run(&self.texts, |text| {
-            self.ask(ItemCall::Display, 1, text, lent)
+            self.ask(ItemCall::Display, 1, text, 0, lent);
+        })
+    }
+
+    /// Reads of the items where they stand in longer texts; the time a byte of the items.
+    pub fn run_of_wide_reads(&self, lent: &mut [u8]) -> f64 {
+        let whole = self.behind_blanks();
+        let texts = self.wide_texts(&whole);
+        repeat(self.bytes(), || {
+            for text in &texts {
+                self.ask(ItemCall::Read, 1, black_box(text), BEFORE, lent);
+            }
         })
     }
 
     /// Reads each item once.
     pub fn read_once(&self, edition: u64) {
-        let mut lent = vec![0; LONGEST_WRITTEN];
-        for text in &self.texts {
-            self.ask(ItemCall::Read, edition, text, &mut lent);
+        self.once(ItemCall::Read, edition, &self.texts, 0);
+    }
+
+    pub fn display_once(&self, edition: u64) {
+        self.once(ItemCall::Display, edition, &self.texts, 0);
+    }
+
+    pub fn wide_read_once(&self, edition: u64) {
+        let whole = self.behind_blanks();
+        self.once(ItemCall::Read, edition, &self.wide_texts(&whole), BEFORE);
+    }
+
+    fn once(&self, call: ItemCall, edition: u64, texts: &[impl AsRef<str>], at: usize) {
+        let mut lent = self.room();
+        for text in texts {
+            self.ask(call, edition, text.as_ref(), at, &mut lent);
         }
     }
 
-    fn ask(&self, call: ItemCall, edition: u64, text: &str, lent: &mut [u8]) {
+    /// Room for the line and the tree of each item.
+    fn room(&self) -> Vec<u8> {
+        let longest = self.texts.iter().map(String::len).max().unwrap_or(0);
+        vec![0; LONGEST_LINE.max(4 + 42 * longest)]
+    }
+
+    /// Whether the display of the first item is refused, since its line is too long.
+    pub fn has_no_line(&self) -> bool {
+        self.ask(ItemCall::Display, 1, &self.texts[0], 0, &mut self.room()) == NO_ROOM
+    }
+
+    fn ask(&self, call: ItemCall, edition: u64, text: &str, at: usize, lent: &mut [u8]) -> u32 {
         let mut answer = [0; 6];
         let kind = self.kind as u64;
         let text = text.as_bytes();
-        let result = station_items::ask(call, kind, edition, text, 0, lent, &mut answer);
-        assert_eq!(result, 0, "the text was read before");
+        let result = station_items::ask(call, kind, edition, text, at, lent, &mut answer);
+        assert!(
+            result == 0 || call == ItemCall::Display && result == NO_ROOM,
+            "the text was read before"
+        );
         black_box((&answer, &lent));
+        result
     }
 }
+
+/// What the port does with items: the option that has it done once, the function that does it, and
+/// the runs.
+#[derive(Clone, Copy)]
+pub struct Task {
+    pub option: &'static str,
+    pub function: &'static str,
+    pub call: ItemCall,
+    pub run: Run,
+    pub once: fn(&Items, u64),
+}
+
+pub const READ: Task = Task {
+    option: "--read",
+    function: "movesig_read",
+    call: ItemCall::Read,
+    run: Items::run_of_reads,
+    once: Items::read_once,
+};
+
+pub const WIDE_READ: Task = Task {
+    option: "--wide-read",
+    function: "movesig_read",
+    call: ItemCall::Read,
+    run: Items::run_of_wide_reads,
+    once: Items::wide_read_once,
+};
+
+pub const DISPLAY: Task = Task {
+    option: "--display",
+    function: "movesig_display",
+    call: ItemCall::Display,
+    run: Items::run_of_displays,
+    once: Items::display_once,
+};
+
+pub const TASKS: [Task; 3] = [READ, WIDE_READ, DISPLAY];
 
 fn read_of_the_rust<'t, T, E: std::fmt::Debug>(
     text: &'t str,
@@ -192,12 +402,12 @@ pub type Run = fn(&Items, &mut [u8]) -> f64;
 
 /// The times of each run for each of some items. The runs take turns.
 pub fn times<const N: usize>(all: &[&Items], runs: [Run; N]) -> Vec<[Time; N]> {
-    let mut lent = vec![0; LONGEST_WRITTEN];
+    let mut lent: Vec<_> = all.iter().map(|items| items.room()).collect();
     let mut times = vec![[const { vec![] }; N]; all.len()];
     for _ in 0..RUNS {
-        for (items, times) in all.iter().zip(&mut times) {
+        for ((items, lent), times) in all.iter().zip(&mut lent).zip(&mut times) {
             for (run, times) in runs.iter().zip(times) {
-                times.push(run(items, &mut lent));
+                times.push(run(items, lent));
             }
         }
     }

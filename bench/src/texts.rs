@@ -1,5 +1,6 @@
 //! The texts that are measured. The same seed gives the same text.
 
+use crate::items;
 use oracle::{
     random::Random,
     texts::{KEYWORDS, MARKS},
@@ -26,6 +27,23 @@ pub const KINDS: [Kind; 10] = [
     ("keywords", keywords),
     ("line feeds", line_feeds),
     ("one comment", one_comment),
+];
+
+/// The row in which port and Rust take the same time, now the one less and now the other: it is
+/// held to its growth alone.
+pub const LEVEL: &str = "line feeds";
+
+/// A list of types, as a text.
+pub const LIST: Kind = ("flat list", items::flat_types);
+
+/// The rows that are walked at 1 MB too.
+pub const LONGER: [&str; 6] = [
+    "Move source",
+    LIST.0,
+    "comments",
+    "one long name",
+    "punctuation",
+    "one comment",
 ];
 
 /// Declarations as people write them. `$m`, `$s`, `$f`, `$v` and `$n` stand for a
@@ -131,7 +149,7 @@ module 0x$n::$m {
 ",
 ];
 
-/// Comments with a little code between them.
+/// Comments and, last, a little code between them.
 const COMMENTS: [&str; 7] = [
     "// The $v of the $m is kept here, since $f looks for it before it looks at $s.\n",
     "/// Gives the $v of `$s`, or aborts with $n where the account at `$m` holds none.\n",
@@ -154,6 +172,12 @@ fn move_source(random: &mut Random, length: usize) -> String {
 
 fn comments(random: &mut Random, length: usize) -> String {
     pieces(random, length, &COMMENTS)
+}
+
+/// One comment.
+pub fn comment(random: &mut Random) -> String {
+    let choice = random.pick(&COMMENTS[..COMMENTS.len() - 1]);
+    fill_in(random, choice)
 }
 
 /// Pieces with their places filled in, as long as they fit.
@@ -199,7 +223,7 @@ fn punctuation(random: &mut Random, length: usize) -> String {
     text
 }
 
-fn long_name(random: &mut Random, length: usize) -> String {
+pub fn long_name(random: &mut Random, length: usize) -> String {
     let mut text = String::new();
     while text.len() < length {
         text += random.pick(&["total", "supply", "of", "the", "Coin", "index", "v2", "is"]);

@@ -1,7 +1,7 @@
 //! Walks over the tokens of the texts: by the Rust, by the port in each edition and by the lexer
 //! in C.
 
-use crate::{station, texts};
+use crate::{run, runs, station, texts, time_of, Time, RUNS};
 use oracle::{
     answer::{Answer, Call},
     files::THE_FILE,
@@ -9,7 +9,7 @@ use oracle::{
     random::Random,
     reading::{Outcome, Reading},
 };
-use std::hint::black_box;
+use std::{hint::black_box, ops::Range};
 
 #[link(name = "lexer", kind = "static")]
 extern "C" {
@@ -27,20 +27,40 @@ pub struct Walk {
 impl Walk {
     /// One text of 60 KB.
     pub fn long(row: &str) -> Walk {
-        let texts = vec![maker(row)(&mut Random::new(0), LONG)];
-        Walk { texts }
+        Walk::of(row, 0..1, LONG)
     }
 
     /// As many bytes in texts of 1 KB.
     pub fn short(row: &str) -> Walk {
-        let texts = (1..=LONG / SHORT)
-            .map(|seed| maker(row)(&mut Random::new(seed as u64), SHORT))
-            .collect();
-        Walk { texts }
+        Walk::of(row, 1..1 + LONG / SHORT, SHORT)
+    }
+
+    /// One text of 1 MB.
+    pub fn longest(row: &str) -> Walk {
+        Walk::of(row, 0..1, runs::LONG)
+    }
+
+    /// As many bytes in texts of 60 KB.
+    pub fn parts(row: &str) -> Walk {
+        Walk::of(row, 1..1 + runs::LONG / LONG, LONG)
+    }
+
+    /// A text of that length from each seed.
+    fn of(row: &str, seeds: Range<usize>, length: usize) -> Walk {
+        let make = maker(row);
+        let texts = seeds.map(|seed| make(&mut Random::new(seed as u64), length));
+        Walk {
+            texts: texts.collect(),
+        }
     }
 
     pub fn bytes(&self) -> usize {
         self.texts.iter().map(String::len).sum()
+    }
+
+    /// Stops where the three do not agree.
+    pub fn agree(&self) {
+        self.tokens();
     }
 
     /// How many tokens the texts have. Stops where the three do not agree.
@@ -49,8 +69,22 @@ impl Walk {
     }
 }
 
+/// The times of walks by the port in an edition. The runs take turns.
+pub fn times(edition: u64, walks: &[Walk]) -> Vec<Time> {
+    let mut times = vec![vec![]; walks.len()];
+    for _ in 0..RUNS {
+        for (walk, times) in walks.iter().zip(&mut times) {
+            times.push(run(&walk.texts, |text| by_the_port_in(edition, text)));
+        }
+    }
+    times.into_iter().map(time_of).collect()
+}
+
 fn maker(row: &str) -> fn(&mut Random, usize) -> String {
-    let mut all = texts::KINDS.iter().chain(&texts::NUMBERS);
+    let mut all = texts::KINDS
+        .iter()
+        .chain(&texts::NUMBERS)
+        .chain([&texts::LIST]);
     let found = all.find(|(name, _)| *name == row);
     found.unwrap_or_else(|| panic!("no row '{row}'")).1
 }

@@ -6,7 +6,7 @@ use crate::{
     every_text, grouped,
     item_sets::{self, random_item, Size, Visitor, TAILS},
     read_comparison::{print_listed, print_text, respelled},
-    shrunk, station_items,
+    shrunk, station_items, Found, ON_LONG,
 };
 use oracle::{
     expected::Text,
@@ -18,18 +18,15 @@ use oracle::{
     texts,
     variants::{every_sentence, variants},
 };
-use std::time::{Duration, Instant};
+use std::time::Instant;
 
 /// How many faults are shown in full, and how many are made small to find that many that
 /// are not the same.
 const SHOWN: usize = 5;
 const MADE_SMALL: u64 = 20;
 
-/// How long one may be made smaller.
-const SHRINKING: Duration = Duration::from_secs(2);
-
-/// Runs all sets and prints what came of them; how many items had a fault.
-pub fn run(size: Size) -> u64 {
+/// Runs all sets and prints what came of them.
+pub fn run(size: Size) -> Found {
     on_a_deep_stack(|| {
         let start = Instant::now();
         let mut displays = Displays::new(size.random(50));
@@ -37,18 +34,22 @@ pub fn run(size: Size) -> u64 {
             println!("\nDisplays, by items, edition {edition}:");
             displays.edition = edition;
             item_sets::run(&mut displays, &size);
-            strings(&mut displays, &size);
-            sentences(&mut displays, &size);
-            families(&mut displays, &size);
+            if !size.long_only {
+                strings(&mut displays, &size);
+                sentences(&mut displays, &size);
+                families(&mut displays, &size);
+            }
             lengths(&mut displays, &size);
-            if edition == 2 {
+            if edition == 2 && !size.long_only {
                 item_sets::numbers(&mut displays, &size);
             }
         }
         println!();
         displays.print_summary();
         println!("\n{:.1} s", start.elapsed().as_secs_f64());
-        displays.faults
+        let mut found = Found::default();
+        found.add(displays.faults, displays.properties.tally.on_long);
+        found
     })
 }
 
@@ -244,13 +245,21 @@ impl Displays {
             grouped(tally.answers)
         );
         for (name, count) in [
+            (ON_LONG, tally.on_long.into()),
             ("  refused with 18", tally.spoiled.into()),
-            ("items displayed", tally.displayed.into()),
             ("items accepted (displayed and read)", tally.accepted.into()),
             ("numbers that are no edition", tally.of_none.into()),
             ("different lines", self.properties.lines() as u128),
             ("  met in both editions", self.properties.in_both() as u128),
             ("lines read back", tally.read_back.into()),
+            (
+                "  of wide trees, the line's wide too",
+                tally.both_wide.into(),
+            ),
+            (
+                "  of wide trees, the line's narrow",
+                tally.only_item_wide.into(),
+            ),
             ("pairs of accepted items of one kind", pairs),
             ("  of one line and one build", one_line),
             ("  of two lines and two builds", pairs - one_line),
@@ -281,9 +290,8 @@ fn smallest(first: Fault) -> Fault {
                 .check_thoroughly(kind, edition, &text, at)
         })
     };
-    let start = Instant::now();
     let (text, at) = shrunk(first.text.clone(), first.at, |text, at| {
-        start.elapsed() < SHRINKING && faulty(text, at).is_some()
+        faulty(text, at).is_some()
     });
     faulty(&text, at).unwrap_or(first)
 }

@@ -7,7 +7,7 @@ use crate::{
     expected::Text,
     parser::ast::Value_,
     parsing::{Item, Parsed},
-    reads::{Cause, Expected},
+    reads::{Cause, Expected, LONGEST_LINE},
 };
 
 /// How an item's line is written from the Rust's tree of it and the text.
@@ -22,6 +22,7 @@ pub fn expected(read: &Expected, text: &Text, at: usize, show: Show) -> Expected
         return Expected {
             answer: Some(Answer::refused(18, at + byte, at + byte + 1)),
             written: vec![],
+            longest: LONGEST_LINE,
             item: None,
             cause: Some(Cause::SpoiledLine),
         };
@@ -30,6 +31,7 @@ pub fn expected(read: &Expected, text: &Text, at: usize, show: Show) -> Expected
     Expected {
         answer: Some(Answer::display(line.len())),
         written: line,
+        longest: LONGEST_LINE,
         item: None,
         cause: read.cause,
     }
@@ -110,7 +112,7 @@ mod tests {
         let text = list(5_000);
         let refused = Some(Answer::refused(4, 0, 0));
         let read = reads::expected(3, &Text::new(text.as_bytes()), 0);
-        assert_eq!(read.within(1 << 20).answer, refused);
+        assert_eq!(read.within(140_018).written.len(), 140_018);
         let line = display(3, &text, 0);
         assert_eq!(line.within(15_000).answer, Some(Answer::display(15_000)));
         assert_eq!(line.within(14_999).answer, refused);

@@ -65,22 +65,26 @@ fn spelled(text: &[u8]) -> Vec<u8> {
 /// The text on which the Rust answers as edition 2 must on this one, read from `at` on: up to
 /// `most` tokens are looked at. In every other edition it is the text itself.
 pub fn judged<'t>(edition: u64, text: &'t [u8], at: usize, most: usize) -> Cow<'t, [u8]> {
-    let telling = |at: usize| {
-        text[at] == b'_'
-            || [&b"u16"[..], b"u32", b"u256"]
-                .iter()
-                .any(|word| text[at..].starts_with(word))
+    let telling = |at: usize| match text[at] {
+        b'_' => true,
+        b'u' => [&b"u16"[..], b"u32", b"u256"]
+            .iter()
+            .any(|word| text[at..].starts_with(word)),
+        _ => false,
     };
     let refused = at > text.len() || text.len() > LONGEST;
-    if edition != 2 || refused || !(at..text.len()).any(telling) {
+    // Most long texts have neither of these bytes, which is seen sooner.
+    let may_tell = || [b'_', b'u'].iter().any(|byte| text[at..].contains(byte));
+    if edition != 2 || refused || !may_tell() || !(at..text.len()).any(telling) {
         return Cow::Borrowed(text);
     }
     let mut copy = text.to_vec();
-    let mut ascii = Text::new(text).in_ascii().to_string();
+    // Only what stands from `at` on: the text before it may be long.
+    let mut ascii = Text::new(&text[at..]).in_ascii().to_string();
     let mut from = at;
     let mut left = most;
     while left > 0 {
-        match Reading::new(&ascii[from..], from).advance() {
+        match Reading::new(&ascii[from - at..], from).advance() {
             Outcome::Token { kind, start, end } if kind != Tok::EOF as u64 => {
                 let number = kind == Tok::NumValue as u64 || kind == Tok::NumTypedValue as u64;
                 from = end;
@@ -98,7 +102,7 @@ pub fn judged<'t>(edition: u64, text: &'t [u8], at: usize, most: usize) -> Cow<'
                     break;
                 }
                 for block in blocks {
-                    ascii.replace_range(block..block + 4, "\t\t\t\t");
+                    ascii.replace_range(block - at..block - at + 4, "\t\t\t\t");
                     from = block + 4;
                 }
             }

@@ -5,11 +5,12 @@ use crate::{
     answer::{Answer, Call},
     parser::lexer::Tok,
     reading::{Outcome, Reading},
+    tree::NARROW,
 };
 use std::cell::OnceCell;
 
 /// The longest text that is not refused.
-pub const LONGEST: usize = 65_535;
+pub const LONGEST: usize = 1_048_575;
 
 /// Why the specification, and not the Rust, decides an answer.
 #[derive(Clone, Copy, PartialEq, Eq, Debug)]
@@ -35,7 +36,7 @@ impl Cause {
             Cause::EmptyBlock => "top-level /**/ (the Rust panics; here a plain comment)",
             Cause::HighByteInString => "byte of 128 or more in a closed string (here refusal 9)",
             Cause::LastCarriageReturn => "unclosed string, CR ends the text (Rust versions differ)",
-            Cause::TextTooLong => "text over 65,535 bytes (here refusal 1)",
+            Cause::TextTooLong => "text over 1,048,575 bytes (here refusal 1)",
             Cause::StartPastEnd => "start past the end (refusal 2; the Rust cannot be asked)",
         }
     }
@@ -62,6 +63,11 @@ impl<'t> Text<'t> {
             utf8: std::str::from_utf8(bytes).ok(),
             replaced: OnceCell::new(),
         }
+    }
+
+    /// Whether a tree of it is wide for its length alone. Texts that are refused are none of these.
+    pub fn is_long(&self) -> bool {
+        (NARROW + 1..=LONGEST).contains(&self.bytes.len())
     }
 
     /// The text from `at` on. Where that is not UTF-8, each byte of 128 or more is

@@ -5,6 +5,7 @@ use crate::every_text;
 use oracle::{
     expected::Text,
     items::{self, Case},
+    long_items,
     parsing::ItemKind,
     random::Random,
     texts,
@@ -96,13 +97,18 @@ pub trait Visitor {
     }
 }
 
-/// Visits all sets.
+/// Visits all sets, or those of long texts alone.
 pub fn run(visitor: &mut impl Visitor, size: &Size) {
-    short_texts(visitor, size);
-    wrong_calls(visitor);
-    items_and_damage(visitor, size);
-    other_texts(visitor, size);
-    limits(visitor, size);
+    if !size.long_only {
+        short_texts(visitor, size);
+        wrong_calls(visitor);
+        items_and_damage(visitor, size);
+        other_texts(visitor, size);
+        nests(visitor, size);
+    }
+    long_texts(visitor, size);
+    many_records(visitor, size);
+    far_items(visitor, size);
 }
 
 /// How much is compared, and with which random texts.
@@ -111,6 +117,8 @@ pub struct Size {
     pub seed: u64,
     /// The one edition that is compared, if not both are.
     pub edition: Option<u64>,
+    /// Whether only the sets of long texts are compared.
+    pub long_only: bool,
 }
 
 impl Size {
@@ -172,11 +180,6 @@ fn wrong_calls(visitor: &mut impl Visitor) {
         for text in CALLED {
             to.however_called(text.as_bytes());
         }
-        for length in [65_535, 65_536] {
-            for text in texts::one_long_thing(length) {
-                to.wrongly_called(&Text::new(&text));
-            }
-        }
     });
 }
 
@@ -235,27 +238,132 @@ fn other_texts(visitor: &mut impl Visitor, size: &Size) {
     });
 }
 
-/// Around 64 levels, trees of 65,535 bytes and texts of 65,535 bytes.
-fn limits(visitor: &mut impl Visitor, size: &Size) {
+/// Around 64 levels.
+fn nests(visitor: &mut impl Visitor, size: &Size) {
     visitor.set("nests of 60 to 68 levels", |to| {
         for case in size.of(60..=68, 63..=64).flat_map(items::nests) {
             to.thoroughly(&case);
         }
     });
+}
+
+/// Around texts of 65,535 and 1,048,575 bytes.
+fn long_texts(visitor: &mut impl Visitor, size: &Size) {
+    visitor.set("wrong kinds and offsets, long texts", |to| {
+        let whole = vec![65_535, 65_536, 1_048_575, 1_048_576];
+        for length in size.of(whole, vec![65_535, 65_536, 1_048_576]) {
+            for text in texts::one_long_thing(length) {
+                to.wrongly_called(&Text::new(&text));
+            }
+        }
+    });
+    visitor.set("texts of 2,000 to 1,048,577 bytes", |to| {
+        let short = [
+            0, 1, 2_000, 30_000, 65_533, 65_534, 65_535, 65_536, 65_537, 70_000,
+        ];
+        let long = [131_072, 1_048_574, 1_048_575, 1_048_576, 1_048_577];
+        let whole = [&short[..], &long].concat();
+        for length in size.of(whole, vec![2_000, 65_535, 65_536, 1_048_575, 1_048_576]) {
+            for case in items::long(length) {
+                to.thoroughly(&case);
+            }
+        }
+    });
+    visitor.set("names and strings of 65,534 bytes and more", |to| {
+        let longer = [70_000, 131_072, 1_048_575];
+        let whole = (65_534..=65_545).chain(longer).collect();
+        for length in size.of(whole, vec![65_536, 65_540]) {
+            for case in long_items::leaves(length) {
+                to.thoroughly(&case);
+            }
+        }
+    });
+}
+
+/// Around narrow trees of 65,535 bytes, which have 8,191 records.
+fn many_records(visitor: &mut impl Visitor, size: &Size) {
     visitor.set("trees of about 65,535 bytes", |to| {
         let counts = COUNTS.into_iter().flatten();
         for case in counts.step_by(size.of(1, 5)).flat_map(items::counted) {
             to.thoroughly(&case);
         }
     });
-    visitor.set("texts of 2,000 and of about 65,535 bytes", |to| {
-        let whole = &[0, 1, 2_000, 30_000, 65_533, 65_534, 65_535, 65_536, 70_000][..];
-        for length in size.of(whole, &[2_000, 65_535, 65_536]) {
-            for case in items::long(*length) {
-                to.thoroughly(&case);
-            }
+    visitor.set("trees of 8,188 to 8,195 records", |to| {
+        let mut random = size.random(10);
+        let records = size.of(8_188..=8_195, 8_191..=8_192);
+        let cases = records.flat_map(long_items::of_records);
+        for case in cases.step_by(size.of(1, 4)) {
+            to.thoroughly(&case);
+            let case = long_items::far(&mut random, case, &long_items::LONG);
+            to.item(case.kind as u64, &Text::new(&case.text), case.at);
         }
     });
+    visitor.set("trees of about 512, 1,024 and 2,048 bytes", |to| {
+        let mut random = size.random(12);
+        let cases = OWN_BUFFERS.into_iter().flatten();
+        for case in cases
+            .flat_map(long_items::of_records)
+            .step_by(size.of(1, 9))
+        {
+            to.thoroughly(&case);
+            let case = long_items::far(&mut random, case, &long_items::LONG);
+            to.thoroughly(&case);
+        }
+    });
+    visitor.set("lists of about 8,191 records", |to| {
+        let mut random = size.random(11);
+        for turn in 0..size.of(1_200, 20) {
+            let mut case = long_items::random_list(&mut random);
+            if turn % 8 == 0 {
+                case.text = texts::damaged(&mut random, &case.text);
+            }
+            to.item(case.kind as u64, &Text::new(&case.text), case.at);
+        }
+    });
+}
+
+/// Short items in long texts.
+fn far_items(visitor: &mut impl Visitor, size: &Size) {
+    for (name, set, lengths, turns) in [
+        (
+            "items in texts of 65,534 to 131,072 bytes",
+            8,
+            &long_items::LONG[..],
+            size.of(100_000, 1_500),
+        ),
+        (
+            "items in texts of about 1,048,575 bytes",
+            9,
+            &long_items::LONGEST[..],
+            size.of(2_000, 40),
+        ),
+    ] {
+        let mut random = size.random(set);
+        visitor.set(name, |to| {
+            for turn in 0..turns {
+                let case = far_item(&mut random, turn, lengths);
+                to.item(case.kind as u64, &Text::new(&case.text), case.at);
+            }
+        });
+    }
+}
+
+/// A random item in a text of about one of the lengths; now and then the item is damaged, or the text.
+pub fn far_item(random: &mut Random, turn: usize, lengths: &[usize]) -> Case {
+    let mut case = random_item(random, turn, 1 + turn % 7);
+    if turn % 4 == 0 {
+        damage(random, &mut case);
+    }
+    let mut case = long_items::far(random, case, lengths);
+    if turn % 16 == 1 {
+        damage(random, &mut case);
+    }
+    case
+}
+
+fn damage(random: &mut Random, case: &mut Case) {
+    case.text = texts::damaged(random, &case.text);
+    case.at = case.at.min(case.text.len());
 }
 
 const ALPHABET: &[u8] = b"a<>()|,&:{}@0x\" ";
@@ -279,9 +387,13 @@ const CALLED: [&str; 12] = [
     "(a /*",
 ];
 
-/// Of so many items some trees are just short enough: items take 8 bytes and more.
+/// Of so many items some trees are just short enough to be narrow: items take 8 bytes and more.
 const COUNTS: [std::ops::RangeInclusive<usize>; 4] =
     [8_185..=8_192, 4_091..=4_097, 2_728..=2_731, 2_046..=2_048];
+
+/// Trees of so many records are about as long, narrow or wide, as the buffers in which the port reads first.
+const OWN_BUFFERS: [std::ops::RangeInclusive<usize>; 6] =
+    [35..=37, 72..=74, 145..=147, 63..=65, 127..=129, 255..=257];
 
 /// Kinds that exist, and numbers of which some bytes alone would be one.
 const KINDS: [u64; 12] = [

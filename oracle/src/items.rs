@@ -70,6 +70,31 @@ pub fn case(random: &mut Random, kind: ItemKind, depth: usize) -> Case {
     }
 }
 
+/// What a list consists of.
+#[derive(Clone, Copy, PartialEq, Eq, Debug)]
+pub enum Part {
+    Type,
+    Bind,
+    Field,
+}
+
+/// Something that a list can have among its items, without faults.
+pub fn part(random: &mut Random, part: Part, depth: usize) -> String {
+    let mut speller = Speller {
+        text: String::new(),
+        gaps: random.below(4),
+        spine: random.below(12),
+        faults: false,
+        random,
+    };
+    match part {
+        Part::Type => speller.argument(depth),
+        Part::Bind => speller.bind(depth),
+        Part::Field => speller.field(depth),
+    }
+    speller.text
+}
+
 /// Writes an item token by token.
 struct Speller<'r> {
     random: &'r mut Random,
@@ -430,7 +455,8 @@ fn nest(count: usize, open: &str, inner: &str, close: &str) -> String {
     open.repeat(count) + inner + &close.repeat(count)
 }
 
-fn whole(kind: ItemKind, text: String) -> Case {
+/// A text that is an item.
+pub fn whole(kind: ItemKind, text: String) -> Case {
     Case {
         kind,
         text: text.into_bytes(),
@@ -438,8 +464,7 @@ fn whole(kind: ItemKind, text: String) -> Case {
     }
 }
 
-/// Long texts: flat lists whose trees are about as long as a tree may be, and items
-/// that fill a text of `length` bytes.
+/// Long texts: flat lists and other items that fill a text of `length` bytes.
 pub fn long(length: usize) -> Vec<Case> {
     let flat = |kind, open: &str, item: &str, close: &str| {
         let count = length.saturating_sub(open.len() + close.len()) / item.len();
@@ -448,17 +473,12 @@ pub fn long(length: usize) -> Vec<Case> {
         whole(kind, text)
     };
     let (types, binds, lambda) = (ItemKind::Type, ItemKind::BindList, ItemKind::LambdaBindList);
-    vec![
+    let mut cases = vec![
         flat(types, "(", "a,", ")"),
         flat(types, "(", "a_name_of_some_length, ", ")"),
         flat(types, "|", "0x1::Module::Struct,", "|u8"),
         flat(types, "a<", "&mut T /* so */,\r\n", ">"),
         flat(types, "a<", "()", ">"),
-        flat(types, "", "(", ""),
-        flat(types, "", "& ", ""),
-        flat(types, "", "a<", ""),
-        flat(types, "", "| | ", "a"),
-        flat(types, "", "|(", ""),
         flat(types, "(", "/**/", "u8)"),
         flat(types, "//", "x", "\nu8"),
         flat(types, "u8", " ", ""),
@@ -468,14 +488,25 @@ pub fn long(length: usize) -> Vec<Case> {
         flat(binds, "S{", "f,", "}"),
         flat(binds, "S<", "a,", ">{}"),
         flat(binds, "S{", "field_a: S { g, h: y },\n", "}"),
-        flat(binds, "", "S{f:", ""),
         flat(lambda, "|", "x,", "|"),
         flat(lambda, "|", "S { f: x, g: y }, ", "|"),
         flat(ItemKind::Name, "a", "a", "::b"),
         flat(ItemKind::Value, "b\"", "a", "\""),
         flat(ItemKind::Value, "x\"", "0", ""),
         flat(ItemKind::Value, "0x", "f", "u8"),
-    ]
+    ];
+    if length <= 131_072 {
+        // The Rust calls itself once more for each level.
+        cases.extend([
+            flat(types, "", "(", ""),
+            flat(types, "", "& ", ""),
+            flat(types, "", "a<", ""),
+            flat(types, "", "| | ", "a"),
+            flat(types, "", "|(", ""),
+            flat(binds, "", "S{f:", ""),
+        ]);
+    }
+    cases
 }
 
 /// Flat lists of `count` items, with and without one that takes more records.
@@ -501,7 +532,7 @@ pub fn counted(count: usize) -> Vec<Case> {
 pub fn with_long_lines(around: usize) -> Vec<Case> {
     let (types, binds, lambda) = (ItemKind::Type, ItemKind::BindList, ItemKind::LambdaBindList);
     let list = |count| format!("({})", "a,".repeat(count));
-    // Trees that are too long, and lines that are not.
+    // Trees that are wide, and lines that are not too long.
     let mut cases = vec![whole(types, list(5_000)), whole(binds, list(10_000))];
     for step in 0..=2 * around {
         // An item takes 3 bytes of line: `a, `.

@@ -21,6 +21,7 @@ pub mod items;
 pub mod lent;
 pub mod levels;
 pub mod line;
+pub mod long_items;
 pub mod parsing;
 pub mod points;
 pub mod properties;

@@ -88,7 +88,9 @@ pub fn parse(kind: ItemKind, text_from_base: &str, base: usize) -> Parse {
         parsed,
         brackets: brackets(kind, text_from_base),
     });
-    let tree = item.as_ref().map_or(vec![], |item| Tree::of(item, base));
+    let tree = item.as_ref().map_or(vec![], |item| {
+        Tree::of(item, base, base + text_from_base.len())
+    });
     let (start, end) = (base + lexer.start_loc(), base + lexer.end_loc());
     let answer = outcome.map(|given| match given {
         Ok(true) => Answer::read(tree.len(), lexer.peek() as u64, start, end),

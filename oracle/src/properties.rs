@@ -12,7 +12,8 @@ use crate::{
     lent::{Ask, Buffer, ItemAt, Room, Wrong},
     parsing::ItemKind,
     random::Random,
-    reads::{self, Cause, Expected, Lent, LONGEST_WRITTEN},
+    reads::{self, Cause, Expected, Lent, LONGEST_LINE},
+    tree::FRONT,
 };
 use std::{collections::HashMap, rc::Rc};
 
@@ -69,15 +70,21 @@ pub struct Fault {
 pub struct Tally {
     pub items: u64,
     pub answers: u64,
+    /// Answers on texts of 65,536 to 1,048,575 bytes.
+    pub on_long: u64,
     /// Displays that are refused with 18.
     pub spoiled: u64,
     /// Answers to numbers that are no edition.
     pub of_none: u64,
-    /// Items whose line has at most 65,535 bytes, and those that can be read too.
-    pub displayed: u64,
+    /// Items whose line has at most 65,535 bytes, which are those that are accepted.
     pub accepted: u64,
-    /// Lines that were read back. Each different one is once in each edition that it was met in.
+    /// Lines that were read back. Each different one is once in each edition that it was met in, and
+    /// that of an item whose tree is wide each time.
     pub read_back: u64,
+    /// Items whose trees are wide: those whose line's tree is wide too, and those whose line's tree is
+    /// narrow.
+    pub both_wide: u64,
+    pub only_item_wide: u64,
     pub listed: [u64; Cause::ALL.len()],
 }
 
@@ -167,6 +174,7 @@ impl Properties {
         let due = displays::expected(&read, text, at, self.show);
         self.tally.items += 1;
         let rooms = rooms(&mut self.random, !due.written.is_empty());
+        self.tally.on_long += u64::from(text.is_long()) * rooms.len() as u64;
         let item = (kind, edition, text.bytes, at);
         let broken = self
             .display_broken(item, &due, &rooms)
@@ -237,46 +245,46 @@ impl Properties {
         due: &Expected,
     ) -> Option<Broken> {
         let line = &due.written;
-        if line.is_empty() || line.len() > LONGEST_WRITTEN {
+        if line.is_empty() || line.len() > LONGEST_LINE {
             return None;
         }
-        self.tally.displayed += 1;
         if !line.iter().all(|byte| (32..=126).contains(byte)) {
             let told = vec![format!("line     '{}'", cut(line))];
             return Some((Property::Printable, told));
-        }
-        if read.written.len() > LONGEST_WRITTEN {
-            // It has a line and no stored tree, so no build to compare.
-            return self.back_broken((kind, edition), line, read.written.len(), None);
         }
         self.tally.accepted += 1;
         let build = build_of(&read.written, text.bytes);
         let group = kind as usize - 1;
         let known = self.groups[group].knows(line, &build, edition);
-        if known == Known::InThisEdition {
+        if known == Known::InThisEdition && !is_wide(&read.written) {
             return None;
         }
-        let broken = self.back_broken((kind, edition), line, read.written.len(), Some(&build));
+        let broken = self.back_broken((kind, edition), line, &read.written, &build);
         match known {
-            Known::InAnother => broken,
-            _ => broken.or_else(|| self.groups[group].pair_broken(line, &build, edition)),
+            Known::No => broken.or_else(|| self.groups[group].pair_broken(line, &build, edition)),
+            _ => broken,
         }
     }
 
-    /// Reads the line alone, in the item's edition, and displays it. `length` is that of the item's tree.
+    /// Reads the line alone, in the item's edition, and displays it. `tree` is the item's: the line's
+    /// takes no more room, and is read in that.
     fn back_broken(
         &mut self,
         (kind, edition): (u64, u64),
         line: &[u8],
-        length: usize,
-        build: Option<&[u8]>,
+        tree: &[u8],
+        build: &[u8],
     ) -> Option<Broken> {
         self.tally.read_back += 1;
         let end = line.len();
         let read = reads::expected_in(edition, kind, &Text::new(line), 0);
+        let length = read.written.len();
         let whole = Answer::read(length, 0, end, end);
-        let same = |build| build_of(&read.written, line) == build;
-        if read.answer != Some(whole) || read.cause.is_some() || !build.is_none_or(same) {
+        self.tally.both_wide += (is_wide(tree) && is_wide(&read.written)) as u64;
+        self.tally.only_item_wide += (is_wide(tree) && !is_wide(&read.written)) as u64;
+        let fits = length > 0 && length <= tree.len();
+        let same = || build_of(&read.written, line) == build;
+        if read.answer != Some(whole) || read.cause.is_some() || !fits || !same() {
             let found = read.answer.map_or("a panic".into(), |it| it.to_string());
             let told = vec![
                 format!("line     '{}'", cut(line)),
@@ -285,7 +293,7 @@ impl Properties {
             ];
             return Some((Property::ReadByTheRust, told));
         }
-        let room = length.min(LONGEST_WRITTEN);
+        let room = tree.len();
         let due = read.within(room);
         let item = (kind, edition, line, 0);
         if let Some(wrong) = self.buffer.wrong(ItemCall::Read, item, room, due) {
@@ -315,6 +323,10 @@ impl Properties {
     pub fn lines(&self) -> usize {
         self.groups.iter().map(|group| group.lines.len()).sum()
     }
+}
+
+fn is_wide(tree: &[u8]) -> bool {
+    tree.starts_with(&FRONT)
 }
 
 /// What is refused with 18 was read.
@@ -697,6 +709,23 @@ mod tests {
         assert_eq!((properties.lines(), properties.in_both()), (2, 1));
         assert_eq!(properties.tally.read_back, 3);
         assert_eq!(properties.pairs(), (10, 6));
+    }
+
+    /// The line of an item whose tree is wide is read back each time.
+    #[test]
+    fn lines_of_wide_trees() {
+        let (ask, show) = shown_by!(line_of);
+        let mut properties = Properties::new(ask, show, Random::new(1));
+        let far = "a".to_string() + &" ".repeat(65_535);
+        let list = format!("({})", "a,".repeat(4_096));
+        for text in ["a", "a", &far, &far, &list] {
+            let fault = properties.check(3, 1, &Text::new(text.as_bytes()), 0);
+            assert!(fault.is_none());
+        }
+        let tally = properties.tally;
+        let wide = (tally.both_wide, tally.only_item_wide);
+        assert_eq!((tally.read_back, wide), (4, (1, 2)));
+        assert_eq!(tally.on_long, 8);
     }
 
     #[test]

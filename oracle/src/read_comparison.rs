@@ -4,7 +4,7 @@
 use crate::{
     grouped,
     item_sets::{self, Size, Visitor, TAILS},
-    shrunk, station_items,
+    shrunk, station_items, Found, ON_LONG,
 };
 use oracle::{
     answer::ItemCall,
@@ -16,36 +16,30 @@ use oracle::{
     random::Random,
     reads::{expected_in, Cause, Expected, Lent},
 };
-use std::{
-    borrow::Cow,
-    time::{Duration, Instant},
-};
+use std::{borrow::Cow, time::Instant};
 
 /// How many differences are shown in full, and how many are made small to find that
 /// many that are not the same.
 const SHOWN: usize = 5;
 const MADE_SMALL: u64 = 20;
 
-/// How long one may be made smaller.
-const SHRINKING: Duration = Duration::from_secs(2);
-
-/// Runs all sets and prints what came of them; how many differences were found.
-pub fn run(size: Size) -> u64 {
+/// Runs all sets and prints what came of them.
+pub fn run(size: Size) -> Found {
     on_a_deep_stack(|| {
         let start = Instant::now();
-        let mut different = 0;
+        let mut found = Found::default();
         for edition in size.editions() {
             println!("\nReads, edition {edition}:");
             let mut reads = Reads::new(edition, size.random(0));
             item_sets::run(&mut reads, &size);
-            if edition == 2 {
+            if edition == 2 && !size.long_only {
                 item_sets::numbers(&mut reads, &size);
             }
             reads.print_summary();
-            different += reads.different;
+            found.add(reads.different, reads.on_long);
         }
         println!("\n{:.1} s", start.elapsed().as_secs_f64());
-        different
+        found
     })
 }
 
@@ -64,6 +58,8 @@ struct Reads {
     edition: u64,
     buffer: Buffer,
     answers: u64,
+    /// Answers on texts of 65,536 to 1,048,575 bytes.
+    on_long: u64,
     /// Answers to numbers that are no edition.
     of_none: u64,
     /// Answers of edition 1 on texts by which edition 2 is judged.
@@ -156,6 +152,7 @@ impl Reads {
             of_first: 0,
             buffer: Buffer::new(station_items::ask),
             answers: 0,
+            on_long: 0,
             accepted: 0,
             random,
             listed: [0; Cause::ALL.len()],
@@ -168,6 +165,7 @@ impl Reads {
         let call = (kind, self.edition, text.bytes, at, room);
         let difference = asked(&mut self.buffer, call, expected);
         self.answers += 1;
+        self.on_long += u64::from(text.is_long());
         if self.edition == 1 {
             self.judge_none(kind, text, at, room.of(expected), expected);
         }
@@ -217,6 +215,7 @@ impl Reads {
 
     fn print_summary(&self) {
         println!("{:<50} {:>12}", "all", grouped(self.answers));
+        println!("{ON_LONG:<50} {:>12}", grouped(self.on_long));
         if self.edition == 1 {
             let count = grouped(self.of_none);
             println!(
@@ -296,9 +295,8 @@ fn smallest(buffer: &mut Buffer, first: Difference) -> Difference {
             asked(buffer, (kind, edition, text, at, room), &expected)
         })
     };
-    let start = Instant::now();
     let (text, at) = shrunk(first.text.clone(), first.at, |text, at| {
-        start.elapsed() < SHRINKING && differs(text, at).is_some()
+        differs(text, at).is_some()
     });
     differs(&text, at).unwrap_or(first)
 }

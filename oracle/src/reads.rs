@@ -11,8 +11,8 @@ use crate::{
     reading::{Outcome, Reading},
 };
 
-/// The longest tree or line that is not refused.
-pub const LONGEST_WRITTEN: usize = 65_535;
+/// The longest line that is not refused.
+pub const LONGEST_LINE: usize = 65_535;
 
 /// Why the specification, and not the Rust, decides a read or a display.
 #[derive(Clone, Copy, PartialEq, Eq, Debug)]
@@ -25,7 +25,7 @@ pub enum Cause {
     LastCarriageReturn,
     TooManyLevels,
     SpoiledLine,
-    WrittenTooLong,
+    LineTooLong,
     RoomTooSmall,
 }
 
@@ -39,7 +39,7 @@ impl Cause {
         Cause::LastCarriageReturn,
         Cause::TooManyLevels,
         Cause::SpoiledLine,
-        Cause::WrittenTooLong,
+        Cause::LineTooLong,
         Cause::RoomTooSmall,
     ];
 
@@ -53,7 +53,7 @@ impl Cause {
             Cause::LastCarriageReturn => expected::Cause::LastCarriageReturn.words(),
             Cause::TooManyLevels => "more than 64 levels (here refusal 14)",
             Cause::SpoiledLine => "a byte under 32 or 127 in a displayed string (refusal 18)",
-            Cause::WrittenTooLong => "tree or line over 65,535 bytes (here refusal 4)",
+            Cause::LineTooLong => "line over 65,535 bytes (here refusal 4)",
             Cause::RoomTooSmall => "tree or line longer than the room lent (here refusal 4)",
         }
     }
@@ -66,6 +66,8 @@ pub struct Expected {
     pub answer: Option<Answer>,
     /// The tree or line that the buffer must start with; all other bytes stay.
     pub written: Vec<u8>,
+    /// How long that may be, whatever the room.
+    pub longest: usize,
     /// The Rust's own tree of what is accepted.
     pub item: Option<Item>,
     pub cause: Option<Cause>,
@@ -118,8 +120,8 @@ impl Expected {
 
     /// Why the tree or line is too long, if it is.
     fn limit(&self, room: usize) -> Option<Cause> {
-        if self.written.len() > LONGEST_WRITTEN {
-            Some(Cause::WrittenTooLong)
+        if self.written.len() > self.longest {
+            Some(Cause::LineTooLong)
         } else if self.written.len() > room {
             Some(Cause::RoomTooSmall)
         } else {
@@ -132,6 +134,7 @@ fn by_document_01(cause: Cause, answer: Answer) -> Expected {
     Expected {
         answer: Some(answer),
         written: vec![],
+        longest: usize::MAX,
         item: None,
         cause: Some(cause),
     }
@@ -172,6 +175,7 @@ fn of_the_rust(parse: Parse, text: &Text) -> Expected {
     Expected {
         answer: parse.answer,
         written: parse.tree,
+        longest: usize::MAX,
         item: parse.item,
         cause: None,
     }
@@ -397,10 +401,35 @@ mod tests {
         let small = longest.within(65_527);
         assert_eq!((small.answer, small.written), refused);
         assert_eq!(small.cause, Some(Cause::RoomTooSmall));
-        let too_long = read(BINDS, &list(8_191));
-        let long = too_long.within(1 << 20);
-        assert_eq!((long.answer, long.written), refused);
-        assert_eq!(long.cause, Some(Cause::WrittenTooLong));
+        let wide = read(BINDS, &list(8_191));
+        assert_eq!(wide.within(114_692).written.len(), 114_692);
+        assert_eq!(wide.within(114_692).written[..6], [4, 0, 99, 0, 0, 192]);
+        assert_eq!(wide.within(114_691).answer, refused.0);
+    }
+
+    /// What tells the two forms apart, in the words of the request for longer files.
+    #[test]
+    fn narrow_and_wide() {
+        let blanks = |count| format!("a{}", " ".repeat(count));
+        let narrow = read(TYPE, &blanks(65_534)).written;
+        assert_eq!(narrow, [16, 0, 10, 0, 0, 0, 1, 0, 8, 0, 3, 0, 0, 0, 1, 0]);
+        let wide = read(TYPE, &blanks(65_535)).written;
+        let [type_, chain] = [[28, 10], [14, 3]]
+            .map(|[length, kind]| [length, 0, 0, 0, kind, 0, 0, 0, 0, 0, 1, 0, 0, 0]);
+        assert_eq!(wide, [&[4, 0, 99, 0][..], &type_, &chain].concat());
+        // The whole text counts, not the part that is read.
+        let far = " ".repeat(65_536) + "a";
+        let tree = expected(TYPE, &Text::new(far.as_bytes()), 65_536).written;
+        assert_eq!(
+            (tree.len(), &tree[10..18]),
+            (32, &[0, 0, 1, 0, 1, 0, 1, 0][..])
+        );
+        let list = |count| read(TYPE, &format!("({})", "a,".repeat(count)));
+        assert_eq!(list(4_095).written.len(), 65_528);
+        assert_eq!(list(4_096).within(114_706).written.len(), 114_706);
+        let refused = Some(Answer::refused(4, 0, 0));
+        assert_eq!(list(4_096).within(114_705).answer, refused);
+        assert_eq!(list(5_000).written.len(), 140_018);
     }
 
     #[test]

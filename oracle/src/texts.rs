@@ -327,7 +327,7 @@ pub fn one_long_thing(length: usize) -> Vec<Vec<u8>> {
 }
 
 /// `before`, as often as it goes `again` and then its first bytes, and `after`.
-fn filled(length: usize, before: &str, again: &str, after: &str) -> Vec<u8> {
+pub fn filled(length: usize, before: &str, again: &str, after: &str) -> Vec<u8> {
     let middle = length.saturating_sub(before.len() + after.len());
     let mut text = before.as_bytes().to_vec();
     text.extend(again.bytes().cycle().take(middle));

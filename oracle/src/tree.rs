@@ -1,5 +1,5 @@
-//! The stored tree of the specification, built from the Rust's trees, with a record of kind 16
-//! for brackets round one type (docs/DIFFERENCES.md).
+//! The stored tree of the specification, narrow or wide, built from the Rust's trees, with a record of
+//! kind 16 for brackets round one type (docs/DIFFERENCES.md).
 
 use crate::{
     brackets::{unbracketed, Brackets, Span},
@@ -9,13 +9,20 @@ use crate::{
         NameAccessChain_, Type, Type_, Value, Value_,
     },
     parsing::{Item, Parsed},
-    reads::LONGEST_WRITTEN,
     shared::{Identifier, Name},
 };
 
-/// Records, one behind the other. All their places are raised by `base`.
+/// The most bytes of a text, and of a narrow tree, for which a tree is narrow.
+pub const NARROW: usize = 65_535;
+
+/// What stands in front of a wide tree.
+pub const FRONT: [u8; 4] = [4, 0, 99, 0];
+
+/// Records, one behind the other. All their places are raised by `base`; each length, start and end
+/// has `width` bytes.
 pub struct Tree<'i> {
     base: usize,
+    width: usize,
     brackets: &'i Brackets,
     bytes: Vec<u8>,
 }
@@ -25,23 +32,29 @@ fn span(loc: Loc) -> Span {
 }
 
 impl Tree<'_> {
-    /// The stored tree. Without its records of kind 16 it must be the Rust's.
-    pub fn of(item: &Item, base: usize) -> Vec<u8> {
-        let tree = Tree::with(&item.brackets, &item.parsed, base);
+    /// The stored tree of an item in a text of `whole` bytes. Without its records of kind 16 it must be
+    /// the Rust's.
+    pub fn of(item: &Item, base: usize, whole: usize) -> Vec<u8> {
+        let tree = Tree::with(&item.brackets, &item.parsed, base, 2);
         if item.brackets.count() > 0 {
-            let rust = Tree::with(&Brackets::default(), &item.parsed, base);
+            let rust = Tree::with(&Brackets::default(), &item.parsed, base, 2);
             let brackets = 8 * item.brackets.count();
             assert_eq!(tree.len(), rust.len() + brackets, "{item:?}");
-            if tree.len() <= LONGEST_WRITTEN {
+            if tree.len() <= NARROW {
                 assert_eq!(unbracketed(&tree), rust, "{item:?}");
             }
         }
-        tree
+        if whole <= NARROW && tree.len() <= NARROW {
+            return tree;
+        }
+        let wide = Tree::with(&item.brackets, &item.parsed, base, 4);
+        [&FRONT[..], &wide].concat()
     }
 
-    fn with(brackets: &Brackets, parsed: &Parsed, base: usize) -> Vec<u8> {
+    fn with(brackets: &Brackets, parsed: &Parsed, base: usize, width: usize) -> Vec<u8> {
         let mut tree = Tree {
             base,
+            width,
             brackets,
             bytes: vec![],
         };
@@ -55,17 +68,22 @@ impl Tree<'_> {
         tree.bytes
     }
 
-    /// One record. Its length is only right where it fits two bytes; where it does
-    /// not, the tree is refused and none of its bytes are looked at.
+    /// One record. Its numbers are only right where they fit their bytes; where they do not, the tree
+    /// is not the one that is written, and its length alone is looked at.
     fn record(&mut self, kind: u16, (start, end): Span, children: impl FnOnce(&mut Self)) {
         let at = self.bytes.len();
-        let [start, end] = [(self.base + start) as u16, (self.base + end) as u16];
-        for number in [0, kind, start, end] {
-            self.bytes.extend(number.to_le_bytes());
-        }
+        self.number(0);
+        self.bytes.extend(kind.to_le_bytes());
+        self.number(self.base + start);
+        self.number(self.base + end);
         children(self);
-        let length = (self.bytes.len() - at) as u16;
-        self.bytes[at..at + 2].copy_from_slice(&length.to_le_bytes());
+        let length = self.bytes.len() - at;
+        let width = self.width;
+        self.bytes[at..at + width].copy_from_slice(&length.to_le_bytes()[..width]);
+    }
+
+    fn number(&mut self, number: usize) {
+        self.bytes.extend(&number.to_le_bytes()[..self.width]);
     }
 
     fn leaf(&mut self, kind: u16, loc: Loc) {

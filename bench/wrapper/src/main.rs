@@ -1,7 +1,7 @@
 //! Measures what the Rust crate adds to the bare calls: the same texts and the same calls of the
 //! same library, once through the crate's functions and once through its C interface.
 
-use movesig::{display, read, Edition, Kind, LONGEST};
+use movesig::{display, read, Edition, Kind, LONGEST_LINE};
 use std::{
     env,
     hint::black_box,
@@ -104,8 +104,8 @@ const TYPES: [&str; 8] = [
 fn main() {
     let check = check_is_asked();
     let text = source();
-    let mut buffer = vec![0; LONGEST];
-    let mut other = vec![0; LONGEST];
+    let mut buffer = vec![0; LONGEST_LINE];
+    let mut other = vec![0; LONGEST_LINE];
     println!("| calls | bare | crate | more |");
     println!("|---|---:|---:|---:|");
     let mut failed = false;

@@ -3,25 +3,27 @@ use mathlib.Core.Path.{_≡_, refl, subst}
 use mathlib.Core.Bool.{true}
 use mathlib.Core.List.{List}
 use mathlib.Core.Option.{Option, some, none as clean}
-use Prim.Native.Nat.{ℕ}
+use Prim.Native.Nat.{ℕ, min}
+use lib.Dec.{ltb}
 use lib.ListN.{length}
 use Rattle.tokens.specs.Refusals.{NoRoom, among}
 use Rattle.tokens.specs.declared.Refusal.{Refusal}
 use Rattle.tokens.proofs.RefusalSets.{subset, among-subset}
+use Rattle.records.specs.Tree.{Tree}
 use Rattle.answers.proofs.Sure.{when-sure}
 use Rattle.grammar.specs.Items.{Item, item, refused, readItem}
-use Rattle.forms.specs.Forms.{FormStored, FormLine, laid}
+use Rattle.forms.specs.Forms.{written, formOf}
 use Rattle.forms.specs.Spoiled.{spoiled}
 use Rattle.frames.proofs.Faithful.{readRefusals, Told, item-told}
-use Rattle.calls.specs.Calls.{itemRefusals, displayRefusals, tooLong, roomed, unlessSpoiled, unspoiled, read, display}
+use Rattle.calls.specs.Calls.{itemRefusals, displayRefusals, lineLimit, roomed, unlessSpoiled, unspoiled, read, asLine, display}
 
 abbrev Met : List ℕ → Item → Type 0
 Met set (item x t) = Unit {0}
 Met set (refused r) = among set (r .number) ≡ true
 
-roomed-met : (set : List ℕ) (form room : ℕ) (i : Item) → among set NoRoom ≡ true → Met set i → Met set (roomed form room i)
+roomed-met : (set : List ℕ) (form : Tree → ℕ) (room : ℕ) (i : Item) → among set NoRoom ≡ true → Met set i → Met set (roomed form room i)
 unfolding roomed
-roomed-met set form room (item x t) g h = when-sure (Met set) (tooLong form room (length (laid form x))) _ _ (λ _. g) (λ _. tt)
+roomed-met set form room (item x t) g h = when-sure (Met set) (ltb room (length (written (form x) x))) _ _ (λ _. g) (λ _. tt)
 roomed-met set form room (refused r) g h = h
 
 -- what an item is refused with is in every set that has those numbers
@@ -41,10 +43,10 @@ unspoiled-met (refused r) h = h
 pub read-refusals : (kind ed : ℕ) (text : List ℕ) (at room : ℕ) (r : Refusal) → read kind ed text at room ≡ refused r → among itemRefusals (r .number) ≡ true
 unfolding read subset among
 read-refusals kind ed text at room r e =
-    subst (Met itemRefusals) e (roomed-met itemRefusals FormStored room (readItem kind ed text at) refl (told-met itemRefusals refl text (readItem kind ed text at) (item-told kind ed text at)))
+    subst (Met itemRefusals) e (roomed-met itemRefusals (formOf text) room (readItem kind ed text at) refl (told-met itemRefusals refl text (readItem kind ed text at) (item-told kind ed text at)))
 
 pub display-refusals : (kind ed : ℕ) (text : List ℕ) (at room : ℕ) (r : Refusal) → display kind ed text at room ≡ refused r → among displayRefusals (r .number) ≡ true
 unfolding display subset among
 display-refusals kind ed text at room r e =
     subst (Met displayRefusals) e
-    (roomed-met displayRefusals FormLine room (unspoiled (readItem kind ed text at)) refl (unspoiled-met (readItem kind ed text at) (told-met displayRefusals refl text (readItem kind ed text at) (item-told kind ed text at))))
+    (roomed-met displayRefusals asLine (min room lineLimit) (unspoiled (readItem kind ed text at)) refl (unspoiled-met (readItem kind ed text at) (told-met displayRefusals refl text (readItem kind ed text at) (item-told kind ed text at))))

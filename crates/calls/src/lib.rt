@@ -1,16 +1,18 @@
 // The read call and the display call: an item of a text in a lent buffer, as its stored tree or as its line.
-// Both are one walk: what is left of a call is its form, its limit and its answer.
+// Both are one walk: what is left of a call is its form, its room and its answer.
 ghost use mathlib.Core.Path.{_≡_};
-ghost use Prim.Native.Nat.{_-_};
+ghost use Prim.Native.Nat.{_-_, _≤_};
 ghost use lib.ListN.{length};
 ghost use Rattle.tokens.specs.Calls.{nextToken};
 ghost use Rattle.grammar.specs.Items.{readKind};
+ghost use Rattle.forms.specs.Forms.{narrowLimit};
 ghost use Rattle.parts.specs.code.Meets.{Fits, held, Reads};
-ghost use Rattle.calls.specs.Calls.{noKind, limitOf, tooLong, answered, readBuffer, displayed, displayBuffer};
-ghost use Rattle.calls.specs.code.Given.{refusedWith, atStart, shownEnd, spoiledValue, spoiledAt, replacedBy, SpoiledFrom, Writes, Lays, Calls, Displays};
+ghost use Rattle.calls.specs.Calls.{noKind, answered, readBuffer, displayed, displayBuffer};
+ghost use Rattle.calls.specs.code.Given.{refusedWith, atStart, firstForm, roomIn, shownEnd, spoiledValue, spoiledAt, replacedBy, SpoiledFrom, LaidDown, Widens, Longer, Lays, answerOf, bufferOf, Calls, Displays};
 use classes::SHOWN;
 use forms::FORM_LINE;
-use forms::FORM_STORED;
+use forms::FORM_NARROW;
+use forms::FORM_WIDE;
 use forms::Spot;
 use parts::LEVELS;
 use parts::Parsed;
@@ -38,15 +40,28 @@ pub const BIND_LIST: u64 = 4;
 
 pub const LAMBDA_BIND_LIST: u64 = 5;
 
-// The longest tree and the longest line.
-const TREE_LIMIT: usize = 65535;
-
+// The longest line.
 const LINE_LIMIT: usize = 65535;
+
+// The longest text and the longest tree for which the narrow form suffices.
+const NARROW_LIMIT: usize = 65535;
+
+// The most records whose wide length a number can tell.
+const MOST_RECORDS: usize = 1317624576693539400;
+
+const LAST: usize = 18446744073709551615;
 
 // An item's stored length and the token that follows it; or a refusal, and nothing was written.
 pub enum Answer {
     Item(usize, Token),
     Refused(Refusal),
+}
+
+// What became of an item that was laid down in a buffer of the call's own: its bytes stand at the front there,
+// so many, with the token that follows; or the call is answered.
+enum Made {
+    Whole(usize, Token),
+    Answered(Answer),
 }
 
 // The line's length; or a refusal, and nothing was written.
@@ -98,24 +113,46 @@ fn no_kind(kind: u64) -> bool
     LAMBDA_BIND_LIST < kind
 }
 
-// The longest answer in a form.
-fn limit_of(form: u8) -> usize
-    ensures { λ r. ⌜ r ≡ limitOf form ⌝ }
+// The form in which a tree of the text is laid down first: where the text is short its length will tell
+// whether that suffices.
+fn first_form(text: &[u8]) -> u8
+    ensures { λ r. ⌜ r ≡ firstForm (now (text .entry)) ⌝ }
 {
-    if form == FORM_LINE {
-        return LINE_LIMIT;
+    if NARROW_LIMIT < text.len() {
+        return FORM_WIDE;
     }
-    TREE_LIMIT
+    FORM_NARROW
 }
 
-// Whether an answer of n bytes is too long for the room or the limit.
-fn too_long(form: u8, room: usize, n: usize) -> bool
-    ensures { λ r. ⌜ r ≡ tooLong form room n ⌝ }
+// Whether a tree of n bytes in the form is too long for it.
+fn outgrown(form: u8, n: usize) -> bool
+    ensures { λ r. ⌜ r ≡ Rattle.calls.specs.code.Given.outgrown form n ⌝ }
 {
-    if room < n {
-        return true;
+    if form == FORM_NARROW {
+        return NARROW_LIMIT < n;
     }
-    limit_of(form) < n
+    false
+}
+
+// The wide length of a tree that has n bytes in the narrow form: 14 for each 8, and 4 in front.
+fn widened(n: usize) -> usize
+    ensures { λ r. ⌜ r ≡ Rattle.calls.specs.code.Given.widened n ⌝ }
+{
+    let k = n / 8;
+    if MOST_RECORDS < k {
+        return LAST;
+    }
+    4 + 14 * k
+}
+
+// The room for an answer in the form: a line has no more than the longest.
+fn room_in(form: u8, room: usize) -> usize
+    ensures { λ r. ⌜ r ≡ roomIn form room ⌝ }
+{
+    if form == FORM_LINE {
+        return numbers::smaller(room, LINE_LIMIT);
+    }
+    room
 }
 
 // The refusal of the whole call.
@@ -142,29 +179,62 @@ fn bytes_left(text: &[u8], at: usize) -> usize
     text.len() - at
 }
 
-// Writes an item that is accepted: the n bytes that `made` begins with, or, where it has no room for them,
-// by reading the item again.
-fn write_item(
+// Lays the item whose first token is a down at the front of the buffer, behind what stands in front there.
+fn lay_down(form: u8, kind: u64, edition: u64, text: &[u8], a: Token, out: &mut [u8]) -> Parsed
+    ensures { λ r. ⌜ LaidDown form kind edition (now (text .entry)) a (now (out .entry)) r (now (out .exit)) ⌝ }
+{
+    let s = forms::put_front(form, out, at_start());
+    parse_item(form, kind, edition, text, a, out, s)
+}
+
+// Writes an item that has n bytes in the narrow form, too many for it, in the wide form by reading it again;
+// the token that follows is known.
+fn lay_wide(
+    kind: u64,
+    edition: u64,
+    text: &[u8],
+    a: Token,
+    n: usize,
+    next: Token,
+    out: &mut [u8],
+) -> Answer
+    ensures { λ r. ⌜ Widens kind edition (now (text .entry)) a n next (now (out .entry)) r (now (out .exit)) ⌝ }
+{
+    let m = widened(n);
+    if out.len() < m {
+        return refused(NO_ROOM);
+    }
+    lay_down(FORM_WIDE, kind, edition, text, a, out);
+    Answer::Item(m, next)
+}
+
+// Writes an item that has n bytes in the form in which it was laid down first, by reading it again; the
+// token that follows is known.
+fn lay_longer(
     form: u8,
     kind: u64,
     edition: u64,
     text: &[u8],
     a: Token,
-    made: &[u8],
     n: usize,
+    next: Token,
     out: &mut [u8],
-)
-    ensures { λ _. ⌜ Writes form kind edition (now (text .entry)) a n (now (made .entry)) (now (out .entry)) (now (out .exit)) ⌝ }
+) -> Answer
+    ensures { λ r. ⌜ Longer form kind edition (now (text .entry)) a n next (now (out .entry)) r (now (out .exit)) ⌝ }
 {
-    if n <= made.len() {
-        buffer::copy(out, &made[..n]);
-        return;
+    if outgrown(form, n) {
+        return lay_wide(kind, edition, text, a, n, next, out);
     }
-    parse_item(form, kind, edition, text, a, out, at_start());
+    if room_in(form, out.len()) < n {
+        return refused(NO_ROOM);
+    }
+    lay_down(form, kind, edition, text, a, out);
+    Answer::Item(n, next)
 }
 
-// Lays the item whose first token is a down in `made`, and writes it into the lent buffer where the answer is
-// accepted: a refused call writes no byte.
+// Lays the item whose first token is a down in `made`, which is too short for an item that needs another form
+// or exceeds the longest line. Where it has no room for the item either, this is read again into the lent
+// buffer; a refused call writes no byte there.
 fn lay_over(
     form: u8,
     kind: u64,
@@ -173,20 +243,39 @@ fn lay_over(
     a: Token,
     made: &mut [u8],
     out: &mut [u8],
-) -> Answer
-    ensures { λ r. ⌜ Lays form kind edition (now (text .entry)) a (now (out .entry)) r (now (out .exit)) ⌝ }
+) -> Made
+    requires { ⌜ length (now made) ≤ narrowLimit ⌝ }
+    ensures { λ r. ⌜ Lays form kind edition (now (text .entry)) a (now (out .entry)) (answerOf r) (bufferOf r (now (made .exit)) (now (out .exit))) ⌝ }
 {
-    let d = parse_item(form, kind, edition, text, a, made, at_start());
+    let d = lay_down(form, kind, edition, text, a, made);
     match d {
-        Parsed::Refused(r) => Answer::Refused(r),
+        Parsed::Refused(r) => Made::Answered(Answer::Refused(r)),
         Parsed::Read(p) => {
             let to = p.to;
             let n = p.next;
-            if too_long(form, out.len(), to.pos) {
-                return refused(NO_ROOM);
+            if made.len() < to.pos {
+                let r = lay_longer(form, kind, edition, text, a, to.pos, n, out);
+                return Made::Answered(r);
             }
-            write_item(form, kind, edition, text, a, made, to.pos, out);
-            Answer::Item(to.pos, n)
+            if out.len() < to.pos {
+                return Made::Answered(refused(NO_ROOM));
+            }
+            Made::Whole(to.pos, n)
+        }
+    }
+}
+
+// Copies the item into the lent buffer where its bytes stand in `made`, and answers. The copy stands apart from
+// `lay_over`: where `made` is, the compiler knows that the two buffers share no byte.
+fn copied(d: Made, made: &[u8], out: &mut [u8]) -> Answer
+    ensures answer { λ r. ⌜ r ≡ answerOf d ⌝ }
+    ensures buffer { λ r. ⌜ now (out .exit) ≡ bufferOf d (now (made .entry)) (now (out .entry)) ⌝ }
+{
+    match d {
+        Made::Answered(r) => r,
+        Made::Whole(n, t) => {
+            buffer::copy(out, &made[..numbers::smaller(n, made.len())]);
+            Answer::Item(n, t)
         }
     }
 }
@@ -199,14 +288,17 @@ fn lay_item(form: u8, kind: u64, edition: u64, text: &[u8], a: Token, out: &mut 
     let left = bytes_left(text, a.start);
     if left <= 64 {
         let mut made = [0u8; 512];
-        return lay_over(form, kind, edition, text, a, &mut made, out);
+        let d = lay_over(form, kind, edition, text, a, &mut made, out);
+        return copied(d, &made, out);
     }
     if left <= 1536 {
         let mut made = [0u8; 2048];
-        return lay_over(form, kind, edition, text, a, &mut made, out);
+        let d = lay_over(form, kind, edition, text, a, &mut made, out);
+        return copied(d, &made, out);
     }
     let mut made = [0u8; 1024];
-    lay_over(form, kind, edition, text, a, &mut made, out)
+    let d = lay_over(form, kind, edition, text, a, &mut made, out);
+    copied(d, &made, out)
 }
 
 // A call in a form, with the token that was found at the offset.
@@ -241,11 +333,11 @@ fn call(
 
 // The read call.
 pub fn read(kind: u64, edition: u64, text: &[u8], at: usize, out: &mut [u8]) -> Answer
-    ensures answer { λ r. ⌜ r ≡ answered (Rattle.calls.specs.Calls.read kind edition (now (text .entry)) at (length (now (out .entry)))) ⌝ }
+    ensures answer { λ r. ⌜ r ≡ answered (now (text .entry)) (Rattle.calls.specs.Calls.read kind edition (now (text .entry)) at (length (now (out .entry)))) ⌝ }
     ensures buffer { λ r. ⌜ now (out .exit) ≡ readBuffer kind edition (now (text .entry)) at (now (out .entry)) ⌝ }
 {
     let first = tokens::next_token(edition, text, at);
-    call(FORM_STORED, kind, edition, text, at, first, out)
+    call(first_form(text), kind, edition, text, at, first, out)
 }
 
 // Where the bytes of the token that a line can hold end.

@@ -1,4 +1,5 @@
--- What a form makes of each construct; and that the forms are what they are meant to be: the stored record of every tree, and its line.
+-- What a form makes of each construct; and that the forms are what they are meant to be: the narrow stored form of every tree, and its
+-- line.
 use mathlib.Core.Path.{_≡_, refl, ap, sym, _∙_}
 use mathlib.Core.Bool.{Bool, true, false}
 use mathlib.Core.List.{List, [], _∷_, _++_, append-nil, append-assoc}
@@ -9,29 +10,29 @@ use lib.ListN.{length}
 use Rattle.classes.specs.Bytes.{bytes}
 use Rattle.records.specs.Kinds.{RecTwoPart, RecThreePart, RecPair, RecType, RecRef, RecRefMut, RecFunction, RecUnit, RecTuple, RecBrackets, RecStruct, RecStructTyped, RecField, RecBindList, RecLambdaBindList, RecAddressValue}
 use Rattle.records.specs.Tree.{Tree, leaf, node, Trees, none, more, build, builds, behind, joined}
-use Rattle.records.specs.Stored.{header, stored, storedAll}
+use Rattle.records.specs.Stored.{two, span, header, stored, storedAll, number, headOf}
 use Rattle.forms.specs.Line.{Piece, plain, others, commas, bars, angles, inBrackets, braces, first, later, initial, final, select, isField, isType, shape, kindOfBuild, line, pieces, shown}
-use Rattle.forms.specs.Forms.{FormStored, FormLine, isLine, head, markIn, spelt, recorded, recordedAll, laid, headed, listedRest, laidItems, inBars, inAngles}
+use Rattle.forms.specs.Forms.{FormNarrow, FormLine, isLine, front, headSize, width, head, markIn, spelt, recorded, recordedAll, laid, written, headed, listedRest, laidItems, inBars, inAngles}
 
--- the two forms
+-- the narrow form and the line
 mutual
-  unfolding recorded recordedAll stored storedAll head
+  unfolding recorded recordedAll stored storedAll head headSize width headOf number header span two
 
-  recorded-stored : (t : Tree) → recorded FormStored t ≡ stored t
+  recorded-stored : (t : Tree) → recorded FormNarrow t ≡ stored t
   recorded-stored (leaf k s e w) = refl
   recorded-stored (node k s e ts) = ap (λ (x : List ℕ). header (length x + 8) k s e ++ x) (all-stored ts)
 
-  all-stored : (ts : Trees) → recordedAll FormStored ts ≡ storedAll ts
+  all-stored : (ts : Trees) → recordedAll FormNarrow ts ≡ storedAll ts
   all-stored none = refl
   all-stored (more t ts) = rw (recorded-stored t, all-stored ts)
 
-pub laid-stored : (t : Tree) → laid FormStored t ≡ stored t
-unfolding laid
-laid-stored t = recorded-stored t
+pub written-stored : (t : Tree) → written FormNarrow t ≡ stored t
+unfolding written front laid
+written-stored t = recorded-stored t
 
-pub laid-line : (t : Tree) → laid FormLine t ≡ shown t
-unfolding laid
-laid-line t = refl
+pub written-line : (t : Tree) → written FormLine t ≡ shown t
+unfolding written front laid
+written-line t = refl
 
 -- the lines of children
 abbrev pub texts : Trees → List (List ℕ)

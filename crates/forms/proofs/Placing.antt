@@ -2,18 +2,18 @@
 use mathlib.Core.Path.{_≡_, refl, ap, sym, _∙_}
 use mathlib.Core.Bool.{Bool, true, false, cond}
 use mathlib.Core.List.{List, [], _++_}
-use Prim.Native.Nat.{ℕ, _+_, _-_, _/_, _*_, _%_, _≤_}
+use Prim.Native.Nat.{ℕ, _+_, _/_, _*_, _%_, _≤_}
 use native.Mathlib.Omega.{arith}
 use native.Mathlib.Nat.{mod-add-mod, add-mod}
-use borrow.Author.Tests.{ltb-true, ltb-false}
+use borrow.Author.Tests.{ltb-true, ltb-false, eq-eqb, ne-eqb}
 use lib.Dec.{ltb}
 use lib.ListN.{length, length-append}
 use lib.Seq.{sets, length-sets}
 use Rattle.buffer.proofs.Sets.{sets-append, sets-out}
-use Rattle.records.specs.Stored.{two, header}
-use Rattle.records.proofs.Pieces.{header-long}
+use Rattle.records.specs.Stored.{two, span, header, number, headOf}
+use Rattle.records.proofs.Numbers.{number-turns, head-long as long-head}
 use Rattle.records.proofs.Runs.{sets-below}
-use Rattle.forms.specs.Forms.{isLine, head, headSize, markIn, headed}
+use Rattle.forms.specs.Forms.{FormNarrow, FormLine, isLine, isNarrow, head, headSize, width, markIn, headed}
 use Rattle.forms.specs.code.Spots.{last, cap, wide, movedBy, sizeBetween, Placed, inside, sealed}
 use Rattle.forms.specs.declared.Spot.{Spot}
 
@@ -43,28 +43,50 @@ moved-twice s a b =
 size-moved : (s : Spot) (n : ℕ) → sizeBetween s (movedBy s n) ≡ n % wide
 size-moved s n = omega arith
 
-add-turns : (y q : ℕ) → (y + 256 * q) % 256 ≡ y % 256
-add-turns y q = omega arith
+-- a head is told by the low four bytes of its size
+low-narrow : (n c k s e : ℕ) → headOf 2 (n % wide + c) k s e ≡ headOf 2 (n + c) k s e
+unfolding headOf
+low-narrow n c k s e =
+    let d : n + c ≡ n % wide + c + 65536 * (65536 * (n / wide)) = omega arith in
+    ap (λ (x : List ℕ). x ++ (number 2 k ++ (number 2 s ++ number 2 e))) (sym (number-turns 2 (n % wide + c) (65536 * (n / wide))) ∙ ap (number 2) (sym d))
 
-pub header-size : (n k s e : ℕ) → header (n % wide + 8) k s e ≡ header (n + 8) k s e
-unfolding header two
-header-size n k s e =
-    let a : (n % wide + 8) % 256 ≡ (n + 8) % 256 = omega arith in
-    let d : (n + 8) / 256 ≡ (n % wide + 8) / 256 + 256 * (65536 * (n / wide)) = omega arith in
-    let b : (n % wide + 8) / 256 % 256 ≡ (n + 8) / 256 % 256 = sym (ap (λ (x : ℕ). x % 256) d ∙ add-turns ((n % wide + 8) / 256) (65536 * (n / wide))) in
-    rw (a, b)
+low-wide : (n c k s e : ℕ) → headOf 4 (n % wide + c) k s e ≡ headOf 4 (n + c) k s e
+unfolding headOf
+low-wide n c k s e =
+    let d : n + c ≡ n % wide + c + wide * (n / wide) = omega arith in
+    ap (λ (x : List ℕ). x ++ (number 2 k ++ (number 4 s ++ number 4 e))) (sym (number-turns 4 (n % wide + c) (n / wide)) ∙ ap (number 4) (sym d))
 
-head-wide : (f n k s e : ℕ) → head f (n % wide) k s e ≡ head f n k s e
-unfolding head
-head-wide f n k s e = rw header-size
+-- as the code writes it
+module _ (f n k s e : ℕ) where
+  pub head-as-narrow : f ≡ FormNarrow → header (n % wide + 8) k s e ≡ head f n k s e
+  unfolding head headSize width header span two headOf number
+  head-as-narrow h = rw h (low-narrow n 8 k s e)
 
-pub head-long : (f n k s e : ℕ) → length (head f n k s e) ≡ headSize f
-unfolding head headSize
-head-long f n k s e = go (isLine f)
-  where
-    go : (b : Bool) → length (cond b [] (header (n + 8) k s e)) ≡ cond b 0 8
-    go true = refl
-    go false = header-long (n + 8) k s e
+  pub head-none : f ≡ FormLine → [] ≡ head f n k s e
+  unfolding head
+  head-none h = rw (eq-eqb f FormLine h)
+
+  pub head-as-wide : (f ≡ FormNarrow → ⊥) → (f ≡ FormLine → ⊥) → headOf 4 (n % wide + 14) k s e ≡ head f n k s e
+  unfolding head headSize width
+  head-as-wide h g = rw (ne-eqb f FormNarrow h, ne-eqb f FormLine g) (low-wide n 14 k s e)
+
+  head-low : head f (n % wide) k s e ≡ head f n k s e
+  unfolding head headSize width
+  head-low = go (isLine f) (isNarrow f)
+    where
+      go : (a b : Bool) → cond a [] (headOf (cond b 2 4) (n % wide + cond a 0 (cond b 8 14)) k s e) ≡ cond a [] (headOf (cond b 2 4) (n + cond a 0 (cond b 8 14)) k s e)
+      go true b = refl
+      go false true = low-narrow n 8 k s e
+      go false false = low-wide n 14 k s e
+
+  pub head-long : length (head f n k s e) ≡ headSize f
+  unfolding head headSize width
+  head-long = go (isLine f) (isNarrow f)
+    where
+      go : (a b : Bool) → length (cond a [] (headOf (cond b 2 4) (n + cond a 0 (cond b 8 14)) k s e)) ≡ cond a 0 (cond b 8 14)
+      go true b = refl
+      go false true = long-head 2 (n + 8) k s e
+      go false false = long-head 4 (n + 14) k s e
 
 -- the buffer keeps its length
 pub placed-long : (l m xs : List ℕ) (s r : Spot) → Placed l s xs r m → length m ≡ length l
@@ -99,7 +121,7 @@ placed-front l m n xs ys s r h f w =
 pub placed-headed : (f k st e : ℕ) (l m n body : List ℕ) (s b : Spot) → length l ≤ last → Placed l (inside f s) body b m → n ≡ sealed f k st e s b m → Placed l s (headed f k st e body) b n
 unfolding headed
 placed-headed f k st e l m n body s b h g w =
-    let z : head f (sizeBetween (inside f s) b) k st e ≡ head f (length body) k st e = ap (λ (x : ℕ). head f x k st e) (ap (sizeBetween (inside f s)) (g .ends) ∙ size-moved (inside f s) (length body)) ∙ head-wide f (length body) k st e in
+    let z : head f (sizeBetween (inside f s) b) k st e ≡ head f (length body) k st e = ap (λ (x : ℕ). head f x k st e) (ap (sizeBetween (inside f s)) (g .ends) ∙ size-moved (inside f s) (length body)) ∙ head-low f (length body) k st e in
     placed-front l m n (head f (length body) k st e) body s b h
     (rw (head-long f (length body) k st e) g)
     (w ∙ ap (sets m (s .pos)) z)

@@ -1,31 +1,45 @@
--- How a tree is laid down, by its form: as records, each a head and its children; or as the display line. A form decides the head in
--- front of a record, the marks in front of children, between and behind them, and a leaf.
-use Prim.Native.Nat.{ℕ, _+_}
-use mathlib.Core.Bool.{Bool, cond}
-use mathlib.Core.List.{List, [], _++_}
-use lib.Dec.{eqb}
+-- How a tree is laid down, by its form: as records, narrow or wide, each a head and its children; or as the display line. A form decides
+-- what stands in front of the tree, the head in front of a record, the marks in front of children, between and behind them, and a leaf.
+use Prim.Native.Nat.{ℕ, _+_, _*_, _^_, _<_}
+use mathlib.Core.Bool.{Bool, cond, _||_}
+use mathlib.Core.List.{List, [], _∷_, _++_}
+use lib.Dec.{eqb, ltb}
 use lib.ListN.{length}
 use Rattle.classes.specs.Bytes.{bytes}
 use Rattle.records.specs.Tree.{Tree, leaf, node, Trees, none, more}
-use Rattle.records.specs.Stored.{header}
+use Rattle.records.specs.Stored.{headOf, records}
 use Rattle.forms.specs.Line.{shown}
 
--- the forms, by number: any number but the line's is the stored record
-abbrev pub FormStored : ℕ
-FormStored = 0
+-- the forms, by number: any number but the narrow form's and the line's is the wide one
+abbrev pub FormNarrow : ℕ
+FormNarrow = 0
 
 abbrev pub FormLine : ℕ
 FormLine = 1
 
+abbrev pub FormWide : ℕ
+FormWide = 2
+
 abbrev pub isLine : ℕ → Bool
 isLine f = eqb f FormLine
 
--- the head of a record of kind k from s to e over n bytes, and its size
-unfoldable pub head : ℕ → ℕ → ℕ → ℕ → ℕ → List ℕ
-head f n k s e = cond (isLine f) [] (header (n + 8) k s e)
+abbrev pub isNarrow : ℕ → Bool
+isNarrow f = eqb f FormNarrow
+
+-- what the two stored forms are: what stands in front of the tree; the bytes of a record's head; and how many of them its length, its
+-- start and its end have each. Its kind has two in both
+unfoldable pub front : ℕ → List ℕ
+front f = cond (isLine f) [] (cond (isNarrow f) [] (4 ∷ 0 ∷ 99 ∷ 0 ∷ []))
 
 unfoldable pub headSize : ℕ → ℕ
-headSize f = cond (isLine f) 0 8
+headSize f = cond (isLine f) 0 (cond (isNarrow f) 8 14)
+
+unfoldable pub width : ℕ → ℕ
+width f = cond (isNarrow f) 2 4
+
+-- the head of a record of kind k from s to e over n bytes
+unfoldable pub head : ℕ → ℕ → ℕ → ℕ → ℕ → List ℕ
+head f n k s e = cond (isLine f) [] (headOf (width f) (n + headSize f) k s e)
 
 -- marks, and a leaf that is spelled w
 unfoldable pub markIn : ℕ → List ℕ → List ℕ
@@ -46,6 +60,33 @@ unfoldable mutual
 
 unfoldable pub laid : ℕ → Tree → List ℕ
 laid f t = cond (isLine f) (shown t) (recorded f t)
+
+-- all that is written of a tree
+unfoldable pub written : ℕ → Tree → List ℕ
+written f t = front f ++ laid f t
+
+-- the form in which a tree is stored that was read from a text: the narrow one, unless the text or the tree's narrow form has more bytes
+-- than two bytes count. The whole text counts, wherever in it the tree was read
+abbrev pub narrowLimit : ℕ
+narrowLimit = 65535
+
+unfoldable pub formOf : List ℕ → Tree → ℕ
+formOf text t = cond (ltb narrowLimit (length text) || ltb narrowLimit (8 * records t)) FormWide FormNarrow
+
+-- room for the tree of every item of a text of n bytes: at most three records of 14 bytes for each byte of the text, and what stands in
+-- front
+abbrev pub treeRoom : ℕ → ℕ
+treeRoom n = 4 + 42 * n
+
+-- each number of a tree's records fits the bytes that it has in the form
+unfoldable mutual
+  pub Fitting : ℕ → Tree → Type 0
+  Fitting f (leaf k s e w) = (k < 65536) × (s < 256 ^ width f) × (e < 256 ^ width f)
+  Fitting f (node k s e ts) = (k < 65536) × (s < 256 ^ width f) × (e < 256 ^ width f) × (length (recordedAll f ts) + headSize f < 256 ^ width f) × FittingAll f ts
+
+  pub FittingAll : ℕ → Trees → Type 0
+  FittingAll f none = Unit {0}
+  FittingAll f (more t ts) = Fitting f t × FittingAll f ts
 
 -- what the constructs are made of: a head in front of bytes; the items of a list; and lists in marks, where `| |` round nothing keeps
 -- its marks apart and a type without arguments has no `<`

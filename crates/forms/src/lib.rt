@@ -1,5 +1,5 @@
-// How a record is laid down: as a stored record, or as its part of the display line. Each function here
-// writes one piece of a record, and only these look at the form. Positions stop at the largest number, so
+// How a record is laid down: as a stored record, narrow or wide, or as its part of the display line. Each
+// function here writes one piece of a record, and only these look at the form. Positions stop at the largest number, so
 // that no sum can be too large.
 ghost use mathlib.Core.Path.{_≡_};
 ghost use mathlib.Core.Bool.{cond};
@@ -9,13 +9,18 @@ ghost use lib.Dec.{ltb};
 ghost use lib.ListN.{length};
 ghost use lib.Seq.{sets};
 ghost use Rattle.classes.specs.Bytes.{bytes};
-ghost use Rattle.forms.specs.Forms.{isLine, head, headSize, markIn, spelt};
+ghost use Rattle.forms.specs.Forms.{front, head, headSize, markIn, spelt};
 ghost use Rattle.forms.specs.code.Spots.{cap, movedBy, sizeBetween, Placed, inside, sealed, wordOf};
 use tokens::Token;
 
-pub const FORM_STORED: u8 = 0;
+pub const FORM_NARROW: u8 = 0;
 
 pub const FORM_LINE: u8 = 1;
+
+pub const FORM_WIDE: u8 = 2;
+
+// What stands in front of a tree in the wide form, as one number: the bytes 4, 0, 99 and 0.
+const FRONT: usize = 6488068;
 
 const LAST: usize = 18446744073709551615;
 
@@ -60,10 +65,27 @@ fn size_between(a: Spot, b: Spot) -> usize
 fn head_size(form: u8) -> usize
     ensures { λ r. ⌜ r ≡ headSize form ⌝ }
 {
+    if form == FORM_NARROW {
+        return 8;
+    }
     if form == FORM_LINE {
         return 0;
     }
-    8
+    14
+}
+
+// Writes what stands in front of a tree.
+pub fn put_front(form: u8, out: &mut [u8], s: Spot) -> Spot
+    ensures { λ r. ⌜ Placed (now (out .entry)) s (front form) r (now (out .exit)) ⌝ }
+{
+    if form == FORM_NARROW {
+        return move_by(s, 0);
+    }
+    if form == FORM_LINE {
+        return move_by(s, 0);
+    }
+    records::put_four(out, s.pos, FRONT);
+    move_by(s, 4)
 }
 
 // The place behind the head of a record that starts at s: its children are written first.
@@ -77,10 +99,14 @@ pub fn step_inside(form: u8, s: Spot) -> Spot
 fn put_head(form: u8, n: usize, kind: usize, start: usize, end: usize, out: &mut [u8], pos: usize)
     ensures { λ _. ⌜ now (out .exit) ≡ sets (now (out .entry)) pos (head form n kind start end) ⌝ }
 {
+    if form == FORM_NARROW {
+        records::put_header(out, pos, n % WIDE + 8, kind, start, end);
+        return;
+    }
     if form == FORM_LINE {
         return;
     }
-    records::put_header(out, pos, n % WIDE + 8, kind, start, end);
+    records::put_wide_header(out, pos, n % WIDE + 14, kind, start, end);
 }
 
 // Writes the head of the record that starts at s and whose children end at b.

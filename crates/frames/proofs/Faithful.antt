@@ -1,9 +1,10 @@
 -- What is told of every item, whatever its text, offset and kind: with which numbers it is refused; of an accepted one the kinds of its
--- records, so that its stored tree, where its length fits two bytes, tells the tree from that of every other item, but for words.
-use mathlib.Core.Path.{_≡_, refl, ap, subst}
+-- records and how many there are, so that each number fits its bytes and the stored tree tells the tree from that of every other item,
+-- but for words.
+use mathlib.Core.Path.{_≡_, refl, ap, sym, subst, _∙_}
 use mathlib.Core.Bool.{true, _||_}
 use mathlib.Core.List.{List, _∷_}
-use Prim.Native.Nat.{ℕ, _<_, _≤_}
+use Prim.Native.Nat.{ℕ, _*_, _≤_}
 use native.Mathlib.Omega.{arith}
 use borrow.Author.Tests.{ltb-false}
 use lib.Dec.{eqb, ltb}
@@ -13,14 +14,17 @@ use Rattle.tokens.specs.Calls.{textLimit, noEdition}
 use Rattle.tokens.specs.declared.Refusal.{Refusal}
 use Rattle.tokens.proofs.RefusalSets.{subset, among-subset}
 use Rattle.records.specs.Tree.{Tree}
-use Rattle.records.specs.Stored.{stored, unspelled, Short, Kinds}
-use Rattle.records.proofs.Injective.{stored-injective}
-use Rattle.records.proofs.Short.{short-tree}
+use Rattle.records.specs.Stored.{unspelled, records, Kinds}
 use Rattle.sources.specs.Source.{opened, Token, Scanned, tok, bad, lex}
 use Rattle.answers.specs.Reading.{Ans, ok, no, look}
 use Rattle.answers.proofs.Sure.{when-sure}
 use Rattle.grammar.specs.Items.{Item, item, refused, readKind, followed, finished, readItem}
-use Rattle.grammar.proofs.Held.{Held, item-held}
+use Rattle.grammar.proofs.Held.{HeldItem, Held, item-held}
+use Rattle.forms.specs.Forms.{FormNarrow, FormWide, headSize, width, written, formOf, treeRoom, Fitting}
+use Rattle.forms.proofs.Constructs.{written-stored}
+use Rattle.forms.proofs.Sizes.{recorded-size, narrow-size, wide-size}
+use Rattle.forms.proofs.Injective.{fitting-tree, written-injective}
+use Rattle.forms.proofs.Apart.{form-narrow, form-cases, form-stored, same-form}
 use Rattle.frames.proofs.Checked.{textRefusals, TokenMet, token-met, Checked, checked-reader}
 use Rattle.frames.proofs.Readers.{kind-obeys}
 
@@ -65,16 +69,41 @@ item-told kind ed text at =
 pub item-refusals : (kind ed : ℕ) (text : List ℕ) (at : ℕ) (r : Refusal) → readItem kind ed text at ≡ refused r → among readRefusals (r .number) ≡ true
 item-refusals kind ed text at r e = subst (Told text) e (item-told kind ed text at)
 
--- of an accepted one whose stored tree fits the limit, each number has two bytes
-pub item-short : (kind ed : ℕ) (text : List ℕ) (at : ℕ) (x : Tree) (t : Token) → readItem kind ed text at ≡ item x t → length (stored x) < 65536 → Short x
-item-short kind ed text at x t e f =
-    let h = subst (Held text at) e (item-held text at kind ed) in
-    let g = subst (Told text) e (item-told kind ed text at) in
-    short-tree x (g .0) (h .nested) (omega (arith, h .follows, h .within, g .1)) f
+module _ (kind ed : ℕ) (text : List ℕ) (at : ℕ) (x : Tree) (t : Token) (e : readItem kind ed text at ≡ item x t) where
+  held : HeldItem text at x t
+  held = subst (Held text at) e (item-held text at kind ed)
 
--- items of any texts, offsets, kinds and editions that are stored as the same bytes have the same records
+  told : Kinds x × (length text ≤ textLimit)
+  told = subst (Told text) e (item-told kind ed text at)
+
+  -- an accepted one has at most three records for each byte of the text, so that `treeRoom` bytes have room for its tree
+  pub item-records : records x ≤ 3 * length text
+  item-records = omega (arith, narrow-size x, held .small, held .follows, held .within)
+
+  pub item-room : length (written (formOf text x) x) ≤ treeRoom (length text)
+  item-room =
+      form-cases text x (λ (f : ℕ). length (written f x) ≤ treeRoom (length text)) (λ _. omega (arith, ap length (written-stored x), narrow-size x, item-records))
+      (λ _. omega (arith, wide-size x, item-records))
+
+  -- each number of its records fits four bytes, and fits its bytes in the form that is written
+  pub item-wide : Fitting FormWide x
+  unfolding width headSize
+  item-wide = fitting-tree FormWide x (told .0) (held .nested) (omega (arith, held .follows, held .within, told .1)) (omega (arith, recorded-size FormWide x, item-records, told .1))
+
+  pub item-fitting : Fitting (formOf text x) x
+  unfolding width headSize
+  item-fitting = form-cases text x (λ (f : ℕ). Fitting f x) narrow (λ _. item-wide)
+    where
+      narrow : formOf text x ≡ FormNarrow → Fitting FormNarrow x
+      narrow f =
+          let g = form-narrow text x .0 f in
+          fitting-tree FormNarrow x (told .0) (held .nested) (omega (arith, held .follows, held .within, g .0)) (omega (arith, recorded-size FormNarrow x, g .1))
+
+-- items of any texts, offsets, kinds and editions that are written as the same bytes have the same form and the same records
 pub item-faithful : (kind kind₂ ed ed₂ : ℕ) (text text₂ : List ℕ) (at at₂ : ℕ) (x x₂ : Tree) (t t₂ : Token) → readItem kind ed text at ≡ item x t → readItem kind₂ ed₂ text₂ at₂ ≡ item x₂ t₂
-    → length (stored x) < 65536 → stored x ≡ stored x₂ → unspelled x ≡ unspelled x₂
-item-faithful kind kind₂ ed ed₂ text text₂ at at₂ x x₂ t t₂ e e₂ f p =
-    let n : length (stored x) ≡ length (stored x₂) = ap length p in
-    stored-injective x x₂ (item-short kind ed text at x t e f) (item-short kind₂ ed₂ text₂ at₂ x₂ t₂ e₂ (omega (arith, n, f))) p
+    → written (formOf text x) x ≡ written (formOf text₂ x₂) x₂ → (formOf text x ≡ formOf text₂ x₂) × (unspelled x ≡ unspelled x₂)
+item-faithful kind kind₂ ed ed₂ text text₂ at at₂ x x₂ t t₂ e e₂ p =
+    let q = same-form text text₂ x x₂ p in
+    let f : ℕ = formOf text x in
+    let fits : Fitting f x₂ = subst (λ (g : ℕ). Fitting g x₂) (sym q) (item-fitting kind₂ ed₂ text₂ at₂ x₂ t₂ e₂) in
+    (q, written-injective f (form-stored text x) x x₂ (item-fitting kind ed text at x t e) fits (p ∙ ap (λ (g : ℕ). written g x₂) (sym q)))

@@ -1,7 +1,6 @@
+pub mod Numbers
 pub mod Pieces
 pub mod Sizes
-pub mod Injective
-pub mod Short
 pub mod Nesting
 pub mod Runs
 pub mod Children

@@ -8,7 +8,7 @@ use lib.ListN.{length, set, length-append}
 use lib.Seq.{sets}
 use Rattle.buffer.proofs.Sets.{sets-append}
 use Rattle.records.specs.Tree.{Tree, node, none, more}
-use Rattle.records.specs.Stored.{two, span, header, stored, storedAll}
+use Rattle.records.specs.Stored.{two, span, header, stored, storedAll, number, headOf}
 
 pub two-pieces : (l m n : List ℕ) (i v : ℕ) → m ≡ set l i (v % 256) → n ≡ set m (i + 1) (v / 256 % 256) → n ≡ sets l i (two v)
 unfolding two
@@ -17,23 +17,35 @@ two-pieces l m n i v e f = rw (f, e, add-one i)
 pub both : (l m n xs ys : List ℕ) (i : ℕ) → m ≡ sets l i xs → n ≡ sets m (i + length xs) ys → n ≡ sets l i (xs ++ ys)
 both l m n xs ys i e f = f ∙ rw e (sym (sets-append xs ys l i))
 
-two-long : (v : ℕ) → length (two v) ≡ 2
-unfolding two
-two-long v = refl
-
-pub span-pieces : (l m n : List ℕ) (i s e : ℕ) → m ≡ sets l i (two s) → n ≡ sets m (i + 2) (two e) → n ≡ sets l i (span s e)
-unfolding span
-span-pieces l m n i s e f g = both l m n (two s) (two e) i f (rw (two-long s) g)
-
 pub header-long : (len k s e : ℕ) → length (header len k s e) ≡ 8
 unfolding header span two
 header-long len k s e = refl
 
-pub header-pieces : (l m n o : List ℕ) (i len k s e : ℕ) → m ≡ sets l i (two len) → n ≡ sets m (i + 2) (two k) → o ≡ sets n (i + 4) (span s e) → o ≡ sets l i (header len k s e)
-unfolding header
-header-pieces l m n o i len k s e f g h =
-    let q : i + 2 + 2 ≡ i + 4 = omega arith in
-    both l m o (two len) (two k ++ span s e) i f (rw (two-long len) (both m n o (two k) (span s e) (i + 2) g (rw (two-long k, q) h)))
+pub header-pieces : (l m n o q : List ℕ) (i len k s e : ℕ) → m ≡ sets l i (two len) → n ≡ sets m (i + 2) (two k) → o ≡ sets n (i + 4) (two s) → q ≡ sets o (i + 6) (two e) → q ≡ sets l i (header len k s e)
+unfolding header span two
+header-pieces l m n o q i len k s e f g h j =
+    let a : i + 2 + 2 ≡ i + 4 = omega arith in
+    let b : i + 4 + 2 ≡ i + 6 = omega arith in
+    both l m q (two len) (two k ++ (two s ++ two e)) i f
+    (both m n q (two k) (two s ++ two e) (i + 2) g
+    (rw a (both n o q (two s) (two e) (i + 4) h (rw b j))))
+
+-- a number in four bytes, and the head of a wide record
+pub four-pieces : (l m n : List ℕ) (i v : ℕ) → m ≡ sets l i (two v) → n ≡ sets m (i + 2) (two (v / 65536)) → n ≡ sets l i (number 4 v)
+unfolding number two
+four-pieces l m n i v f g =
+    let z : v / 65536 ≡ v / 256 / 256 = omega arith in
+    both l m n (two v) (two (v / 256 / 256)) i f (rw z at g)
+
+pub wide-pieces : (l m n o q : List ℕ) (i len k s e : ℕ) → m ≡ sets l i (number 4 len) → n ≡ sets m (i + 4) (two k) → o ≡ sets n (i + 6) (number 4 s) → q ≡ sets o (i + 10) (number 4 e)
+    → q ≡ sets l i (headOf 4 len k s e)
+unfolding headOf number two
+wide-pieces l m n o q i len k s e f g h j =
+    let a : i + 4 + 2 ≡ i + 6 = omega arith in
+    let b : i + 6 + 4 ≡ i + 10 = omega arith in
+    both l m q (number 4 len) (number 2 k ++ (number 4 s ++ number 4 e)) i f
+    (both m n q (number 2 k) (number 4 s ++ number 4 e) (i + 4) g
+    (rw a (both n o q (number 4 s) (number 4 e) (i + 6) h (rw b j))))
 
 -- a record of two children, written piece by piece
 pub node-pieces : (l m n o : List ℕ) (i len k s e : ℕ) (x y : Tree) → len ≡ length (stored x) + length (stored y) + 8 → m ≡ sets l i (header len k s e) → n ≡ sets m (i + 8) (stored x)

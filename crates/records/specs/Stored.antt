@@ -1,8 +1,9 @@
--- The stored form of a tree: length, kind, start and end of each record in two bytes each, the low one first, then its children.
-use Prim.Native.Nat.{ℕ, _+_, _/_, _%_, _<_}
+-- The narrow stored form of a tree: length, kind, start and end of each record in two bytes each, the low one first, then its children.
+-- The head of a record with numbers of any width; and how many records a tree has.
+use Prim.Native.Nat.{ℕ, zero, suc, _+_, _/_, _%_, _<_}
 use mathlib.Core.List.{List, [], _∷_, _++_}
 use lib.ListN.{length}
-use Rattle.records.specs.Tree.{Tree, leaf, node, Trees, none, more, Build, spelled, made, Builds, bnone, bmore}
+use Rattle.records.specs.Tree.{Tree, leaf, node, Trees, none, more, Build, spelled, made, Builds, bnone, bmore, build}
 
 unfoldable pub two : ℕ → List ℕ
 two v = v % 256 ∷ v / 256 % 256 ∷ []
@@ -23,15 +24,27 @@ unfoldable mutual
   storedAll none = []
   storedAll (more t ts) = stored t ++ storedAll ts
 
--- the length of the stored form, by the build alone
-unfoldable mutual
-  pub size : Build → ℕ
-  size (spelled k w) = 8
-  size (made k bs) = sizes bs + 8
+-- v in w bytes, the low one first
+unfoldable pub number : ℕ → ℕ → List ℕ
+number zero v = []
+number (suc w) v = v % 256 ∷ number w (v / 256)
 
-  pub sizes : Builds → ℕ
-  sizes bnone = 0
-  sizes (bmore b bs) = size b + sizes bs
+-- the head of a record that has `len` bytes with its children: the kind in two bytes, the other numbers in w
+unfoldable pub headOf : ℕ → ℕ → ℕ → ℕ → ℕ → List ℕ
+headOf w len k s e = number w len ++ (number 2 k ++ (number w s ++ number w e))
+
+-- how many records a tree has: its build tells
+unfoldable mutual
+  pub counted : Build → ℕ
+  counted (spelled k w) = 1
+  counted (made k bs) = suc (countedAll bs)
+
+  pub countedAll : Builds → ℕ
+  countedAll bnone = 0
+  countedAll (bmore b bs) = counted b + countedAll bs
+
+unfoldable pub records : Tree → ℕ
+records t = counted (build t)
 
 -- a tree as its records show it: without words, and a leaf is a record without children
 unfoldable mutual
@@ -42,16 +55,6 @@ unfoldable mutual
   pub unspelledAll : Trees → Trees
   unspelledAll none = none
   unspelledAll (more t ts) = more (unspelled t) (unspelledAll ts)
-
--- each number of a tree's records has two bytes
-unfoldable mutual
-  pub Short : Tree → Type 0
-  Short (leaf k s e w) = (k < 65536) × (s < 65536) × (e < 65536)
-  Short (node k s e ts) = (k < 65536) × (s < 65536) × (e < 65536) × (length (storedAll ts) + 8 < 65536) × ShortAll ts
-
-  pub ShortAll : Trees → Type 0
-  ShortAll none = Unit {0}
-  ShortAll (more t ts) = Short t × ShortAll ts
 
 -- each kind of a tree's records has two bytes
 unfoldable mutual

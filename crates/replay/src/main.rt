@@ -6,10 +6,18 @@
 //   the room lent, the result, the six numbers, the text and the bytes that must be written: the tree or the
 //   display line.
 // Texts and bytes are in hexadecimal, `-` for none.
+ghost use mathlib.Core.Path.{_≡_};
 ghost use Prim.Native.Nat.{_≤_, _<_};
 ghost use lib.ListN.{length};
 use libc::STDIN_FILENO;
 use libc::STDOUT_FILENO;
+
+// The room for a line's text. Most need little of it, one wide tree's text has 65,537 bytes.
+const TEXT_ROOM: usize = 65600;
+
+// The room for the bytes that a call must write, and for those that it writes: one wide tree has 114,692.
+// Every line gets the whole of both rooms, which is simplest: the whole sample takes some 2 seconds.
+const TREE_ROOM: usize = 114720;
 
 // A number, and where the next field starts.
 struct Field {
@@ -192,9 +200,9 @@ fn item_holds(line: &[u8]) -> bool
     if e == line.len() {
         return false;
     }
-    let mut text = [0u8; 512];
+    let mut text = [0u8; TEXT_ROOM];
     let n = decode(line, due.next, e, &mut text);
-    let mut bytes = [0u8; 2048];
+    let mut bytes = [0u8; TREE_ROOM];
     let m = decode(line, e + 1, line.len(), &mut bytes);
     item_answers(
         line[0],
@@ -219,10 +227,10 @@ fn item_answers(
     due: Expected,
     bytes: &[u8],
 ) -> bool {
-    if 2048 < room {
+    if TREE_ROOM < room {
         return false;
     }
-    let mut out = [0u8; 2048];
+    let mut out = [0u8; TREE_ROOM];
     fill(&mut out);
     let mut answer = [77u64; 6];
     let r = item_result(call, kind, edition, text, at, &mut out[..room], &mut answer);
@@ -322,8 +330,16 @@ fn replayed(sample: &[u8]) -> Tally {
     }
 }
 
+// Zeros, for the whole sample and some more. The `ensures` gives only the length, which lending the
+// array as a slice needs: the prover has too little stack to count so many zeros one by one.
+fn sample_buffer() -> [u8; 983040]
+    ensures { λ r. ⌜ 983040 ≡ length r ⌝ }
+{
+    [0; 983040]
+}
+
 fn main() {
-    let mut sample = [0u8; 589824];
+    let mut sample = sample_buffer();
     let n = io::read_full(STDIN_FILENO, &mut sample);
     let t = replayed(&sample[..n]);
     io::print_decimal(STDOUT_FILENO, t.lines);

@@ -4,7 +4,7 @@ use mathlib.Core.Bool.{Bool, true, false}
 use mathlib.Core.List.{List, []}
 use mathlib.Core.Logic.{_↔_}
 use mathlib.Core.Option.{Option, some, none as clean}
-use Prim.Native.Nat.{ℕ, _+_, _-_, _<_, _≤_}
+use Prim.Native.Nat.{ℕ, _+_, _-_, min}
 use native.Mathlib.Omega.{arith}
 use borrow.Author.Tests.{ltb-true, ltb-false}
 use lib.Dec.{ltb}
@@ -18,17 +18,16 @@ use Rattle.tokens.specs.Refusals.{LineSpoiled, among}
 use Rattle.tokens.specs.Answers.{refusal}
 use Rattle.tokens.specs.declared.Refusal.{Refusal}
 use Rattle.records.specs.Tree.{Tree}
-use Rattle.sources.specs.Source.{Source, opened, Token}
+use Rattle.sources.specs.Source.{opened, Token}
 use Rattle.answers.specs.Reading.{Ans, when}
 use Rattle.grammar.specs.Items.{Item, item, refused, readItem}
 use Rattle.forms.specs.Line.{shown}
-use Rattle.forms.specs.Forms.{FormStored, FormLine, laid}
+use Rattle.forms.specs.Forms.{FormLine, front, laid, written, formOf}
 use Rattle.forms.specs.Spoiled.{spoiled}
-use Rattle.forms.proofs.Constructs.{laid-line}
 use Rattle.forms.proofs.Spoils.{line-shows, words-clean, build-spoiled}
 use Rattle.frames.proofs.Faithful.{readRefusals, item-refusals}
 use Rattle.frames.proofs.Words.{item-readable, clean-words, shown-words}
-use Rattle.calls.specs.Calls.{tooLong, roomed, written, unlessSpoiled, unspoiled, read, display, displayBuffer}
+use Rattle.calls.specs.Calls.{lineLimit, roomed, filled, unlessSpoiled, unspoiled, read, asLine, display, displayBuffer}
 use Rattle.calls.proofs.Room.{roomed-fits}
 use Rattle.roundtrip.proofs.Tokens.{own}
 use Rattle.roundtrip.proofs.Answers.{Gives, gives}
@@ -62,26 +61,26 @@ item-shows kind ed text at t n e c = line-shows t (clean-words t (item-readable 
 pub clean-line : (kind ed : ℕ) (text : List ℕ) (at room : ℕ) (t : Tree) (n : Token) → display kind ed text at room ≡ item t n → allOf shows (shown t) ≡ true
 unfolding display
 clean-line kind ed text at room t n e =
-    let d = unspoiled-item (readItem kind ed text at) t n (roomed-fits FormLine room (unspoiled (readItem kind ed text at)) t n e .0) in
+    let d = unspoiled-item (readItem kind ed text at) t n (roomed-fits asLine (min room lineLimit) (unspoiled (readItem kind ed text at)) t n e .0) in
     item-shows kind ed text at t n (d .0) (d .1)
 
 -- so are all bytes that a display changes
 pub clean-buffer : (kind ed : ℕ) (text : List ℕ) (at : ℕ) (out : List ℕ) (k : ℕ) → (getD (displayBuffer kind ed text at out) k 0 ≡ getD out k 0 → ⊥) → shows (getD (displayBuffer kind ed text at out) k 0) ≡ true
-unfolding displayBuffer written laid
+unfolding displayBuffer filled written front laid
 clean-buffer kind ed text at out k h = go (display kind ed text at (length out)) refl h
   where
-    go : (i : Item) → display kind ed text at (length out) ≡ i → (getD (written FormLine i out) k 0 ≡ getD out k 0 → ⊥) → shows (getD (written FormLine i out) k 0) ≡ true
+    go : (i : Item) → display kind ed text at (length out) ≡ i → (getD (filled asLine i out) k 0 ≡ getD out k 0 → ⊥) → shows (getD (filled asLine i out) k 0) ≡ true
     go (refused r) e g = absurd (g refl)
     go (item t n) e g = at-byte (ltb k (length (shown t))) refl
       where
-        at-byte : (b : Bool) → ltb k (length (shown t)) ≡ b → shows (getD (written FormLine (item t n) out) k 0) ≡ true
+        at-byte : (b : Bool) → ltb k (length (shown t)) ≡ b → shows (getD (filled asLine (item t n) out) k 0) ≡ true
         at-byte true l =
             let m = ltb-true k (length (shown t)) l in
             rw (List·getD-append (shown t) (drop (length (shown t)) out) 0 k m) (all-at shows (shown t) k (clean-line kind ed text at (length out) t n e) m)
         at-byte false l =
             let m = ltb-false k (length (shown t)) l in
             let z : length (shown t) + (k - length (shown t)) ≡ k = omega arith in
-            absurd (g (ap (λ (j : ℕ). getD (written FormLine (item t n) out) j 0) (sym z) ∙ getD-append-add (shown t) (drop (length (shown t)) out) (k - length (shown t)) 0 ∙ getD-drop (length (shown t)) out (k - length (shown t)) 0 ∙ ap (λ (j : ℕ). getD out j 0) z))
+            absurd (g (ap (λ (j : ℕ). getD (filled asLine (item t n) out) j 0) (sym z) ∙ getD-append-add (shown t) (drop (length (shown t)) out) (k - length (shown t)) 0 ∙ getD-drop (length (shown t)) out (k - length (shown t)) 0 ∙ ap (λ (j : ℕ). getD out j 0) z))
 
 -- of all that a read gives, what is clean and nothing else has a line of such bytes: 18 refuses no line that could be shown
 shows-again : (kind ed : ℕ) (t : Tree) (a : Ans Tree) → reading ed kind (shown t) ≡ a → Gives (own ed) (Same t) [] a → allOf shows (shown t) ≡ true → spoiled t ≡ clean
@@ -92,7 +91,7 @@ exactly kind ed text at t n e = (item-shows kind ed text at t n e, shows-again k
 
 pub read-exactly : (kind ed : ℕ) (text : List ℕ) (at room : ℕ) (t : Tree) (n : Token) → read kind ed text at room ≡ item t n → (spoiled t ≡ clean) ↔ (allOf shows (shown t) ≡ true)
 unfolding read
-read-exactly kind ed text at room t n e = exactly kind ed text at t n (roomed-fits FormStored room (readItem kind ed text at) t n e .0)
+read-exactly kind ed text at room t n e = exactly kind ed text at t n (roomed-fits (formOf text) room (readItem kind ed text at) t n e .0)
 
 -- what a display that is refused with 18 at b tells: its read is accepted, room set aside, and b is the first byte of a string of it that
 -- is under 32 or 127
@@ -121,13 +120,13 @@ module _ (kind ed : ℕ) (text : List ℕ) (at room : ℕ) where
       room-only true t n h = let z : _≡_ {A = ℕ} 4 18 = ap (λ (r : Refusal). r .number) (same-refusal (refusal 4 0 0) (d .0) h) ∙ d .2 in absurd (omega arith)
       room-only false t n h = absurd (subst IsItem h tt)
 
-      of-item : (t : Tree) (n : Token) → readItem kind ed text at ≡ item t n → (o : Option ℕ) → spoiled t ≡ o → roomed FormLine room (unlessSpoiled o (item t n)) ≡ refused (d .0) → SpoiledAt kind ed text at b
-      of-item t n e clean c h = room-only (tooLong FormLine room (length (laid FormLine t))) t n h
+      of-item : (t : Tree) (n : Token) → readItem kind ed text at ≡ item t n → (o : Option ℕ) → spoiled t ≡ o → roomed asLine (min room lineLimit) (unlessSpoiled o (item t n)) ≡ refused (d .0) → SpoiledAt kind ed text at b
+      of-item t n e clean c h = room-only (ltb (min room lineLimit) (length (written FormLine t))) t n h
       of-item t n e (some p) c h =
           let z : p ≡ b = ap (λ (r : Refusal). r .place .start) (same-refusal (refusal LineSpoiled p (p + 1)) (d .0) h) ∙ d .3 in
           record { tree = t; next = n; isItem = e; isSpoiled = c ∙ ap some z }
 
-      go : (i : Item) → readItem kind ed text at ≡ i → roomed FormLine room (unspoiled i) ≡ refused (d .0) → SpoiledAt kind ed text at b
+      go : (i : Item) → readItem kind ed text at ≡ i → roomed asLine (min room lineLimit) (unspoiled i) ≡ refused (d .0) → SpoiledAt kind ed text at b
       go (item t n) e h = of-item t n e (spoiled t) refl h
       go (refused q) e h =
           let z : q .number ≡ 18 = ap (λ (r : Refusal). r .number) (same-refusal q (d .0) h) ∙ d .2 in
@@ -136,7 +135,7 @@ module _ (kind ed : ℕ) (text : List ℕ) (at room : ℕ) where
   -- its places are (b,b+1) twice
   pub spoiled-places : (b : ℕ) → SpoiledAt kind ed text at b → display kind ed text at room ≡ refused (refusal LineSpoiled b (b + 1))
   unfolding display unspoiled unlessSpoiled roomed
-  spoiled-places b d = ap (λ (i : Item). roomed FormLine room (unspoiled i)) (d .isItem) ∙ ap (λ (o : Option ℕ). roomed FormLine room (unlessSpoiled o (item (d .tree) (d .next)))) (d .isSpoiled)
+  spoiled-places b d = ap (λ (i : Item). roomed asLine (min room lineLimit) (unspoiled i)) (d .isItem) ∙ ap (λ (o : Option ℕ). roomed asLine (min room lineLimit) (unlessSpoiled o (item (d .tree) (d .next)))) (d .isSpoiled)
 
   -- a display is refused with 18 at b exactly where this holds
   pub spoiled-exactly : (b : ℕ) → Refused b ↔ SpoiledAt kind ed text at b

@@ -15,7 +15,7 @@ use Rattle.tokens.specs.Token.{typed, digitsLen, moreDigits, moreHex, decimalLe
 use Rattle.tokens.specs.Answers.{tokenNumber, tokenValues}
 use Rattle.tokens.specs.Calls.{admitted, lexed, nextToken, lineFeedBefore, advanced, admittedIn, tokenCall}
 use Rattle.records.specs.Tree.{build, builds, behind, joined}
-use Rattle.records.specs.Stored.{two, span, header}
+use Rattle.records.specs.Stored.{number as inBytes, headOf, counted, countedAll, records}
 use Rattle.sources.specs.Source.{scanned, lex}
 use Rattle.answers.specs.Reading.{then, look, when, closed, list, listBehind}
 use Rattle.grammar.specs.Names.{lastPart, thirdPart, secondPart, chain}
@@ -24,9 +24,9 @@ use Rattle.grammar.specs.Types.{bracketed, brackets, reference, function, withA
 use Rattle.grammar.specs.Binds.{fields, structOver, unpacked, bindOver, fieldOver, readField, readBind, readBindList, readLambdaList}
 use Rattle.grammar.specs.Items.{readKind, followed, finished, readItem}
 use Rattle.forms.specs.Line.{plain, others, commas, bars, angles, inBrackets, braces, first, later, initial, final, select, isField, isType, shape, kindOfBuild, line as lineOf, pieces, shown}
-use Rattle.forms.specs.Forms.{head, recorded, recordedAll, laid}
+use Rattle.forms.specs.Forms.{front, headSize, width, head, recorded, recordedAll, laid, written, formOf}
 use Rattle.forms.specs.Spoiled.{spoils, spoiledWord, firstOf, spoiled, spoiledAll}
-use Rattle.calls.specs.Calls.{limitOf, roomed, written, unlessSpoiled, unspoiled, answeredIn, read as readCall, readBuffer, answered, readNumber, readValues, display as displayCall, displayBuffer, displayed, displayNumber, displayValues}
+use Rattle.calls.specs.Calls.{roomed, filled, unlessSpoiled, unspoiled, answeredIn, read as readCall, readBuffer, answered, readNumber, readValues, display as displayCall, displayBuffer, displayed, displayNumber, displayValues}
 use Rattle.roundtrip.specs.Examples.{expected, given, examples}
 
 -- the definitions by which a gap and a word are found; a token; its answer; an item; its bytes and answer; and what spoils a line
@@ -47,7 +47,7 @@ unfolding then look when closed list listBehind lastPart thirdPart secondPart ch
 reading = tt
 
 unfoldable calling : Unit {0}
-unfolding build builds two span header plain others commas bars angles inBrackets braces first later initial final select isField isType shape kindOfBuild lineOf pieces shown head recorded recordedAll laid limitOf roomed written answeredIn readCall readBuffer answered readNumber readValues displayCall displayBuffer displayed displayNumber displayValues
+unfolding build builds inBytes headOf counted countedAll records plain others commas bars angles inBrackets braces first later initial final select isField isType shape kindOfBuild lineOf pieces shown front headSize width head recorded recordedAll laid written formOf roomed filled answeredIn readCall readBuffer answered readNumber readValues displayCall displayBuffer displayed displayNumber displayValues
 calling = tt
 
 unfoldable spoiling : Unit {0}

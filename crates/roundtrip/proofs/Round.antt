@@ -13,8 +13,7 @@ use Rattle.classes.proofs.Bools.{or-left, or-right}
 use Rattle.words.specs.Kinds.{EOF}
 use Rattle.tokens.specs.Calls.{textLimit, noEdition}
 use Rattle.records.specs.Tree.{Tree, build}
-use Rattle.records.specs.Stored.{stored, size}
-use Rattle.records.proofs.Sizes.{stored-size}
+use Rattle.records.specs.Stored.{counted, records}
 use Rattle.sources.specs.Source.{Source, opened, Token, start, Scanned, tok, bad, lex, tokenOf}
 use Rattle.sources.proofs.Standing.{Sound, lex-sound}
 use Rattle.answers.specs.Reading.{Ans, ok, no, look, when, Reader}
@@ -136,16 +135,17 @@ eof-met es u e = go (lex u) (lex-sound u) (eof es u [] (at-once e) refl)
         rw (i .kind, x, y)
         )
 
--- lines and stored lengths go by the build
+-- lines and how many records there are go by the build
 same-shown : (x y : Tree) → build x ≡ build y → shown x ≡ shown y
 unfolding shown
 same-shown x y e = ap line e
 
-same-size : (x y : Tree) → build x ≡ build y → length (stored x) ≡ length (stored y)
-same-size x y e = stored-size x ∙ ap size e ∙ sym (stored-size y)
+same-records : (x y : Tree) → build x ≡ build y → records x ≡ records y
+unfolding records
+same-records x y e = ap counted e
 
 -- the line of x, read back from 0 as that kind in an edition: accepted to its last byte, since EOF at (n,n) follows, with the same
--- build, the same line, and as many bytes of records
+-- build, the same line, and as many records
 pub record Again (kind ed : ℕ) (x : Tree) : Type 0 where
   pub tree : Tree
   pub next : Token
@@ -153,7 +153,7 @@ pub record Again (kind ed : ℕ) (x : Tree) : Type 0 where
   pub atEnd : tokenOf next ≡ eofAt (length (shown x))
   pub sameBuild : build tree ≡ build x
   pub sameLine : shown tree ≡ shown x
-  pub sameSize : length (stored tree) ≡ length (stored x)
+  pub sameRecords : records tree ≡ records x
 
 -- an item that is not refused by its limits is what was read
 whole : (kind ed : ℕ) (text : List ℕ) → length text ≤ textLimit → noKind kind ≡ false → noEdition ed ≡ false → readItem kind ed text 0 ≡ finished (reading ed kind text)
@@ -165,7 +165,7 @@ unfolding finished followed
 again-from es kind ed x a h s (gives y u e g) = go (lex u) h (subst (λ (n : ℕ). Met (λ (t : Token). tokenOf t ≡ eofAt n) (lex u)) (omega (arith, s, ap length (g .1))) (eof-met es u g))
   where
     go : (l : Scanned) → readItem kind ed (shown x) 0 ≡ followed y l → Met (λ (t : Token). tokenOf t ≡ eofAt (length (shown x))) l → Again kind ed x
-    go (tok t) h (met i) = record { tree = y; next = t; isItem = h; atEnd = i; sameBuild = e; sameLine = same-shown y x e; sameSize = same-size y x e }
+    go (tok t) h (met i) = record { tree = y; next = t; isItem = h; atEnd = i; sameBuild = e; sameLine = same-shown y x e; sameRecords = same-records y x e }
 
 -- in the item's own edition
 pub again : (kind ed : ℕ) (text : List ℕ) (at : ℕ) (x : Tree) (n : Token) → readItem kind ed text at ≡ item x n → length (shown x) ≤ textLimit → Again kind ed x

@@ -1,15 +1,15 @@
 -- The words of demand 3 (docs/PROMISES.md), over the definitions that the contracts of the read and the display call cite.
 use mathlib.Core.Path.{_≡_}
 use mathlib.Core.List.{List, [], _∷_, _++_}
-use Prim.Native.Nat.{ℕ}
+use Prim.Native.Nat.{ℕ, _≤_}
 use lib.ListN.{length, take, drop, getD}
 use Rattle.words.specs.Kinds.{EOF}
 use Rattle.tokens.specs.Answers.{token}
 use Rattle.tokens.specs.declared.Token.{Token as Answer}
 use Rattle.records.specs.Tree.{Tree, build}
-use Rattle.records.specs.Stored.{stored}
 use Rattle.sources.specs.Source.{Token, tokenOf}
 use Rattle.grammar.specs.Items.{Item, item, refused}
+use Rattle.forms.specs.Forms.{written, formOf}
 use Rattle.calls.specs.Calls.{read, readBuffer, answered, readNumber, readValues, display, displayBuffer, displayed, displayNumber, displayValues}
 
 -- an item is a text, a start offset, an item kind and an edition; with it come the buffers lent to its read and to its display
@@ -41,7 +41,7 @@ pub record Accepted (i : Lent) (t : Tree) (n : Token) : Type 0 where
 
 -- the stored length that its read answers, and the line's length that its display answers
 abbrev pub treeLength : Lent → ℕ
-treeLength i = getD (readValues (answered (readOf i))) 0 0
+treeLength i = getD (readValues (answered (i .text) (readOf i))) 0 0
 
 abbrev pub lineLength : Lent → ℕ
 lineLength i = getD (displayValues (displayed (displayOf i))) 0 0
@@ -60,22 +60,25 @@ abbrev pub eofAt : ℕ → Answer
 eofAt n = token EOF n n
 
 -- the line of i, whose tree is t, is read back as j: accepted to its last byte, since the token that follows is EOF at (n,n), n being the
--- line's length; with the same build and the same line, the tree's records in front of the buffer, and with as much room taken by both
+-- line's length; with the same build and the same line, the tree in its form in front of the buffer, no more room taken by the tree, and as
+-- much by the line
 pub record ReadBack (i : Lent) (t : Tree) (j : Lent) : Type 0 where
   pub tree : Tree
   pub next : Token
   pub accepted : Accepted j tree next
   pub atEnd : tokenOf next ≡ eofAt (length (lineOf i))
   pub sameBuild : build tree ≡ build t
-  pub treeWritten : readBuffer (j .kind) (j .edition) (j .text) (j .at) (j .forTree) ≡ stored tree ++ drop (treeLength i) (j .forTree)
+  pub treeWritten : readBuffer (j .kind) (j .edition) (j .text) (j .at) (j .forTree) ≡ written (formOf (j .text) tree) tree ++ drop (treeLength j) (j .forTree)
   pub sameLine : lineOf j ≡ lineOf i
-  pub sameTreeLength : treeLength j ≡ treeLength i
+  pub noLongerTree : treeLength j ≤ treeLength i
   pub sameLineLength : lineLength j ≡ lineLength i
 
--- the same as the calls answer it: numbers 0, the lengths of i, EOF at (n,n), and the line in front of the buffer, whose other bytes stay
+-- the same as the calls answer it: numbers 0, a tree's length that is at most that of i, the line's length of i, EOF at (n,n), and the line
+-- in front of the buffer, whose other bytes stay
 pub record AnsweredBack (i j : Lent) : Type 0 where
-  pub readNumberIs : readNumber (answered (readOf j)) ≡ 0
-  pub readValuesAre : readValues (answered (readOf j)) ≡ treeLength i ∷ EOF ∷ lineLength i ∷ lineLength i ∷ 0 ∷ 0 ∷ []
+  pub readNumberIs : readNumber (answered (j .text) (readOf j)) ≡ 0
+  pub readValuesAre : readValues (answered (j .text) (readOf j)) ≡ treeLength j ∷ EOF ∷ lineLength i ∷ lineLength i ∷ 0 ∷ 0 ∷ []
+  pub noLongerTree : treeLength j ≤ treeLength i
   pub displayNumberIs : displayNumber (displayed (displayOf j)) ≡ 0
   pub displayValuesAre : displayValues (displayed (displayOf j)) ≡ lineLength i ∷ 0 ∷ 0 ∷ 0 ∷ 0 ∷ 0 ∷ []
   pub displayWrites : displayBuffer (j .kind) (j .edition) (j .text) (j .at) (j .forLine) ≡ lineOf i ++ drop (lineLength i) (j .forLine)

@@ -7,7 +7,8 @@ use lib.ListN.{length}
 use Rattle.classes.specs.Bytes.{bytes}
 use Rattle.tokens.specs.Answers.{tokenNumber, tokenValues}
 use Rattle.tokens.specs.Calls.{tokenCall}
-use Rattle.calls.specs.Calls.{treeLimit, read as readCall, readBuffer, answered, readNumber, readValues, display as displayCall, displayBuffer, displayed, displayNumber, displayValues}
+use Rattle.forms.specs.Forms.{treeRoom}
+use Rattle.calls.specs.Calls.{read as readCall, readBuffer, answered, readNumber, readValues, display as displayCall, displayBuffer, displayed, displayNumber, displayValues}
 
 -- by name and text: the token call's number and values; the read call's, for an item kind, with room for every answer; the bytes that a
 -- read, for an item kind, writes into a buffer of just their length, the tree; those that a display writes, the line; and a display's
@@ -33,8 +34,8 @@ expected (noLine p k t m n v) = record { number = n; values = v }
 
 unfoldable pub given : Example → Result
 given (token p t n v) = record { number = tokenNumber (tokenCall 1 t 0 .lexed); values = tokenValues (tokenCall 1 t 0 .lexed) (tokenCall 1 t 0 .feed) }
-given (read p k t n v) = record { number = readNumber (answered (readCall k 1 t 0 treeLimit)); values = readValues (answered (readCall k 1 t 0 treeLimit)) }
-given (tree p k t v) = record { number = readNumber (answered (readCall k 1 t 0 (length v))); values = readBuffer k 1 t 0 (map (λ b. 255) v) }
+given (read p k t n v) = record { number = readNumber (answered t (readCall k 1 t 0 (treeRoom (length t)))); values = readValues (answered t (readCall k 1 t 0 (treeRoom (length t)))) }
+given (tree p k t v) = record { number = readNumber (answered t (readCall k 1 t 0 (length v))); values = readBuffer k 1 t 0 (map (λ b. 255) v) }
 given (line p k t v) = record { number = displayNumber (displayed (displayCall k 1 t 0 (length v))); values = displayBuffer k 1 t 0 (map (λ b. 255) v) }
 given (noLine p k t m n v) = record { number = displayNumber (displayed (displayCall k 1 t 0 m)); values = displayValues (displayed (displayCall k 1 t 0 m)) }
 

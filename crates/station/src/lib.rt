@@ -107,8 +107,8 @@ pub extern "C" fn movesig_read(
     out: &mut [u8],
     answer: &mut [u64; 6],
 ) -> u32
-    ensures number { λ r. ⌜ r ≡ readNumber (answered (read kind edition (now (text .entry)) at (length (now (out .entry))))) ⌝ }
-    ensures values { λ r. ⌜ now (answer .exit) ≡ readValues (answered (read kind edition (now (text .entry)) at (length (now (out .entry))))) ⌝ }
+    ensures number { λ r. ⌜ r ≡ readNumber (answered (now (text .entry)) (read kind edition (now (text .entry)) at (length (now (out .entry))))) ⌝ }
+    ensures values { λ r. ⌜ now (answer .exit) ≡ readValues (answered (now (text .entry)) (read kind edition (now (text .entry)) at (length (now (out .entry))))) ⌝ }
     ensures buffer { λ r. ⌜ now (out .exit) ≡ readBuffer kind edition (now (text .entry)) at (now (out .entry)) ⌝ }
 {
     let a = calls::read(kind, edition, text, at, out);

@@ -1,10 +1,14 @@
--- What the token program prints: a line for each token, EOF last, or a refusal's line behind the tokens before it.
+-- What the token program prints: a line for each token, EOF last, or a refusal's line behind the tokens before it; of an input that is
+-- too long, that refusal alone.
 use Prim.Native.Nat.{ℕ, _+_, _/_, _%_}
 use mathlib.Core.Bool.{cond}
 use mathlib.Core.List.{List, [], _∷_, _++_}
-use lib.Dec.{leb}
+use lib.Dec.{leb, ltb}
+use lib.ListN.{length}
 use Rattle.classes.specs.Bytes.{bytes}
-use Rattle.tokens.specs.Walk.{Listed, eof, refused, next}
+use Rattle.tokens.specs.Refusals.{TextTooLong}
+use Rattle.tokens.specs.Answers.{refusal}
+use Rattle.tokens.specs.Walk.{Listed, eof, refused, next, tokensOf}
 use Rattle.tokens.specs.declared.Refusal.{Refusal}
 use Rattle.tokens.specs.declared.Token.{Token}
 
@@ -31,3 +35,10 @@ unfoldable pub printed : Listed → List ℕ
 printed (eof t) = tokenLine t
 printed (refused r) = refusedLine r
 printed (next t l) = tokenLine t ++ printed l
+
+-- the longest input, which is shorter than the longest text
+abbrev pub inputLimit : ℕ
+inputLimit = 65535
+
+unfoldable pub output : List ℕ → List ℕ
+output text = cond (ltb inputLimit (length text)) (refusedLine (refusal TextTooLong 0 0)) (printed (tokensOf text))

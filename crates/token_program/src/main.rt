@@ -5,17 +5,21 @@ ghost use lib.ListN.{length};
 ghost use mathlib.Core.List.{[], _∷_};
 ghost use Rattle.classes.specs.Bytes.{bytes};
 ghost use Rattle.buffer.specs.Written.{Written};
-ghost use Rattle.token_program.specs.Printed.{digit, inDecimal, threeLine, tokenLine, refusedLine, printed};
+ghost use Rattle.token_program.specs.Printed.{digit, inDecimal, threeLine, tokenLine, refusedLine, printed, inputLimit, output};
 ghost use Rattle.tokens.specs.Walk.{tokensOf};
 use libc::STDIN_FILENO;
 use libc::STDOUT_FILENO;
 use tokens::Lexed;
 use tokens::Refusal;
 use tokens::Token;
+use tokens::refusals::TEXT_TOO_LONG;
 use words::kinds::EOF;
 
 // The edition that the program keeps to.
 const EDITION: u64 = 1;
+
+// The longest input.
+const INPUT_LIMIT: usize = 65535;
 
 // Writes the digit of n that counts u's, where n reaches it, and answers where it ends.
 fn put_digit(out: &mut [u8], pos: usize, n: usize, u: usize) -> usize
@@ -102,6 +106,7 @@ fn put_refusal(out: &mut [u8], pos: usize, r: Refusal) -> usize
 // Writes the lines of all tokens of the text, EOF last, or of a refusal behind those before it, and
 // answers where they end.
 fn list_tokens(text: &[u8], out: &mut [u8]) -> usize
+    requires { ⌜ length (now text) ≤ inputLimit ⌝ }
     ensures { λ r. ⌜ Written (now (out .entry)) 0 (printed (tokensOf (now (text .entry)))) r (now (out .exit)) ⌝ }
     ensures { λ r. ⌜ r ≤ 1179656 ⌝ }
 {
@@ -124,7 +129,18 @@ fn list_tokens(text: &[u8], out: &mut [u8]) -> usize
     }
 }
 
-// Zeros, for the lines of any text: 18 bytes a token, and a refusal's 26. The `ensures` gives only
+// Writes what is printed of the input, and answers where it ends.
+fn print_tokens(text: &[u8], out: &mut [u8]) -> usize
+    ensures { λ r. ⌜ Written (now (out .entry)) 0 (output (now (text .entry))) r (now (out .exit)) ⌝ }
+    ensures { λ r. ⌜ r ≤ 1179656 ⌝ }
+{
+    if INPUT_LIMIT < text.len() {
+        return put_refusal(out, 0, tokens::refuse(TEXT_TOO_LONG, 0, 0));
+    }
+    list_tokens(text, out)
+}
+
+// Zeros, for the lines of any input: 18 bytes a token, and a refusal's 26. The `ensures` gives only
 // the length, which lending the array as a slice needs.
 fn lines_buffer() -> [u8; 1179656]
     ensures { λ r. ⌜ 1179656 ≡ length r ⌝ }
@@ -136,6 +152,6 @@ fn main() {
     let mut text = io::large_buffer();
     let n = io::read_full(STDIN_FILENO, &mut text);
     let mut lines = lines_buffer();
-    let end = list_tokens(&text[..n], &mut lines);
+    let end = print_tokens(&text[..n], &mut lines);
     io::write_all(STDOUT_FILENO, &lines[..end]);
 }

@@ -20,7 +20,7 @@ use Rattle.tokens.specs.declared.DocComment.the-variants.{Doc, Nothing, 
 
 -- the longest text
 abbrev pub textLimit : ℕ
-textLimit = 65535
+textLimit = 1048575
 
 -- refusals 1 and 2, and otherwise what the text has
 unfoldable pub admitted : {A : Type 0} → (Refusal → A) → List ℕ → ℕ → A → A

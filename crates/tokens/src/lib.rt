@@ -90,7 +90,7 @@ pub enum DocComment {
 }
 
 // The longest text.
-pub const TEXT_LIMIT: usize = 65535;
+pub const TEXT_LIMIT: usize = 1048575;
 
 // A refusal whose second place is its place.
 pub fn refuse(number: u32, start: usize, end: usize) -> Refusal

@@ -13,16 +13,24 @@ mod station;
 #[path = "../station_items.rs"]
 mod station_items;
 
-use item_sets::Size;
+use item_sets::{far_item, Size};
 use oracle::{
     answer::{Answer, Call, ItemCall},
     editions,
     expected::{self, Cause, Expected, Text},
+    items::Case,
+    long_items::{LONG, LONGEST},
     random::Random,
     reading::{silence_the_rust, Reading},
     texts, SOURCES,
 };
-use std::{env, process::exit, time::Instant};
+use read_comparison::respelled;
+use std::{
+    env,
+    ops::AddAssign,
+    process::exit,
+    time::{Duration, Instant},
+};
 
 const HELP: &str = "\
 Compares the port's answers with those of the Rust lexer and parser: tokens,
@@ -30,19 +38,21 @@ comments, reads with the bytes that they write, and displays with their lines;
 first some points whose answers are written down.
 
 usage: compare [--quick] [--seed N] [--edition N] [--reads-only | --displays-only]
-               [--help]
+               [--long-only] [--help]
 
   --quick          a few million answers, in seconds
   --edition N      one edition alone, 1 or 2 (default both)
   --seed N         another choice of random texts (default 1)
   --reads-only     no tokens, comments and displays
   --displays-only  no tokens, comments and reads
+  --long-only      only the sets of texts and trees over 65,535 bytes
   --help           these words
 
-Prints the sha256 of the Rust sources, how many answers were compared, those that
-docs/DIFFERENCES.md lists by class (there the specification decides, and the port is
-held to it), and the first differences that it does not list, each with the
-smallest text found. Exit status: 0 no such difference, 1 some, 2 bad usage.
+Prints the sha256 of the Rust sources, how many answers were compared, how many of
+them on texts of 65,536 to 1,048,575 bytes, those that docs/DIFFERENCES.md lists by
+class (there the specification decides, and the port is held to it), and the first
+differences that it does not list, each with the smallest text found. Exit status:
+0 no such difference, 1 some, 2 bad usage.
 ";
 
 /// How many differences are shown in full, and how many are made small to find
@@ -50,41 +60,80 @@ smallest text found. Exit status: 0 no such difference, 1 some, 2 bad usage.
 const SHOWN: usize = 5;
 const MADE_SMALL: u64 = 20;
 
+/// How long one may be made smaller.
+const SHRINKING: Duration = Duration::from_secs(2);
+
 fn main() {
     let options = options();
     silence_the_rust();
     println!("Rust sources (sha256):\n{SOURCES}");
     println!("seed {}\n", options.seed);
 
-    let mut different = 0;
+    let mut all = Found::default();
     if options.only.is_none() {
-        different += point_comparison::run();
-        different += run(&options);
+        if !options.long_only {
+            all.add(point_comparison::run(), 0);
+        }
+        all += run(&options);
     }
     if options.only != Some(ItemCall::Display) {
-        different += read_comparison::run(options.size());
+        all += read_comparison::run(options.size());
     }
     if options.only != Some(ItemCall::Read) {
-        different += display_comparison::run(options.size());
+        all += display_comparison::run(options.size());
     }
-    if different > 0 {
+    println!("\nAll calls:");
+    println!("{ON_LONG:<50} {:>12}", grouped(all.on_long));
+    println!(
+        "{:<50} {:>12}",
+        "differences not listed",
+        grouped(all.different)
+    );
+    if all.different > 0 {
         exit(1);
     }
 }
 
-/// Compares tokens and comments; how many differences were found.
-fn run(options: &Options) -> u64 {
+/// How the answers on texts of 65,536 to 1,048,575 bytes are called where they are counted.
+const ON_LONG: &str = "  on texts of 65,536 to 1,048,575 bytes";
+
+/// What a comparison came to.
+#[derive(Default)]
+struct Found {
+    different: u64,
+    /// Answers on texts of 65,536 to 1,048,575 bytes.
+    on_long: u64,
+}
+
+impl Found {
+    fn add(&mut self, different: u64, on_long: u64) {
+        self.different += different;
+        self.on_long += on_long;
+    }
+}
+
+impl AddAssign for Found {
+    fn add_assign(&mut self, other: Found) {
+        self.add(other.different, other.on_long)
+    }
+}
+
+/// Compares tokens and comments.
+fn run(options: &Options) -> Found {
     let start = Instant::now();
-    let mut different = 0;
+    let mut found = Found::default();
     for edition in options.size().editions() {
         println!("Tokens and comments, edition {edition}:");
         let mut comparison = Comparison::new(edition, options.size().random(90));
-        run_sets(&mut comparison, options);
+        if !options.long_only {
+            run_sets(&mut comparison, options);
+        }
+        run_long_sets(&mut comparison, options);
         comparison.print_summary();
-        different += comparison.different;
+        found.add(comparison.different, comparison.on_long);
     }
     println!("\n{:.1} s", start.elapsed().as_secs_f64());
-    different
+    found
 }
 
 struct Options {
@@ -94,6 +143,8 @@ struct Options {
     edition: Option<u64>,
     /// The one call that is compared, if not all are.
     only: Option<ItemCall>,
+    /// Whether only the sets of long texts are compared.
+    long_only: bool,
 }
 
 impl Options {
@@ -102,7 +153,16 @@ impl Options {
             quick: self.quick,
             seed: self.seed,
             edition: self.edition,
+            long_only: self.long_only,
         }
+    }
+
+    fn sized(&self, whole: usize, quick: usize) -> usize {
+        self.size().of(whole, quick)
+    }
+
+    fn seeded(&self, set: u64) -> Random {
+        Random::new(self.seed.wrapping_mul(1_000_003).wrapping_add(set))
     }
 }
 
@@ -112,6 +172,7 @@ fn options() -> Options {
         seed: 1,
         edition: None,
         only: None,
+        long_only: false,
     };
     let mut words = env::args().skip(1);
     while let Some(word) = words.next() {
@@ -128,6 +189,7 @@ fn options() -> Options {
             },
             "--reads-only" => options.only = Some(ItemCall::Read),
             "--displays-only" => options.only = Some(ItemCall::Display),
+            "--long-only" => options.long_only = true,
             "--help" => {
                 print!("{HELP}");
                 exit(0);
@@ -145,8 +207,8 @@ fn bad_usage(message: &str) -> ! {
 
 /// The sets of texts, with how much of each a quick run takes.
 fn run_sets(comparison: &mut Comparison, options: &Options) {
-    let sized = |whole: usize, quick: usize| if options.quick { quick } else { whole };
-    let seeded = |set: u64| Random::new(options.seed.wrapping_mul(1_000_003).wrapping_add(set));
+    let sized = |whole, quick| options.sized(whole, quick);
+    let seeded = |set| options.seeded(set);
 
     let all_bytes: Vec<u8> = (0..=255).collect();
     comparison.set("every text up to 2 bytes, all 256 bytes", |to| {
@@ -191,21 +253,6 @@ fn run_sets(comparison: &mut Comparison, options: &Options) {
             to.everywhere(&texts::move_like(&mut random, turn % 65, true));
         }
     });
-    comparison.set("Move-like texts of 65,530 to 65,540 bytes", |to| {
-        let mut random = seeded(2);
-        for turn in 0..sized(132, 11) {
-            let text = texts::move_like(&mut random, 65_530 + turn % 11, false);
-            to.along(&text, &mut random);
-        }
-    });
-    comparison.set("one long thing, around each boundary", |to| {
-        let mut random = seeded(3);
-        for length in (0..=8).chain(65_532..=65_537) {
-            for text in texts::one_long_thing(length) {
-                to.along(&text, &mut random);
-            }
-        }
-    });
     comparison.set("damaged copies", |to| {
         let mut random = seeded(4);
         for turn in 0..sized(60_000, 1_500) {
@@ -230,6 +277,62 @@ fn run_sets(comparison: &mut Comparison, options: &Options) {
             to.everywhere(&texts::not_utf8(&mut random, turn % 60));
         }
     });
+}
+
+/// The sets of long texts.
+fn run_long_sets(comparison: &mut Comparison, options: &Options) {
+    let sized = |whole, quick| options.sized(whole, quick);
+    let seeded = |set| options.seeded(set);
+
+    comparison.set("Move-like texts of 65,530 to 65,540 bytes", |to| {
+        let mut random = seeded(2);
+        for turn in 0..sized(132, 11) {
+            let text = texts::move_like(&mut random, 65_530 + turn % 11, false);
+            to.along(&text, &mut random);
+        }
+    });
+    comparison.set(
+        "Move-like texts of 131,072 and of about 1,048,575 bytes",
+        |to| {
+            let mut random = seeded(11);
+            let lengths = [1_048_575, 131_072, 1_048_574, 1_048_576];
+            for length in lengths.into_iter().take(sized(4, 1)) {
+                let text = texts::move_like(&mut random, length, false);
+                to.along(&text, &mut random);
+            }
+        },
+    );
+    comparison.set("one long thing, around each boundary", |to| {
+        let mut random = seeded(3);
+        let long = sized(1_048_574, 1_048_575)..=sized(1_048_577, 1_048_576);
+        for length in (0..=8).chain(65_532..=65_537).chain(long) {
+            for text in texts::one_long_thing(length) {
+                to.along(&text, &mut random);
+            }
+        }
+    });
+    // The texts of the reads and displays.
+    for (name, set, lengths, turns) in [
+        (
+            "items in texts of 65,534 to 131,072 bytes",
+            8,
+            &LONG[..],
+            sized(10_000, 300),
+        ),
+        (
+            "items in texts of about 1,048,575 bytes",
+            9,
+            &LONGEST[..],
+            sized(800, 10),
+        ),
+    ] {
+        let mut random = options.size().random(set);
+        comparison.set(name, |to| {
+            for turn in 0..turns {
+                to.around(&far_item(&mut random, turn, lengths));
+            }
+        });
+    }
 }
 
 /// Every text over the alphabet up to the given length. Behind each text stand
@@ -268,6 +371,8 @@ struct Comparison {
     edition: u64,
     random: Random,
     answers: u64,
+    /// Answers on texts of 65,536 to 1,048,575 bytes.
+    on_long: u64,
     /// Answers to numbers that are no edition.
     of_none: u64,
     listed: [u64; Cause::ALL.len()],
@@ -281,6 +386,7 @@ impl Comparison {
             edition,
             random,
             answers: 0,
+            on_long: 0,
             of_none: 0,
             listed: [0; Cause::ALL.len()],
             different: 0,
@@ -335,6 +441,34 @@ impl Comparison {
         self.walk(&text, true);
     }
 
+    /// Both calls at the item's offset, at its first token and at some of the bytes behind that, as long
+    /// as tokens are near.
+    fn around(&mut self, case: &Case) {
+        let respelled = respelled(
+            self.edition,
+            &mut self.random,
+            &Text::new(&case.text),
+            case.at,
+        );
+        let text = Text::new(respelled.as_ref().unwrap_or(&case.text));
+        let mut at = case.at;
+        for _ in 0..40 {
+            let token = expected_in(self.edition, Call::Token, &text, at);
+            self.judge(Call::Token, &text, at, token);
+            let comment = expected_in(self.edition, Call::Comment, &text, at);
+            self.judge(Call::Comment, &text, at, comment);
+            at = match token.answer {
+                Some(Answer { result: 0, numbers }) if numbers[1] > at as u64 => {
+                    numbers[1] as usize
+                }
+                _ => at + 1,
+            };
+            if at > text.bytes.len() + 1 {
+                return;
+            }
+        }
+    }
+
     /// Token after token, each from where the last one ended, until EOF or a refusal;
     /// the Rust goes the same way with one lexer. At each step the comment too, if asked for. Whether a
     /// line feed stands before a token is here told by line numbers, counted on the text alone.
@@ -382,6 +516,7 @@ impl Comparison {
     fn judge(&mut self, call: Call, text: &Text, at: usize, expected: Expected) {
         let found = station::ask(call, self.edition, text.bytes, at);
         self.answers += 1;
+        self.on_long += u64::from(text.is_long());
         if self.edition == 1 {
             self.judge_none(call, text, at, expected);
         }
@@ -436,6 +571,7 @@ impl Comparison {
 
     fn print_summary(&self) {
         println!("{:<50} {:>12}", "all", grouped(self.answers));
+        println!("{ON_LONG:<50} {:>12}", grouped(self.on_long));
         if self.edition == 1 {
             let count = grouped(self.of_none);
             println!(
@@ -502,17 +638,18 @@ fn smallest(found: Difference) -> Difference {
     difference(call, edition, &text, at).unwrap_or(found)
 }
 
-/// Takes bytes out of the text, long pieces first, as long as it still differs.
+/// Takes bytes out of the text, long pieces first, as long as it still differs and there is time.
 fn shrunk(
     mut text: Vec<u8>,
     mut at: usize,
     mut differs: impl FnMut(&[u8], usize) -> bool,
 ) -> (Vec<u8>, usize) {
+    let begun = Instant::now();
     let mut piece = text.len();
     while piece > 0 {
         let mut start = 0;
         let mut smaller = false;
-        while start + piece <= text.len() {
+        while start + piece <= text.len() && begun.elapsed() < SHRINKING {
             let mut shorter = text.clone();
             shorter.drain(start..start + piece);
             let before = at.clamp(start, start + piece) - start;

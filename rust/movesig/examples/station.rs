@@ -4,7 +4,7 @@
 //!
 //!     cargo run --example station -- ../../examples/coin.move
 
-use movesig::{display, read, tokens, Edition, Kind, Refusal, TokenKind, Tree, LONGEST};
+use movesig::{display, read, tokens, tree_room, Edition, Kind, Refusal, TokenKind, Tree, LONGEST};
 use std::{env, fs::File, io::Read, process::ExitCode};
 
 /// The edition of Move that the file is written in.
@@ -32,8 +32,8 @@ fn main() -> ExitCode {
 }
 
 fn show(text: &[u8]) -> Result<(), Refusal> {
-    // Lent to every call; no call needs more.
-    let mut buffer = vec![0; LONGEST];
+    // Lent to every call; no call needs more, for a tree or for a line.
+    let mut buffer = vec![0; tree_room(text.len())];
     for token in tokens(EDITION, text, 0) {
         let token = token?;
         println!("token {} at {}", token.kind.number(), token.span);

@@ -1,6 +1,6 @@
 use crate::{
     boundary::{self, Numbers},
-    Edition, Following, Refusal, Tree, LONGEST,
+    Edition, Following, Refusal, Tree, LONGEST_LINE,
 };
 use std::fmt;
 
@@ -162,7 +162,7 @@ pub fn display<'b>(
 ///
 /// # Errors
 ///
-/// Refused as [`display`] is with a buffer of [`LONGEST`] bytes.
+/// Refused as [`display`] is with a buffer of [`LONGEST_LINE`] bytes.
 ///
 /// ```
 /// use movesig::{display_to_string, Edition, Kind};
@@ -182,7 +182,7 @@ pub fn display_to_string(
     text: &[u8],
     at: usize,
 ) -> Result<String, Refusal> {
-    let mut buffer = vec![0; LONGEST];
+    let mut buffer = vec![0; LONGEST_LINE];
     let line = display(kind, edition, text, at, &mut buffer)?;
     Ok(String::from_utf8_lossy(line).into_owned())
 }

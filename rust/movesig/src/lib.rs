@@ -13,10 +13,10 @@
 //! | [`display`] | an item as one line, in a buffer of yours |
 //!
 //! ```
-//! use movesig::{display, read, Edition, Kind, RecordKind, Refusal, LONGEST};
+//! use movesig::{display, read, tree_room, Edition, Kind, RecordKind, Refusal};
 //!
 //! let text = b"vector< u8 > {";
-//! let mut buffer = vec![0; LONGEST];
+//! let mut buffer = vec![0; tree_room(text.len())];
 //!
 //! let item = read(Kind::Type, Edition::One, text, 0, &mut buffer)?;
 //! assert_eq!(item.tree.kind(), RecordKind::Type);
@@ -37,8 +37,8 @@
 //!
 //! Offsets and spans count bytes from 0. Nothing is asked of the text: it need not be UTF-8.
 //!
-//! A call takes up to [`STACK`] bytes of stack. On a thread with a small one keep the buffers, of
-//! [`LONGEST`] bytes at most, elsewhere, as the `vec!` above does.
+//! A call takes up to [`STACK`] bytes of stack. Keep the buffers elsewhere, as the `vec!` above does:
+//! [`tree_room`] bytes are room for every tree of a text, [`LONGEST_LINE`] for every line.
 //!
 //! All `unsafe` code stands in one module, `boundary`, which says why each call is sound.
 
@@ -64,9 +64,18 @@ pub use span::Span;
 pub use token::{next_token, tokens, Following, Token, TokenKind, Tokens};
 pub use tree::{Children, RecordKind, Tree};
 
-/// The most bytes of a text, of a tree and of a line. A buffer longer than this never changes an
-/// answer.
-pub const LONGEST: usize = 65_535;
+/// The most bytes of a text.
+pub const LONGEST: usize = 1_048_575;
+
+/// The most bytes of a line. A buffer for a line that is longer than this never changes an answer.
+pub const LONGEST_LINE: usize = 65_535;
+
+/// Room for every tree of a text of so many bytes: at most three records of 14 bytes for each byte,
+/// and four in front. Most trees have far less.
+#[must_use]
+pub const fn tree_room(len: usize) -> usize {
+    len.saturating_mul(42).saturating_add(4)
+}
 
 /// The most levels of an item.
 pub const LEVELS: usize = 64;

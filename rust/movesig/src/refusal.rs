@@ -11,8 +11,8 @@ pub enum Refusal {
     StartPastEnd,
     /// 3: the number is no kind of item. No [`Kind`](crate::Kind) leads here.
     NoSuchKind,
-    /// 4: the item is accepted, but its tree or its line is longer than the buffer or than
-    /// [`LONGEST`](crate::LONGEST).
+    /// 4: the item is accepted, but its tree or its line is longer than the buffer, or the line
+    /// than [`LONGEST_LINE`](crate::LONGEST_LINE).
     NoRoom,
     /// 5: no token starts with this byte.
     NoToken {
@@ -192,10 +192,10 @@ impl Refusal {
     #[must_use]
     pub fn reason(&self) -> &'static str {
         match *self {
-            TextTooLong => "text over 65,535 bytes",
+            TextTooLong => "text over 1,048,575 bytes",
             StartPastEnd => "start past the text's end",
             NoSuchKind => "no such kind of item",
-            NoRoom => "answer longer than the buffer or than 65,535 bytes",
+            NoRoom => "answer longer than the buffer, or a line than 65,535 bytes",
             NoToken { .. } => "no token starts with this byte",
             CommentNotClosed { .. } => "block comment not closed",
             HexStringNotClosed { .. } => "hex string without closing quote in its line",

@@ -3,35 +3,77 @@ use std::{fmt, iter::FusedIterator};
 
 /// A record of a stored tree with its children, as it stands in the buffer: nothing is copied.
 ///
-/// [`read`](crate::read) gives the outermost one, [`children`](Tree::children) those inside.
+/// [`read`](crate::read) gives the outermost one, [`children`](Tree::children) those inside. A tree
+/// is stored narrow or wide; which of the two makes no difference to what is seen of it here.
 #[derive(Clone, Copy)]
 pub struct Tree<'t, 'b> {
     text: &'t [u8],
     bytes: &'b [u8],
+    /// Where the record begins in the bytes: behind what stands in front of a wide tree.
+    at: usize,
+    form: Form,
 }
 
-/// Where a record's children begin.
-const HEAD: usize = 8;
+/// What stands in front of a wide tree.
+const FRONT: [u8; 4] = [4, 0, 99, 0];
+
+/// The layout of records: the places of their numbers.
+#[derive(Clone, Copy, Debug, PartialEq, Eq)]
+enum Form {
+    Narrow,
+    Wide,
+}
+
+impl Form {
+    /// How many bytes a length, a start and an end have.
+    fn width(self) -> usize {
+        match self {
+            Form::Narrow => 2,
+            Form::Wide => 4,
+        }
+    }
+
+    /// Where a record's children begin.
+    fn head(self) -> usize {
+        2 + 3 * self.width()
+    }
+}
 
 impl<'t, 'b> Tree<'t, 'b> {
-    /// Of a text and the bytes of one record.
+    /// Of a text and the bytes of a tree as a read stores it.
     #[inline]
     pub(crate) fn new(text: &'t [u8], bytes: &'b [u8]) -> Tree<'t, 'b> {
-        Tree { text, bytes }
+        let (at, form) = if bytes.starts_with(&FRONT) {
+            (FRONT.len(), Form::Wide)
+        } else {
+            (0, Form::Narrow)
+        };
+        Tree {
+            text,
+            bytes,
+            at,
+            form,
+        }
+    }
+
+    /// The bytes of the record alone.
+    fn record(self) -> &'b [u8] {
+        self.bytes.get(self.at..).unwrap_or(&[])
     }
 
     /// What it is.
     #[must_use]
     pub fn kind(self) -> RecordKind {
-        RecordKind::new(two_bytes(self.bytes, 2))
+        RecordKind::new(number(self.record(), self.form.width(), 2) as u16)
     }
 
     /// Where it stands in the text.
     #[must_use]
     pub fn span(self) -> Span {
+        let width = self.form.width();
         Span {
-            start: two_bytes(self.bytes, 4).into(),
-            end: two_bytes(self.bytes, 6).into(),
+            start: number(self.record(), width + 2, width) as usize,
+            end: number(self.record(), 2 * width + 2, width) as usize,
         }
     }
 
@@ -53,23 +95,32 @@ impl<'t, 'b> Tree<'t, 'b> {
     pub fn children(self) -> Children<'t, 'b> {
         Children {
             text: self.text,
-            rest: self.bytes.get(HEAD..).unwrap_or(&[]),
+            rest: self.record().get(self.form.head()..).unwrap_or(&[]),
+            form: self.form,
         }
     }
 
-    /// The record as it is stored, with its children.
+    /// The record as it is stored, with its children; of the outermost one all bytes that the
+    /// read wrote, those in front of a wide tree too.
     #[must_use]
     pub fn as_bytes(self) -> &'b [u8] {
         self.bytes
     }
+
+    /// Whether it is stored in the wide form.
+    #[must_use]
+    pub fn is_wide(self) -> bool {
+        self.form == Form::Wide
+    }
 }
 
-/// Two bytes as a number, the low one first.
-fn two_bytes(bytes: &[u8], at: usize) -> u16 {
-    match bytes.get(at..at + 2) {
-        Some(&[low, high]) => u16::from_le_bytes([low, high]),
-        _ => 0,
-    }
+/// The number in these bytes, the low one first; 0 where they are not all there.
+fn number(bytes: &[u8], at: usize, width: usize) -> u32 {
+    let bytes = bytes.get(at..at + width).unwrap_or(&[]);
+    bytes
+        .iter()
+        .rev()
+        .fold(0, |high, &low| high << 8 | u32::from(low))
 }
 
 /// Its kind and its span, and its children's.
@@ -85,19 +136,25 @@ impl fmt::Debug for Tree<'_, '_> {
 pub struct Children<'t, 'b> {
     text: &'t [u8],
     rest: &'b [u8],
+    form: Form,
 }
 
 impl<'t, 'b> Iterator for Children<'t, 'b> {
     type Item = Tree<'t, 'b>;
 
     fn next(&mut self) -> Option<Tree<'t, 'b>> {
-        let length = usize::from(two_bytes(self.rest, 0));
-        if length < HEAD {
+        let length = number(self.rest, 0, self.form.width()) as usize;
+        if length < self.form.head() {
             return None;
         }
         let (bytes, rest) = self.rest.split_at_checked(length)?;
         self.rest = rest;
-        Some(Tree::new(self.text, bytes))
+        Some(Tree {
+            text: self.text,
+            bytes,
+            at: 0,
+            form: self.form,
+        })
     }
 }
 

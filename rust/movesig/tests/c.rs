@@ -87,6 +87,36 @@ fn example() {
     }
 }
 
+/// The example that shows the bytes of a tree, on both sides of where it becomes wide.
+#[test]
+fn tree_example() {
+    let source = top().join("examples/tree.c");
+    for (name, language, standard) in [("gcc", "c", "-std=c99"), ("g++", "c++", "-std=c++98")] {
+        let Some(mut compiler) = compiler(name) else {
+            continue;
+        };
+        compiler.arg(standard);
+        let tree = program(&format!("tree-{name}"), compiler, language, &source);
+        let narrow = [
+            "   0   10 00 0a 00 00 00 01 00",
+            "   8   08 00 03 00 00 00 01 00",
+        ];
+        let wide = [
+            "   0   04 00 63 00",
+            "   4   1c 00 00 00 0a 00 00 00 00 00 01 00 00 00",
+            "  18   0e 00 00 00 03 00 00 00 00 00 01 00 00 00",
+        ];
+        for (blanks, shown) in [(65_534, &narrow[..]), (65_535, &wide)] {
+            let file = Path::new(env!("CARGO_TARGET_TMPDIR")).join(format!("tree-{name}.move"));
+            fs::write(&file, format!("a{}", " ".repeat(blanks))).expect("written");
+            let input = fs::File::open(&file).expect("it is there");
+            let output = run(Command::new(&tree).stdin(input));
+            let output = String::from_utf8_lossy(&output.stdout).into_owned();
+            assert_eq!(output.lines().collect::<Vec<_>>(), shown, "{name}");
+        }
+    }
+}
+
 #[test]
 fn random_calls_under_sanitizers() {
     for (name, language, standard, rounds) in [

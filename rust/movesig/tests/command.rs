@@ -239,7 +239,7 @@ fn what_was_due() {
     assert_eq!(told("binds", "S{f, 1"), "`1` where an identifier or `}`");
     assert_eq!(told("binds", "(S{f: 1u8"), "`1u8` where a name");
     assert_eq!(told("lambda", "x"), "`x` where `|`");
-    let long = format!("({}", "u8, ".repeat(16_380));
+    let long = format!("({}", "u8, ".repeat(262_140));
     assert_eq!(
         told("type", &long),
         "the end of the text where a type or `)`"
@@ -331,8 +331,10 @@ fn every_reason() {
     let wide = format!("({})", "a,".repeat(30_000));
     let error = first(wide.as_bytes(), "line type f.move");
     assert_eq!(error, "f.move: refused 4: line over 65535 bytes");
-    let error = first(wide.as_bytes(), "read type f.move");
-    assert_eq!(error, "f.move: refused 4: tree over 65535 bytes");
+    // a tree is as long as it is
+    let output = accepted(wide.as_bytes(), "read type f.move");
+    assert!(output.starts_with("tuple"), "{}", &output[..80]);
+    assert_eq!(output.lines().count(), 60_002);
 }
 
 #[test]
@@ -349,13 +351,13 @@ fn empty_file() {
 
 #[test]
 fn long_files_and_far_offsets() {
-    let longest = vec![b' '; 65_535];
+    let longest = vec![b' '; 1_048_575];
     assert_eq!(
         accepted(&longest, "tokens f.move"),
-        "1:  65535..65535  EOF\n"
+        "1:  1048575..1048575  EOF\n"
     );
-    let too_long = vec![b' '; 65_536];
-    let error = "f.move: refused 1: text over 65,535 bytes: it has 65536\n";
+    let too_long = vec![b' '; 1_048_576];
+    let error = "f.move: refused 1: text over 1,048,575 bytes: it has 1048576\n";
     assert_eq!(refused(&too_long, "tokens f.move"), error);
     assert_eq!(refused(&too_long, "comments f.move"), error);
     assert_eq!(refused(&too_long, "read type f.move 3"), error);
@@ -372,6 +374,44 @@ fn long_files_and_far_offsets() {
         errors.starts_with("f.move:1:3 (byte 2): refused 10: "),
         "{errors}"
     );
+}
+
+/// Every command on files as long as they may be, each of one thing alone. They end, and in time that
+/// grows with the length: the list of `&mut` has a note for each, the nests many levels.
+#[test]
+fn hostile_long_files() {
+    const LONGEST: usize = 1_048_575;
+    /// So many of the middle as fit, and blanks behind.
+    fn filled(before: &str, middle: &str, behind: &str) -> String {
+        let room = LONGEST - before.len() - behind.len();
+        let text = format!("{before}{}{behind}", middle.repeat(room / middle.len()));
+        let blanks = " ".repeat(LONGEST - text.len());
+        text + &blanks
+    }
+    let nest = |levels: usize| filled(&"(".repeat(levels), "a,", &")".repeat(levels));
+    for (text, words, status) in [
+        (filled("/*", "x", "*/"), "tokens", 0),
+        (filled("/**", "x", "*/"), "comments", 0),
+        (filled("/*", "x", ""), "tokens", 1),
+        (filled("b\"", "x", "\""), "read value", 0),
+        (filled("b\"", "x", "\""), "line value", 1),
+        (filled("", "a", ""), "read name", 0),
+        (filled("", "a", ""), "line name", 1),
+        (nest(63), "--json read type", 0),
+        (nest(64), "read type", 1),
+        (filled("(", "&mut,", ")"), "read type", 0),
+        (filled("", "<>{},;", ""), "tokens", 0),
+        (filled("(", "a,", "b c)"), "--json read type", 1),
+        (filled("", "\n", ""), "tokens", 0),
+        (filled("", "\r", ""), "tokens", 1),
+    ] {
+        let begins = &text[..8];
+        let (ended, output, errors) = movesig(text.as_bytes(), &format!("{words} f.move"));
+        assert_eq!(ended, status, "{words} {begins:?}");
+        let told = if status == 0 { "" } else { "refused" };
+        let said = output + &errors;
+        assert!(said.contains(told), "{words} {begins:?}");
+    }
 }
 
 #[test]
@@ -647,14 +687,22 @@ fn for_machines() {
         output
     };
     assert_eq!(
-        refusals("--json tokens f.move", 70_000),
-        "{\"file\":\"f.move\",\"refused\":1,\"reason\":\"text over 65,535 bytes\",\
-         \"length\":70000,\"limit\":65535}\n"
+        refusals("--json tokens f.move", 1_070_000),
+        "{\"file\":\"f.move\",\"refused\":1,\"reason\":\"text over 1,048,575 bytes\",\
+         \"length\":1070000,\"limit\":1048575}\n"
     );
     assert_eq!(
         refusals("--json line type f.move 9", 3),
         "{\"file\":\"f.move\",\"item\":\"type\",\"at\":9,\"refused\":2,\
-         \"reason\":\"start past the text's end\",\"length\":3,\"limit\":65535}\n"
+         \"reason\":\"start past the text's end\",\"length\":3,\"limit\":1048575}\n"
+    );
+    // a line has a limit of its own, and how long it would be is not told
+    let wide = format!("({})", "a,".repeat(30_000));
+    assert_eq!(
+        movesig(wide.as_bytes(), "--json line type f.move").1,
+        "{\"file\":\"f.move\",\"item\":\"type\",\"at\":0,\"refused\":4,\
+         \"reason\":\"answer longer than the buffer, or a line than 65,535 bytes\",\
+         \"limit\":65535}\n"
     );
     assert_eq!(
         refusals("--json line type f.move 9:9", 3),
@@ -716,9 +764,9 @@ fn standard_input() {
     );
     // more than it reads
     let mut command = Command::new(MOVESIG);
-    let (status, _, errors) = run(command.args(["tokens", "-"]), &vec![b' '; 1_000_000]);
+    let (status, _, errors) = run(command.args(["tokens", "-"]), &vec![b' '; 2_000_000]);
     assert_eq!(status, 1);
-    let error = "<stdin>: refused 1: text over 65,535 bytes: it has 1000000\n";
+    let error = "<stdin>: refused 1: text over 1,048,575 bytes: it has 2000000\n";
     assert_eq!(errors, error);
     // no end
     let zeros = fs::File::open("/dev/zero").expect("it is there");

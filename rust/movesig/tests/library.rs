@@ -2,7 +2,8 @@
 
 use movesig::{
     comments, display, display_to_string, library_version, next_comment, next_token, read, tokens,
-    Edition, Kind, RecordKind, Refusal, Span, TokenKind, Tree, LEVELS, LONGEST, STACK,
+    tree_room, Edition, Kind, RecordKind, Refusal, Span, TokenKind, Tree, LEVELS, LONGEST,
+    LONGEST_LINE, STACK,
 };
 use std::error::Error;
 
@@ -15,7 +16,7 @@ fn token(text: &[u8]) -> Result<(u8, Span), Refusal> {
 }
 
 fn refused(kind: Kind, text: &[u8]) -> (u32, Span, Span) {
-    let mut buffer = vec![7; LONGEST];
+    let mut buffer = vec![7; tree_room(text.len())];
     let refusal = read(kind, Edition::One, text, 0, &mut buffer).expect_err("this is refused");
     assert_eq!(display_to_string(kind, Edition::One, text, 0), Err(refusal));
     assert!(buffer.iter().all(|&byte| byte == 7));
@@ -206,22 +207,146 @@ fn refusals_for_people() {
     );
     assert_eq!(
         said(&vec![b' '; LONGEST + 1]),
-        "refused 1: text over 65,535 bytes"
+        "refused 1: text over 1,048,575 bytes"
     );
 }
 
-/// The line is judged by its own length and not by the tree's.
+/// The line is judged by its own length and not by the tree's, and the tree by its room alone.
 #[test]
 fn long_answers() {
-    let flat = format!("({})", "a,".repeat(5_000));
-    let mut buffer = vec![0; LONGEST];
-    let tree = read(Kind::Type, Edition::One, flat.as_bytes(), 0, &mut buffer);
-    assert_eq!(tree.err(), Some(Refusal::NoRoom));
-    assert_eq!(line(Kind::Type, flat.as_bytes()).len(), 15_000);
+    let list = |items| format!("({})", "a,".repeat(items));
+    for (items, length, wide) in [
+        (4_095, 65_528, false),
+        (4_096, 114_706, true),
+        (5_000, 140_018, true),
+    ] {
+        let flat = list(items);
+        let mut buffer = vec![7; length + 1];
+        let item =
+            read(Kind::Type, Edition::One, flat.as_bytes(), 0, &mut buffer).expect("there is room");
+        assert_eq!(
+            (item.tree.as_bytes().len(), item.tree.is_wide()),
+            (length, wide)
+        );
+        assert_eq!(item.tree.children().count(), items);
+        assert!(item.tree.children().all(|child| child.text() == b"a"));
+        assert!(item.tree.children().all(|child| child.is_wide() == wide));
+        assert_eq!(buffer[length], 7);
+        let refused = read(
+            Kind::Type,
+            Edition::One,
+            flat.as_bytes(),
+            0,
+            &mut buffer[..length - 1],
+        );
+        assert_eq!(refused.err(), Some(Refusal::NoRoom));
+    }
+    // a line reads back: its tree has as many records, and its line is the same
+    let shown = line(Kind::Type, list(5_000).as_bytes());
+    assert_eq!(shown.len(), 15_000);
+    let mut buffer = vec![0; 140_018];
+    let item =
+        read(Kind::Type, Edition::One, shown.as_bytes(), 0, &mut buffer).expect("there is room");
+    assert_eq!(item.tree.as_bytes().len(), 140_018);
+    assert_eq!(line(Kind::Type, shown.as_bytes()), shown);
 
-    let wide = format!("({})", "a,".repeat(30_000));
-    let line = display(Kind::Type, Edition::One, wide.as_bytes(), 0, &mut buffer);
-    assert_eq!(line, Err(Refusal::NoRoom));
+    // the longest line, and one byte more, whatever the room
+    let mut buffer = vec![0; 2 * LONGEST_LINE];
+    let name = "a".repeat(LONGEST_LINE + 1);
+    for (kind, text, shown) in [
+        (Kind::Type, list(21_845), true),
+        (Kind::Type, list(21_846), false),
+        (Kind::Name, name[1..].to_string(), true),
+        (Kind::Name, name, false),
+    ] {
+        let line = display(kind, Edition::One, text.as_bytes(), 0, &mut buffer);
+        let due = if shown {
+            Ok(LONGEST_LINE)
+        } else {
+            Err(Refusal::NoRoom)
+        };
+        assert_eq!(line.map(<[u8]>::len), due);
+    }
+}
+
+/// A tree is wide where the whole text is long, wherever the item stands, and looks the same.
+#[test]
+fn long_texts() {
+    let shape = |text: &[u8], at: usize| {
+        let mut buffer = vec![0; 1_000];
+        let item = read(Kind::Type, Edition::One, text, at, &mut buffer).expect("it is accepted");
+        let raised = |tree: Tree| (tree.kind(), tree.span().start - at, tree.span().end - at);
+        let mut seen = vec![raised(item.tree)];
+        seen.extend(item.tree.children().map(raised));
+        seen.extend(item.tree.children().flat_map(Tree::children).map(raised));
+        (seen, item.tree.is_wide(), item.tree.as_bytes().len())
+    };
+    let item = b"&0x1::coin::Coin<u8, ()>";
+    let (seen, wide, length) = shape(item, 0);
+    assert_eq!((wide, length % 8), (false, 0));
+    for blanks in [
+        65_535 - item.len(),
+        65_536 - item.len(),
+        65_536,
+        LONGEST - item.len(),
+    ] {
+        let text = [vec![b' '; blanks], item.to_vec()].concat();
+        let is_wide = text.len() > 65_535;
+        let long = if is_wide { 4 + length / 8 * 14 } else { length };
+        assert_eq!(shape(&text, blanks), (seen.clone(), is_wide, long));
+    }
+    // the second tree that README.md shows byte by byte, and the one with a blank less
+    let wide = [
+        &[0x04, 0, 0x63, 0][..],
+        &[0x1c, 0, 0, 0, 0x0a, 0, 0, 0, 0, 0, 1, 0, 0, 0],
+        &[0x0e, 0, 0, 0, 0x03, 0, 0, 0, 0, 0, 1, 0, 0, 0],
+    ];
+    let narrow = [
+        &[0x10, 0, 0x0a, 0, 0, 0, 1, 0][..],
+        &[0x08, 0, 0x03, 0, 0, 0, 1, 0],
+    ];
+    for (blanks, stored) in [(65_535, wide.concat()), (65_534, narrow.concat())] {
+        let text = [&b"a"[..], &vec![b' '; blanks]].concat();
+        let mut buffer = vec![0; stored.len()];
+        let item = read(Kind::Type, Edition::One, &text, 0, &mut buffer).expect("it is accepted");
+        assert_eq!(item.tree.as_bytes(), stored);
+        // a child is its record alone, in the same form
+        let child = item.tree.children().next().expect("a chain");
+        assert_eq!(
+            child.as_bytes(),
+            &stored[stored.len() - child.as_bytes().len()..]
+        );
+        assert_eq!(child.is_wide(), blanks == 65_535);
+        assert_eq!(
+            (child.kind(), child.span()),
+            (RecordKind::OnePart, span(0, 1))
+        );
+        assert_eq!(line(Kind::Type, &text), "a");
+        let less = stored.len() - 1;
+        let refused = read(Kind::Type, Edition::One, &text, 0, &mut buffer[..less]);
+        assert_eq!(refused.err(), Some(Refusal::NoRoom));
+    }
+}
+
+/// Of the longest texts every tree has room, and one byte more is refused.
+#[test]
+fn longest_texts() {
+    let fields = format!("S{{{}}}", "f,".repeat((LONGEST - 3) / 2));
+    assert_eq!(fields.len(), LONGEST);
+    let mut buffer = vec![0; tree_room(fields.len())];
+    let read = |text: &str, buffer: &mut [u8]| {
+        let item = read(Kind::BindList, Edition::One, text.as_bytes(), 0, buffer);
+        item.map(|item| (item.tree.as_bytes().len(), item.next.span.start))
+    };
+    // a list, a struct and its name; a field has its name and its variable
+    let records = 3 + (LONGEST - 3) / 2 * 3;
+    let length = 4 + 14 * records;
+    assert_eq!(read(&fields, &mut buffer), Ok((length, LONGEST)));
+    assert_eq!(read(&fields, &mut buffer[..length]), Ok((length, LONGEST)));
+    let less = read(&fields, &mut buffer[..length - 1]);
+    assert_eq!(less, Err(Refusal::NoRoom));
+    let more = read(&(fields + " "), &mut buffer);
+    assert_eq!(more, Err(Refusal::TextTooLong));
 }
 
 fn outline(tree: Tree) -> String {
@@ -333,7 +458,7 @@ fn walks() {
 fn small_stack() {
     let deep = format!("|{}x{}|", "S<u8>{g, f:".repeat(63), "}".repeat(63));
     let read = move || {
-        let mut buffer = vec![0; LONGEST];
+        let mut buffer = vec![0; LONGEST_LINE];
         let text = deep.as_bytes();
         let read =
             read(Kind::LambdaBindList, Edition::One, text, 0, &mut buffer).map(|item| item.next);
@@ -362,6 +487,9 @@ fn versions() {
     let changes = include_str!("../../../CHANGELOG.md");
     assert!(changes.contains(&format!("\n## {}\n", env!("CARGO_PKG_VERSION"))));
     assert_eq!(defined("MOVESIG_LONGEST"), LONGEST);
+    assert_eq!(defined("MOVESIG_LONGEST_LINE"), LONGEST_LINE);
+    assert!(header.contains("#define MOVESIG_TREE_ROOM(len) (4 + 42 * (size_t)(len))"));
+    assert_eq!((tree_room(0), tree_room(LONGEST)), (4, 44_040_154));
     assert_eq!(defined("MOVESIG_LEVELS"), LEVELS);
     assert_eq!(defined("MOVESIG_STACK"), STACK);
 }

@@ -1,7 +1,9 @@
-/* How much stack the calls take: on nests of 64 levels and more, of each construct, and on random nests of
- * all of them. MOVESIG_STACK is held to it: at least a fortieth more than what is measured, and at most four
- * tenths. The stack of a thread is painted, and what is no longer paint was used. Then all is asked again in
- * threads that have MOVESIG_STACK bytes beside their own: below them lies a page that nobody may touch.
+/* How much stack the calls take: on nests of 64 levels and more, of each construct, alone, in the longest text,
+ * and round a list that is so long that their tree is wide or that the text is the longest; and on random
+ * nests of all constructs. MOVESIG_STACK is held to it: at least a fortieth more than what is measured, and at
+ * most four tenths. The stack of a thread is painted, and what is no longer paint was used. Then all is asked
+ * again in threads that have MOVESIG_STACK bytes beside their own: below them lies a page that nobody may
+ * touch.
  *
  *     stack [ROUNDS]    so many random nests
  */
@@ -14,12 +16,13 @@
 #include <sys/mman.h>
 
 #define PAGE ((size_t)4096)
-#define STACK ((size_t)512 * 1024)
+#define STACK ((size_t)128 * 1024)
 #define ROUNDS 1000
 #define PAINT 0xa5
 
-static char text[MOVESIG_LONGEST];
-static uint8_t out[MOVESIG_LONGEST];
+static uint8_t text[MOVESIG_LONGEST];
+static size_t length; /* of the text */
+static uint8_t out[MOVESIG_TREE_ROOM(MOVESIG_LONGEST)];
 static uint8_t *stack; /* its lowest byte */
 static size_t size;    /* its bytes: what the thread takes itself, and what a call may take */
 static uint8_t *entry; /* where the thread stood when it made its call */
@@ -29,7 +32,7 @@ static void *token(void *given)
 {
     uint64_t answer[6];
     entry = (uint8_t *)answer;
-    number = movesig_next_token(MOVESIG_EDITION_2, (const uint8_t *)text, strlen(text), 0, answer);
+    number = movesig_next_token(MOVESIG_EDITION_2, text, length, 0, answer);
     return given;
 }
 
@@ -37,7 +40,7 @@ static void *comment(void *given)
 {
     uint64_t answer[6];
     entry = (uint8_t *)answer;
-    number = movesig_next_comment(MOVESIG_EDITION_2, (const uint8_t *)text, strlen(text), 0, answer);
+    number = movesig_next_comment(MOVESIG_EDITION_2, text, length, 0, answer);
     return given;
 }
 
@@ -45,8 +48,7 @@ static void *read_item(void *given)
 {
     uint64_t answer[6];
     entry = (uint8_t *)answer;
-    number = movesig_read(*(uint64_t *)given, MOVESIG_EDITION_2, (const uint8_t *)text, strlen(text), 0, out,
-                          sizeof out, answer);
+    number = movesig_read(*(uint64_t *)given, MOVESIG_EDITION_2, text, length, 0, out, sizeof out, answer);
     return given;
 }
 
@@ -54,8 +56,7 @@ static void *display_item(void *given)
 {
     uint64_t answer[6];
     entry = (uint8_t *)answer;
-    number = movesig_display(*(uint64_t *)given, MOVESIG_EDITION_2, (const uint8_t *)text, strlen(text), 0, out,
-                             sizeof out, answer);
+    number = movesig_display(*(uint64_t *)given, MOVESIG_EDITION_2, text, length, 0, out, sizeof out, answer);
     return given;
 }
 
@@ -78,32 +79,37 @@ static size_t used(void *(*work)(void *), uint64_t kind)
     return (size_t)(entry - clean);
 }
 
+/* What a nest has inside. */
+enum inner { A_TYPE, A_BINDING };
+
 struct nest {
     uint64_t kind;
-    const char *before, *open, *inside, *close, *behind;
+    const char *before, *open;
+    enum inner inner;
+    const char *inside, *close, *behind;
 };
 
 static const struct nest nests[] = {
-    {MOVESIG_TYPE, "", "(", "u8", ")", ""},
-    {MOVESIG_TYPE, "", "(u8, ", "u8", ", u8)", ""},
-    {MOVESIG_TYPE, "", "a<", "u8", "> ", ""},
-    {MOVESIG_TYPE, "", "a<", "u8", ">", ""},
-    {MOVESIG_TYPE, "", "a::b::c<u8, ", "u8", "> ", ""},
-    {MOVESIG_TYPE, "", "& ", "u8", "", ""},
-    {MOVESIG_TYPE, "", "&mut ", "0x1_0::a::b", "", ""},
-    {MOVESIG_TYPE, "", "| | ", "u8", "", ""},
-    {MOVESIG_TYPE, "", "|u8, u8| ", "u8", "", ""},
-    {MOVESIG_TYPE, "", "(|", "u8", "| u8)", ""},
-    {MOVESIG_BIND_LIST, "", "S{f:", "x", "}", ""},
-    {MOVESIG_BIND_LIST, "(x, ", "S<u8>{g, f:", "0x1::a::S{}", "}", ")"},
-    {MOVESIG_LAMBDA_BIND_LIST, "|", "S{f:", "x", "}", "|"},
-    {MOVESIG_LAMBDA_BIND_LIST, "|x, ", "S<u8>{g, f:", "S<u8>{}", "}", "|"},
-    {MOVESIG_BIND_LIST, "S<", "(", "u8", ")", ">{}"},
-    {MOVESIG_BIND_LIST, "(S{f:S<u8, ", "a<", "u8", "> ", ">{}})"},
-    {MOVESIG_LAMBDA_BIND_LIST, "|S<", "& ", "a::b", "", ">{}|"},
+    {MOVESIG_TYPE, "", "(", A_TYPE, "u8", ")", ""},
+    {MOVESIG_TYPE, "", "(u8, ", A_TYPE, "u8", ", u8)", ""},
+    {MOVESIG_TYPE, "", "a<", A_TYPE, "u8", "> ", ""},
+    {MOVESIG_TYPE, "", "a<", A_TYPE, "u8", ">", ""},
+    {MOVESIG_TYPE, "", "a::b::c<u8, ", A_TYPE, "u8", "> ", ""},
+    {MOVESIG_TYPE, "", "& ", A_TYPE, "u8", "", ""},
+    {MOVESIG_TYPE, "", "&mut ", A_TYPE, "0x1_0::a::b", "", ""},
+    {MOVESIG_TYPE, "", "| | ", A_TYPE, "u8", "", ""},
+    {MOVESIG_TYPE, "", "|u8, u8| ", A_TYPE, "u8", "", ""},
+    {MOVESIG_TYPE, "", "(|", A_TYPE, "u8", "| u8)", ""},
+    {MOVESIG_BIND_LIST, "", "S{f:", A_BINDING, "x", "}", ""},
+    {MOVESIG_BIND_LIST, "(x, ", "S<u8>{g, f:", A_BINDING, "0x1::a::S{}", "}", ")"},
+    {MOVESIG_LAMBDA_BIND_LIST, "|", "S{f:", A_BINDING, "x", "}", "|"},
+    {MOVESIG_LAMBDA_BIND_LIST, "|x, ", "S<u8>{g, f:", A_BINDING, "S<u8>{}", "}", "|"},
+    {MOVESIG_BIND_LIST, "S<", "(", A_TYPE, "u8", ")", ">{}"},
+    {MOVESIG_BIND_LIST, "(S{f:S<u8, ", "a<", A_TYPE, "u8", "> ", ">{}})"},
+    {MOVESIG_LAMBDA_BIND_LIST, "|S<", "& ", A_TYPE, "a::b", "", ">{}|"},
 };
 
-static size_t most, accepted;
+static size_t most, accepted, wide;
 
 /* Asks all calls about the text. */
 static void measure(uint64_t kind)
@@ -115,21 +121,69 @@ static void measure(uint64_t kind)
         if (bytes > most)
             most = bytes;
         accepted += call == 2 && number == 0;
+        wide += call == 2 && number == 0 && memcmp(out, "\4\0\143\0", 4) == 0;
     }
 }
 
-/* One construct, so many levels of it. */
-static void measure_nest(const struct nest *nest, int levels)
+/* Puts the word behind the text. */
+static void put(const char *word)
+{
+    size_t bytes = strlen(word);
+    memcpy(text + length, word, bytes);
+    length += bytes;
+}
+
+/* A list of so many types, or of so many fields. */
+static void put_list(enum inner inner, size_t items)
+{
+    put(inner == A_TYPE ? "(" : "S{");
+    while (items-- > 0)
+        put("a,");
+    put(inner == A_TYPE ? ")" : "}");
+}
+
+/* One construct, so many levels of it, round its own leaf or, where there are to be items, a list of them. */
+static void put_nest(const struct nest *nest, int levels, size_t items)
 {
     int level;
-    strcpy(text, nest->before);
+    length = 0;
+    put(nest->before);
     for (level = 0; level < levels; level++)
-        strcat(text, nest->open);
-    strcat(text, nest->inside);
+        put(nest->open);
+    if (items == 0)
+        put(nest->inside);
+    else
+        put_list(nest->inner, items);
     for (level = 0; level < levels; level++)
-        strcat(text, nest->close);
-    strcat(text, nest->behind);
+        put(nest->close);
+    put(nest->behind);
+}
+
+/* Blanks up to the longest text. */
+static void put_blanks(void)
+{
+    memset(text + length, ' ', MOVESIG_LONGEST - length);
+    length = MOVESIG_LONGEST;
+}
+
+/* The nest alone, and round a list whose tree has more records than the narrow form takes; where it is about
+ * as deep as can be, in the longest text; and round the longest list. */
+static void measure_nest(const struct nest *nest, int levels)
+{
+    put_nest(nest, levels, 4100);
     measure(nest->kind);
+    put_nest(nest, levels, 0);
+    measure(nest->kind);
+    if (levels > 60) {
+        put_blanks();
+        measure(nest->kind);
+    }
+    if (levels == (nest->close[0] == '|' ? 30 : 60)) { /* a function type in brackets is two levels */
+        put_nest(nest, levels, 1);
+        put_nest(nest, levels, (MOVESIG_LONGEST - length) / 2);
+        put_blanks();
+        measure(nest->kind);
+    }
 }
 
 static uint64_t state;
@@ -163,19 +217,20 @@ static void measure_mix(void)
     size_t depth = 60 + below(5), bound = below(4) != 0 ? below(depth + 1) : 0, level, same = below(3);
     int lambda = bound != 0 && below(2);
     const struct pair *nest = types;
-    strcpy(text, bound == 0 ? "" : lambda ? "|x, " : below(2) ? "(x, " : "");
+    length = 0;
+    put(bound == 0 ? "" : lambda ? "|x, " : below(2) ? "(x, " : "");
     for (level = 0; level < depth; level++) {
         int last = bound != 0 && level + 1 == bound && bound < depth;
         if (level == 0 || level == bound || below(same * same * 8 + 1) == 0)
             nest = level < bound ? binds + below(sizeof binds / sizeof *binds)
                                  : types + below(sizeof types / sizeof *types);
-        strcat(text, last ? "S<" : nest->open);
+        put(last ? "S<" : nest->open);
         close[level] = last ? ">{}" : nest->close;
     }
-    strcat(text, leaves[below(sizeof leaves / sizeof *leaves)]);
+    put(leaves[below(sizeof leaves / sizeof *leaves)]);
     while (level-- > 0)
-        strcat(text, close[level]);
-    strcat(text, bound == 0 ? "" : lambda ? "|" : ")");
+        put(close[level]);
+    put(bound == 0 ? "" : lambda ? "|" : ")");
     measure(bound == 0 ? MOVESIG_TYPE : lambda ? MOVESIG_LAMBDA_BIND_LIST : MOVESIG_BIND_LIST);
 }
 
@@ -184,12 +239,13 @@ static void measure_all(long rounds)
 {
     size_t i;
     int levels;
-    most = accepted = 0;
+    most = accepted = wide = 0;
     state = 88172645463325252u;
     for (i = 0; i < sizeof nests / sizeof *nests; i++)
         for (levels = 28; levels <= 66; levels++)
             measure_nest(&nests[i], levels);
-    printf("nests: at most %lu bytes of stack, %lu read\n", (unsigned long)most, (unsigned long)accepted);
+    printf("nests: at most %lu bytes of stack, %lu read, %lu of them wide\n", (unsigned long)most,
+           (unsigned long)accepted, (unsigned long)wide);
     while (rounds-- > 0)
         measure_mix();
     printf("in all: at most %lu bytes of stack, %lu read; MOVESIG_STACK is %lu\n", (unsigned long)most,
@@ -218,5 +274,5 @@ int main(int count, char **words)
     printf("in threads of %lu bytes and their own %lu:\n", (unsigned long)MOVESIG_STACK, (unsigned long)own);
     fflush(stdout);
     measure_all(rounds);
-    return accepted == before && accepted > 100 ? 0 : 1;
+    return accepted == before && accepted > 100 && wide > 10 ? 0 : 1;
 }

@@ -1,7 +1,7 @@
 -- What the functions of a call answer, and what they leave in the buffer.
-use Prim.Native.Nat.{ℕ, _≤_}
+use Prim.Native.Nat.{ℕ, _+_, _*_, _/_, _≤_, min}
 use mathlib.Core.Path.{_≡_}
-use mathlib.Core.Bool.{cond, _&&_}
+use mathlib.Core.Bool.{Bool, cond, _&&_}
 use mathlib.Core.List.{List}
 use lib.Dec.{eqb, ltb}
 use lib.ListN.{length, take}
@@ -17,14 +17,19 @@ use Rattle.tokens.specs.declared.Refusal.{Refusal}
 use Rattle.tokens.specs.declared.Lexed.{Lexed}
 use Rattle.tokens.specs.declared.Lexed.the-variants.{Found, Refused as Bad}
 use Rattle.records.specs.Tree.{Tree}
-use Rattle.sources.specs.Source.{Token}
+use Rattle.records.specs.Stored.{records}
+use Rattle.sources.specs.Source.{Token, tokenOf}
 use Rattle.grammar.specs.Items.{Item, item, refused, readKind, finished, readItem}
-use Rattle.forms.specs.Forms.{laid}
+use Rattle.forms.specs.Forms.{FormNarrow, FormWide, isLine, front, written, narrowLimit}
+use Rattle.forms.specs.code.Spots.{last, cap, Placed}
 use Rattle.forms.specs.declared.Spot.{Spot}
-use Rattle.parts.specs.code.Meets.{Fits, held}
-use Rattle.calls.specs.Calls.{roomed, written, answeredIn, display, displayBuffer, displayed}
+use Rattle.parts.specs.declared.Parsed.{Parsed}
+use Rattle.parts.specs.code.Meets.{Fits, held, Reads}
+use Rattle.calls.specs.Calls.{lineLimit, roomed, filled, answeredIn, display, displayBuffer, displayed}
 use Rattle.calls.specs.declared.Answer.{Answer}
-use Rattle.calls.specs.declared.Answer.the-variants.{Refused}
+use Rattle.calls.specs.declared.Answer.the-variants.{Item as Accepted, Refused}
+use Rattle.calls.specs.declared.Made.{Made}
+use Rattle.calls.specs.declared.Made.the-variants.{Whole, Answered}
 use Rattle.calls.specs.declared.Displayed.{Displayed}
 use Rattle.calls.specs.declared.Displayed.the-variants.{Refused as Undisplayed}
 
@@ -39,22 +44,63 @@ atStart = record { pos = 0; low = 0 }
 abbrev pub itemFrom : ℕ → ℕ → List ℕ → First → Item
 itemFrom kind ed text a = finished (readKind kind (held ed text a))
 
--- an item that is accepted is written in front of the buffer l, which becomes m: n is its length, and `made` begins with its bytes if
--- it has so many
-abbrev pub Writes : ℕ → ℕ → ℕ → List ℕ → First → ℕ → List ℕ → List ℕ → List ℕ → Type 0
-Writes form kind ed text a n made l m = Fits text a → (x : Tree) (t : Token) → itemFrom kind ed text a ≡ item x t → (n ≤ length made → take n made ≡ laid form x) → m ≡ sets l 0 (laid form x)
+-- a tree of n bytes in the form is too long for it, so that it becomes wide
+abbrev pub outgrown : ℕ → ℕ → Bool
+outgrown form n = eqb form FormNarrow && ltb narrowLimit n
 
--- the answer for an item i in a form, over a buffer l that becomes m
-pub record Gives (form : ℕ) (i : Item) (l : List ℕ) (r : Answer) (m : List ℕ) : Type 0 where
-  pub answer : r ≡ answeredIn form (roomed form (length l) i)
-  pub buffer : m ≡ written form (roomed form (length l) i) l
+-- the form in which an item is laid down first, and, by that, the one in which it is written at last; and the room for that
+abbrev pub firstForm : List ℕ → ℕ
+firstForm text = cond (ltb narrowLimit (length text)) FormWide FormNarrow
+
+abbrev pub lastForm : ℕ → Tree → ℕ
+lastForm form x = cond (outgrown form (8 * records x)) FormWide form
+
+abbrev pub roomIn : ℕ → ℕ → ℕ
+roomIn form room = cond (isLine form) (min room lineLimit) room
+
+-- the wide length of a tree that has n bytes in the narrow form
+abbrev pub widened : ℕ → ℕ
+widened n = cap (4 + 14 * (n / 8))
+
+-- the item of a first token is laid down at the front of a buffer l, which becomes m, behind what stands in front in the form
+pub record LaidDown (form kind ed : ℕ) (text : List ℕ) (a : First) (l : List ℕ) (r : Parsed) (m : List ℕ) : Type 0 where
+  pub from : Spot
+  pub fronted : List ℕ
+  pub short : length l ≤ last
+  pub inFront : Placed l atStart (front form) from fronted
+  pub reads : Reads form ed text (Fits text a) (readKind kind (held ed text a)) (a .end) from fronted r m
+
+-- the answer for an item i in a form and a room, over a buffer l that becomes m
+pub record Gives (form : Tree → ℕ) (room : ℕ) (i : Item) (l : List ℕ) (r : Answer) (m : List ℕ) : Type 0 where
+  pub answer : r ≡ answeredIn form (roomed form room i)
+  pub buffer : m ≡ filled form (roomed form room i) l
+
+-- for an item that has n bytes in the narrow form and is written wide
+abbrev pub Widens : ℕ → ℕ → List ℕ → First → ℕ → First → List ℕ → Answer → List ℕ → Type 0
+Widens kind ed text a n next l r m =
+    Fits text a → (x : Tree) (t : Token) → itemFrom kind ed text a ≡ item x t → tokenOf t ≡ next → n ≡ cap (8 * records x) → Gives (λ _. FormWide) (length l) (item x t) l r m
+
+-- for an item that has n bytes in the form in which it is laid down first
+abbrev pub Longer : ℕ → ℕ → ℕ → List ℕ → First → ℕ → First → List ℕ → Answer → List ℕ → Type 0
+Longer form kind ed text a n next l r m =
+    Fits text a → (x : Tree) (t : Token) → itemFrom kind ed text a ≡ item x t → tokenOf t ≡ next → n ≡ cap (length (written form x))
+    → Gives (lastForm form) (roomIn form (length l)) (item x t) l r m
 
 -- for the item of a first token, where that fits; and for the item at an offset, where the token is the one found there
 abbrev pub Lays : ℕ → ℕ → ℕ → List ℕ → First → List ℕ → Answer → List ℕ → Type 0
-Lays form kind ed text a l r m = Fits text a → Gives form (itemFrom kind ed text a) l r m
+Lays form kind ed text a l r m = Fits text a → Gives (lastForm form) (roomIn form (length l)) (itemFrom kind ed text a) l r m
+
+-- what an item that was laid down in a buffer of the call's own answers, and what it leaves in the lent buffer
+unfoldable pub answerOf : Made → Answer
+answerOf (Whole n t) = Accepted n t
+answerOf (Answered r) = r
+
+unfoldable pub bufferOf : Made → List ℕ → List ℕ → List ℕ
+bufferOf (Whole n t) made l = sets l 0 (take n made)
+bufferOf (Answered r) made l = l
 
 abbrev pub Calls : ℕ → ℕ → ℕ → List ℕ → ℕ → Lexed → List ℕ → Answer → List ℕ → Type 0
-Calls form kind ed text at first l r m = first ≡ nextToken ed text at → Gives form (readItem kind ed text at) l r m
+Calls form kind ed text at first l r m = first ≡ nextToken ed text at → Gives (lastForm form) (roomIn form (length l)) (readItem kind ed text at) l r m
 
 -- where the bytes of a token that a line can hold end
 abbrev pub shownEnd : List ℕ → First → ℕ

@@ -21,7 +21,7 @@ slice-aggregate-as-written c =
     let c₂ = c₁ .before .before .before .before in
     let c₃ = c₂ .before .before in
     let c₄ = c₃ .before .before .before in
-    patched 2048 (c₄ .args .room) (c₁ .item-result .last .1 .1 .1 .1 .1 .0) (c₂ .fill .last .0) (c₁ .item-result .kept .1 .1 .1 .1 .1 .0) (omega (arith, c₂ .fill .kept .0, c₃ .if1 .left))
+    patched _ (c₄ .args .room) (c₁ .item-result .last .1 .1 .1 .1 .1 .0) (c₂ .fill .last .0) (c₁ .item-result .kept .1 .1 .1 .1 .1 .0) (omega (arith, c₂ .fill .kept .0, c₃ .if1 .left))
     (omega (arith, c₂ .fill .kept .0))
 
 pub item-answers-spec : {M : Type 1} → statement M

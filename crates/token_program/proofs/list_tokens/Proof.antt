@@ -15,7 +15,7 @@ abbrev μ-loop : tie.MeasureT-loop
 μ-loop text out₀ at₀ pos₀ out at pos = length text - at
 
 loop-holds : tie.Need-loop-holds Inv-loop μ-loop
-loop-holds c = begun _ _
+loop-holds c = begun _ _ (c .before .before .pre)
 
 same-length : tie.Need-same-length Inv-loop μ-loop
 same-length c = written-long _ _ _ _ _ (with-refusal _ _ _ _ _ (c .before .before .before .before .before .before .before .before .loop .inv) _ _ _ (sym (c .before .before .before .before .before .before .before .next-token .ensures) ∙ c .before .before .before .before .before .t .given .1) (c .before .before .put-refusal .ensures .0))

@@ -6,7 +6,7 @@ use Rattle.token_program.proofs.main.Statement.{statement}
 use Rattle.token_program.proofs.main.Tie as tie
 
 slice-aggregate-write-all : tie.Need-slice-aggregate-write-all
-slice-aggregate-write-all c = sym (length-take-le (c .before .before .list-tokens .result) (c .before .before .list-tokens .last .1 .0) (omega arith))
+slice-aggregate-write-all c = sym (length-take-le (c .before .before .print-tokens .result) (c .before .before .print-tokens .last .1 .0) (omega arith))
 
 pub main-spec : {M : Type 1} → statement M
 main-spec =

@@ -28,6 +28,9 @@ pub fn lines(call: ItemCall) -> String {
     levels(&mut sample);
     random_items(&mut sample);
     strings(&mut sample);
+    if call == ItemCall::Read {
+        wide(&mut sample);
+    }
     sample.lines
 }
 
@@ -217,6 +220,15 @@ fn strings(sample: &mut Sample) {
     for text in STRINGS {
         sample.ask(ItemKind::Value as u64, text.as_bytes(), 0);
     }
+}
+
+/// Reads whose trees are wide: for the length of the text, at an offset past 65,536, and for the number
+/// of records. Each with just enough room alone, since their lines are long.
+fn wide(sample: &mut Sample) {
+    let far = " ".repeat(65_536) + "a";
+    sample.add(ItemKind::Type as u64, far.as_bytes(), 65_536, 32);
+    let tuple = format!("(&a,{})", "a,".repeat(4_094));
+    sample.add(ItemKind::Type as u64, tuple.as_bytes(), 0, 114_692);
 }
 
 const NAMES: &[&str] = &[

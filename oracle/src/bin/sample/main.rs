@@ -33,7 +33,10 @@ fn main() {
 /// Prints the lines that are none of the points'.
 fn print_new(points: &str, lines: &str) {
     let taken: BTreeSet<_> = points.lines().collect();
-    lines.lines().filter(|line| !taken.contains(line)).for_each(print_first);
+    lines
+        .lines()
+        .filter(|line| !taken.contains(line))
+        .for_each(print_first);
 }
 
 /// Prints a line, which has the call's letter first, as one of edition 1.

@@ -1,4 +1,5 @@
 //! Random texts, lengths, offsets, kinds, editions and rooms, between bytes that must stay as they are.
+//! Some texts are as long as those from which trees are wide, and some as long as a text may be, or longer.
 //! The boundary is asked and not the crate's own functions, so that kinds that no `Kind`
 //! names and editions that no `Edition` names are asked too, and every number of an answer is seen.
 
@@ -36,6 +37,9 @@ fn display(kind: u64, edition: u64, text: &[u8], at: usize, line: &mut [u8]) -> 
 
 const ROUNDS: usize = 100_000;
 const BESIDE: usize = 16;
+
+/// Enough for the trees of the lists that are made here; more than any line.
+const MOST_ROOM: usize = 200_000;
 
 /// A small generator of numbers (xorshift64*), so that each run is the same.
 struct Random(u64);
@@ -100,21 +104,44 @@ const WORDS: [&[u8]; 40] = [
     b"\xff",
 ];
 
+const ITEMS: [&[u8]; 7] = [
+    b"a",
+    b"0x1::b",
+    b"@0x1",
+    b"a<u8>",
+    b"(x, S {f: y})",
+    b"|x|",
+    b"| |",
+];
+
+/// The bytes over and over, so many in all.
+fn repeated(bytes: &[u8], length: usize) -> Vec<u8> {
+    let mut all = bytes.repeat(length.div_ceil(bytes.len()));
+    all.truncate(length);
+    all
+}
+
 fn text_of(random: &mut Random) -> Vec<u8> {
-    let mut text = vec![];
-    match random.below(1_000) {
-        0..100 => text.extend((0..random.below(40)).map(|_| random.next() as u8)),
-        100 => {
-            let word = random.of(&WORDS);
-            let length = 65_530 + random.below(10);
-            while text.len() < length {
-                text.extend_from_slice(word);
-            }
-            text.truncate(length);
+    match random.below(4_000) {
+        0..400 => (0..random.below(40)).map(|_| random.next() as u8).collect(),
+        // about as long as those from which trees are wide
+        400..404 => repeated(random.of(&WORDS), 65_530 + random.below(10)),
+        404..454 => {
+            let mut text = repeated(b" ", 65_530 + random.below(10));
+            let item = random.of(&ITEMS);
+            text[..item.len()].copy_from_slice(item);
+            text
         }
-        _ => (0..random.below(24)).for_each(|_| text.extend_from_slice(random.of(&WORDS))),
+        // lists whose trees have about as many records as those that are wide
+        454..479 => format!("({})", "a,".repeat(4_090 + random.below(10))).into(),
+        479..504 => format!("S {{{}}}", "a,".repeat(2_725 + random.below(10))).into(),
+        // the longest, or too long
+        504 => repeated(random.of(&WORDS), crate::LONGEST + random.below(3)),
+        _ => {
+            let words = (0..random.below(24)).map(|_| random.of(&WORDS));
+            words.collect::<Vec<_>>().concat()
+        }
     }
-    text
 }
 
 fn offset_of(random: &mut Random, length: usize) -> usize {
@@ -141,7 +168,7 @@ fn edition_of(random: &mut Random) -> u64 {
 
 /// Which of 1, 2, 3 and 19 is due by what is asked, if any. A call without a kind has none here.
 fn asked_wrongly(kind: Option<u64>, edition: u64, text: &[u8], at: usize) -> Option<u32> {
-    if text.len() > 65_535 {
+    if text.len() > crate::LONGEST {
         Some(1)
     } else if at > text.len() {
         Some(2)
@@ -168,11 +195,13 @@ fn refused_well(number: u32, values: [usize; 6], text: &[u8], allowed: &[u32]) {
 #[test]
 fn token_and_comment() {
     let mut random = Random(1);
+    let mut too_long = 0;
     for _ in 0..ROUNDS {
         let text = text_of(&mut random);
         let at = offset_of(&mut random, text.len());
         let edition = edition_of(&mut random);
         let wrong = asked_wrongly(None, edition, &text, at);
+        too_long += usize::from(wrong == Some(1));
         let (number, values) = next_token(edition, &text, at);
         match number {
             _ if wrong.is_some() => assert_eq!((Some(number), values), (wrong, [0; 6])),
@@ -198,12 +227,55 @@ fn token_and_comment() {
             _ => refused_well(number, values, &text, &[6]),
         }
     }
+    assert!(too_long > 0);
+}
+
+/// What is asked of a call that is lent a buffer.
+struct Question<'t> {
+    ask: fn(u64, u64, &[u8], usize, &mut [u8]) -> Answer,
+    kind: u64,
+    edition: u64,
+    text: &'t [u8],
+    at: usize,
+}
+
+impl Question<'_> {
+    /// The answer with so much room, and the bytes of the buffer that it has. All the others, and those
+    /// beside the buffer, must stay as they are.
+    fn asked_in<'w>(&self, whole: &'w mut [u8], room: usize, fill: u8) -> (Answer, &'w [u8]) {
+        let used = &mut whole[..room + 2 * BESIDE];
+        used.fill(fill);
+        let lent = &mut used[BESIDE..BESIDE + room];
+        let (number, values) = (self.ask)(self.kind, self.edition, self.text, self.at, lent);
+        let written = if number == 0 { values[0] } else { 0 };
+        assert!(written <= room);
+        let kept = |place: &[u8]| place.iter().all(|&byte| byte == fill);
+        assert!(kept(&used[..BESIDE]), "bytes before the buffer");
+        assert!(kept(&used[BESIDE + written..]), "bytes behind");
+        ((number, values), &used[BESIDE..BESIDE + written])
+    }
+}
+
+/// Its record has the tree's length, and its form is the one that is due; whether it is wide.
+fn tree_is_well(tree: &[u8], text: &[u8]) -> bool {
+    let (length, front, head) = match tree.strip_prefix(&[4, 0, 99, 0]) {
+        Some(record) => (&record[..4], 4, 14),
+        None => (&tree[..2], 0, 8),
+    };
+    let length = length
+        .iter()
+        .rev()
+        .fold(0, |high, &low| high << 8 | low as usize);
+    assert_eq!((front + length, length % head), (tree.len(), 0));
+    let wide = front == 4;
+    assert_eq!(wide, text.len() > 65_535 || tree.len() > 65_535);
+    wide
 }
 
 fn with_a_buffer(seed: u64, ask: fn(u64, u64, &[u8], usize, &mut [u8]) -> Answer, tree: bool) {
     let mut random = Random(seed);
-    let mut whole = vec![0; 65_600 + 2 * BESIDE];
-    let mut spoiled = 0;
+    let mut whole = vec![0; MOST_ROOM + 2 * BESIDE];
+    let (mut too_long, mut wide, mut spoiled) = (0, 0, 0);
     for _ in 0..ROUNDS {
         let text = text_of(&mut random);
         let at = offset_of(&mut random, text.len());
@@ -215,34 +287,42 @@ fn with_a_buffer(seed: u64, ask: fn(u64, u64, &[u8], usize, &mut [u8]) -> Answer
             other => other as u64 % 5 + 1,
         };
         let room = match random.below(1_000) {
+            0..500 if text.len() > 5_000 => MOST_ROOM,
             0..100 => 0,
             100 => 65_535,
-            101 => 65_600,
+            101 => MOST_ROOM,
             _ => random.below(400),
         };
         let edition = edition_of(&mut random);
-        let wrong = asked_wrongly(Some(kind), edition, &text, at);
         let fill = random.next() as u8;
-        let used = &mut whole[..room + 2 * BESIDE];
-        used.fill(fill);
-        let (number, values) = ask(kind, edition, &text, at, &mut used[BESIDE..BESIDE + room]);
-        let mut written = 0;
-        if wrong.is_some() {
-            assert_eq!((Some(number), values), (wrong, [0; 6]));
+        let question = Question {
+            ask,
+            kind,
+            edition,
+            text: &text,
+            at,
+        };
+        let ((number, values), written) = question.asked_in(&mut whole, room, fill);
+        if let Some(wrong) = asked_wrongly(Some(kind), edition, &text, at) {
+            assert_eq!((number, values), (wrong, [0; 6]));
+            too_long += usize::from(wrong == 1);
         } else if number == 0 {
             let [length, token, start, end, rest @ ..] = values;
-            written = length;
-            assert!(written <= room && written <= 65_535);
             assert_eq!(rest, [0; 2]);
             if tree {
                 assert!(token <= 67 && inside(start, end, &text));
-                let low_first = [used[BESIDE], used[BESIDE + 1]];
-                assert_eq!(u16::from_le_bytes(low_first) as usize, written);
+                wide += usize::from(tree_is_well(written, &text));
             } else {
                 assert_eq!([token, start, end], [0; 3]);
-                let line = &used[BESIDE..BESIDE + written];
-                assert!(line.iter().all(|byte| (32..=126).contains(byte)));
+                assert!(length <= crate::LONGEST_LINE);
+                assert!(written.iter().all(|byte| (32..=126).contains(byte)));
             }
+            // the room that it takes is enough, and one byte less is not
+            let written = written.to_vec();
+            let exact = question.asked_in(&mut whole, length, fill);
+            assert_eq!(exact, ((0, values), &written[..]));
+            let (less, _) = question.asked_in(&mut whole, length - 1, fill);
+            assert_eq!(less, (4, [0; 6]));
         } else {
             let mut allowed: Vec<u32> = (4..=14).collect();
             if !tree {
@@ -255,10 +335,9 @@ fn with_a_buffer(seed: u64, ask: fn(u64, u64, &[u8], usize, &mut [u8]) -> Answer
                 spoiled += 1;
             }
         }
-        let outside = |place: &[u8]| place.iter().all(|&byte| byte == fill);
-        assert!(outside(&used[..BESIDE]), "bytes before the buffer");
-        assert!(outside(&used[BESIDE + written..]), "bytes behind");
     }
+    assert!(too_long > 0);
+    assert_eq!(wide > 0, tree, "{wide} wide trees");
     assert_eq!(spoiled > 0, !tree, "{spoiled} displays refused with 18");
 }
 
@@ -287,7 +366,7 @@ fn empty_everything() {
 /// A number that is no edition is 19, behind 1, 2 and 3 and before what the text says.
 #[test]
 fn no_edition() {
-    let long = vec![b'$'; 65_536];
+    let long = vec![b'$'; crate::LONGEST + 1];
     for edition in [0, 3, u64::MAX] {
         assert_eq!(next_token(edition, b"$", 0), (19, [0; 6]));
         assert_eq!(next_comment(edition, b"/*", 0), (19, [0; 6]));

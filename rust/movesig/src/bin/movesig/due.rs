@@ -84,8 +84,8 @@ fn fitting(item: Item, before: &[u8], refusal: &Refusal) -> Vec<&'static str> {
 /// with neither.
 fn fits(item: Item, before: &[u8], token: &str) -> bool {
     let text = [before, b"\n", token.as_bytes()].concat();
-    let mut buffer = vec![0; LONGEST];
-    match read(item.kind, item.edition, &text, 0, &mut buffer) {
+    // 4 comes last: where there is no room, all was read
+    match read(item.kind, item.edition, &text, 0, &mut []) {
         Ok(_) | Err(Refusal::NoRoom) => true,
         Err(refusal) => refusal.place().start > before.len() + 1,
     }

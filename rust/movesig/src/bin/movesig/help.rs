@@ -108,14 +108,14 @@ bytes that are not UTF-8 become U+FFFD, and the spans tell which they are.
   read      file, item, at, tree, next, notes
   line      file, item, at, shown (the line), next, notes
   tree      record (its kind), number, start, end, text (of a leaf), children
-  next      token, number, start, end, text; line leaves it out where the tree
-            is too long to be read
+  next      token, number, start, end, text
   notes     a list of at and note
   refusal   file, item and at (of read and line), refused (its number), reason;
             by the text: start, end, line, column, second (start, end, line,
             column; where it is another place), found (as next) and due (a list
             of words) where a token is at fault, notes (of read and line); else
-            limit and, where it is known, length
+            limit, of the text or of the line, and, where it is known, the
+            text's length
   failure   file, error: it cannot be read, or has no such place
 ",
     ),

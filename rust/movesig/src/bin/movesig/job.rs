@@ -11,8 +11,12 @@ use crate::{
     text::{self, Text},
     visible, Said,
 };
-use movesig::{comments, display, read, tokens, Edition, Following, Kind, Refusal, LONGEST};
+use movesig::{
+    comments, display, read, tokens, tree_room, Edition, Following, Kind, Refusal, LONGEST,
+    LONGEST_LINE,
+};
 use std::{
+    cell::OnceCell,
     env,
     ffi::OsString,
     io::{self, IsTerminal},
@@ -153,20 +157,20 @@ impl Job {
     }
 
     fn tree(&self, text: &Text, item: Item, said: &mut Said) -> Result<(), Refusal> {
-        let mut buffer = vec![0; LONGEST];
+        let mut buffer = vec![0; tree_room(text.bytes.len())];
         let found = read(item.kind, item.edition, &text.bytes, item.at, &mut buffer)?;
-        let beside = Beside::new(&text.bytes, item, Some(found.next));
+        let beside = Beside::new(&text.bytes, item, found.next);
         self.item(text, item, &Answer::Tree(found.tree), &beside, said);
         Ok(())
     }
 
     fn line(&self, text: &Text, item: Item, said: &mut Said) -> Result<(), Refusal> {
-        let mut buffer = vec![0; LONGEST];
+        let mut buffer = vec![0; LONGEST_LINE];
         let line = display(item.kind, item.edition, &text.bytes, item.at, &mut buffer)?;
-        let mut tree = vec![0; LONGEST];
-        let found = read(item.kind, item.edition, &text.bytes, item.at, &mut tree);
-        let next = found.ok().map(|found| found.next);
-        let beside = Beside::new(&text.bytes, item, next);
+        let mut tree = vec![0; tree_room(text.bytes.len())];
+        // which tells the token that follows
+        let found = read(item.kind, item.edition, &text.bytes, item.at, &mut tree)?;
+        let beside = Beside::new(&text.bytes, item, found.next);
         self.item(text, item, &Answer::Line(line), &beside, said);
         Ok(())
     }
@@ -177,9 +181,7 @@ impl Job {
             return;
         }
         let mut following = String::new();
-        if let Some(next) = beside.next {
-            outline::following(&text.bytes, next, &mut following);
-        }
+        outline::following(&text.bytes, beside.next, &mut following);
         match answer {
             Answer::Tree(tree) => {
                 outline::tree(*tree, 0, &mut said.output);
@@ -192,9 +194,7 @@ impl Job {
                 } else {
                     String::new()
                 };
-                if !following.is_empty() {
-                    said.errors += &(name + &following);
-                }
+                said.errors += &(name + &following);
             }
         }
         put_notes(&self.report(text, Some(item)), &beside.notes, said);
@@ -205,11 +205,7 @@ impl Job {
             name: self.name(),
             text,
             item,
-            answer: if matches!(self.work, Work::Read(_)) {
-                "tree"
-            } else {
-                "line"
-            },
+            places: OnceCell::new(),
             screen: screen(),
             paint: Paint::on(io::stderr().is_terminal()),
         }
@@ -230,8 +226,8 @@ impl Job {
 }
 
 impl Beside {
-    fn new(text: &[u8], item: Item, next: Option<Following>) -> Beside {
-        let end = next.map_or(item.at, |next| next.span.start);
+    fn new(text: &[u8], item: Item, next: Following) -> Beside {
+        let end = next.span.start;
         let mut notes: Vec<_> = notes::offset(item.edition, text, item.at)
             .into_iter()
             .collect();

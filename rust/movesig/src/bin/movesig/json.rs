@@ -6,7 +6,7 @@ use crate::{
     places::Places,
     text::Text,
 };
-use movesig::{Comment, Following, Refusal, Span, Token, Tree, LONGEST};
+use movesig::{Comment, Following, Refusal, Span, Token, Tree, LONGEST, LONGEST_LINE};
 use std::fmt::Write;
 
 /// An object that is being written.
@@ -115,14 +115,15 @@ pub fn comment(file: &[u8], text: &[u8], places: &Places, comment: Comment) -> S
 pub fn item(file: &[u8], text: &[u8], item: Item, answer: &Answer, beside: &Beside) -> String {
     let object = Object::of(file).item(item);
     let object = match answer {
-        Answer::Tree(tree) => object.raw("tree", &record(*tree)),
+        Answer::Tree(tree) => {
+            let mut records = String::new();
+            put_record(*tree, &mut records);
+            object.raw("tree", &records)
+        }
         Answer::Line(line) => object.text("shown", line),
     };
-    let object = match beside.next {
-        Some(next) => object.raw("next", &following(next, text)),
-        None => object,
-    };
-    object.notes(&beside.notes).line()
+    let next = following(beside.next, text);
+    object.raw("next", &next).notes(&beside.notes).line()
 }
 
 pub enum Answer<'a> {
@@ -130,9 +131,9 @@ pub enum Answer<'a> {
     Line(&'a [u8]),
 }
 
-/// What is beside an item: the token that follows, where it is known, and what is to be noted.
+/// What is beside an item: the token that follows, and what is to be noted.
 pub struct Beside {
-    pub next: Option<Following>,
+    pub next: Following,
     pub notes: Vec<Note>,
 }
 
@@ -145,7 +146,8 @@ fn following(token: Following, text: &[u8]) -> String {
         .end()
 }
 
-fn record(tree: Tree) -> String {
+/// Writes each record once: a child is not copied again for every level above it.
+fn put_record(tree: Tree, to: &mut String) {
     let object = Object::new()
         .text("record", tree.kind().name().as_bytes())
         .number("number", tree.kind().number().into())
@@ -154,7 +156,14 @@ fn record(tree: Tree) -> String {
         Some(spelling) => object.text("text", spelling),
         None => object,
     };
-    object.list("children", tree.children().map(record)).end()
+    *to += &["{", &object.0, ",\"children\":["].concat();
+    for (index, child) in tree.children().enumerate() {
+        if index > 0 {
+            *to += ",";
+        }
+        put_record(child, to);
+    }
+    *to += "]}";
 }
 
 /// That a file cannot be read.
@@ -171,6 +180,9 @@ pub fn refusal(file: &[u8], text: &Text, item: Option<Item>, refusal: &Refusal) 
     object = object
         .number("refused", refusal.number() as usize)
         .text("reason", refusal.reason().as_bytes());
+    if let Refusal::NoRoom = refusal {
+        return object.number("limit", LONGEST_LINE).line();
+    }
     if refusal.is_by_caller() {
         if let Some(length) = length {
             object = object.raw("length", &length.to_string());

@@ -7,8 +7,8 @@ use crate::{
     text::Text,
     visible::{self, Piece},
 };
-use movesig::{Refusal, Span, LONGEST};
-use std::fmt::Write;
+use movesig::{Refusal, Span, LONGEST_LINE};
+use std::{cell::OnceCell, fmt::Write};
 
 /// What a report is about, and how it is shown.
 pub struct Report<'a> {
@@ -17,8 +17,8 @@ pub struct Report<'a> {
     pub text: &'a Text,
     /// The item that was asked for, if any.
     pub item: Option<Item>,
-    /// What is asked for, where it is too long: `tree` or `line`.
-    pub answer: &'a str,
+    /// Those of the text, counted once, where the first place is told.
+    pub places: OnceCell<Places>,
     /// The screen's columns.
     pub screen: usize,
     pub paint: Paint,
@@ -56,7 +56,8 @@ impl Report<'_> {
 
     /// As `FILE:LINE:COLUMN (byte OFFSET)`.
     pub fn place(&self, byte: usize) -> String {
-        let (line, column) = Places::new(&self.text.bytes).of(byte);
+        let places = || Places::new(&self.text.bytes);
+        let (line, column) = self.places.get_or_init(places).of(byte);
         let place = format!("{}:{line}:{column}", self.name);
         format!("{} (byte {byte})", self.paint.bold(&place))
     }
@@ -66,7 +67,8 @@ impl Report<'_> {
         match refusal {
             Refusal::TextTooLong => format!("{reason}: it has {}", self.text.length()),
             Refusal::StartPastEnd => format!("{reason}, which is at {}", self.text.bytes.len()),
-            Refusal::NoRoom => format!("{} over {LONGEST} bytes", self.answer),
+            // a tree is lent room for every tree of its text
+            Refusal::NoRoom => format!("line over {LONGEST_LINE} bytes"),
             _ => reason.to_string(),
         }
     }
