@@ -6,7 +6,7 @@ use Prim.Native.Nat.{ℕ, zero, suc, _+_, _-_, _<_, _≤_}
 use native.Mathlib.Omega.{arith}
 use native.Mathlib.Numerals.{add-one}
 use native.Mathlib.Nat.{add-zero, not-suc-le-zero}
-use lib.ListN.{length, getD, take, drop, drop-of-length-le, length-drop}
+use lib.ListN.{length, getD, take, drop-of-length-le}
 use lib.Seq.{drop-cons, getD-take, length-take-le}
 use Rattle.classes.specs.Run.{runLen, runEnd}
 
@@ -65,20 +65,12 @@ module _ (f : ℕ → Bool) (text : List ℕ) (at : ℕ) where
   unfolding runEnd
   run-from = omega arith
 
-  pub run-to : at ≤ length text → runEnd f text at ≤ length text
-  unfolding runEnd
-  run-to h = omega (arith, simp length-drop at (run-short f (drop at text)))
-
 -- two tests that agree have the same runs
 module _ (f g : ℕ → Bool) (e : (b : ℕ) → f b ≡ g b) where
   pub len-same : (s : List ℕ) → runLen f s ≡ runLen g s
   unfolding runLen
   len-same [] = refl
   len-same (a ∷ s) = rw (e a, len-same s)
-
-  pub run-same : (text : List ℕ) (at : ℕ) → runEnd f text at ≡ runEnd g text at
-  unfolding runEnd
-  run-same text at = rw (len-same (drop at text))
 
 -- a run in the bytes before e, step by step; it is the run in the text, or reaches e
 module _ (f : ℕ → Bool) (text : List ℕ) (e : ℕ) (h : e ≤ length text) where

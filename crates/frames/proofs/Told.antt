@@ -118,23 +118,8 @@ field-told (suc n) bind a =
     (λ _. tt)
 
 -- as the law of the record of kind 22 takes them
-pub type-is-type : (n : ℕ) (a : Token) (x : Tree) (u : Source) → readType n a ≡ ok x u → isType (kindOfBuild (build x)) ≡ true
-type-is-type n a x u h = subst (Told isType) h (type-told n a)
-
-pub field-is-field : (n : ℕ) (bind : Reader) (a : Token) (x : Tree) (u : Source) → readField n bind a ≡ ok x u → isField (kindOfBuild (build x)) ≡ true
-field-is-field n bind a x u h = subst (Told isField) h (field-told n bind a)
-
-pub types-are-types : (n close : ℕ) (o : Token) (f : ℕ) (l : Scanned) (ts : Trees) (u : Source) → list (readType n) close o f l ≡ ok ts u → Every isType ts
-types-are-types n close o f l ts u h = list-every isType (readType n) (type-told n) close o f l ts u h
-
-pub fields-are-fields : (n : ℕ) (bind : Reader) (close : ℕ) (o : Token) (f : ℕ) (l : Scanned) (fs : Trees) (u : Source) → list (readField n bind) close o f l ≡ ok fs u → Every isField fs
-fields-are-fields n bind close o f l fs u h = list-every isField (readField n bind) (field-told n bind) close o f l fs u h
-
 pub types-behind : (n close : ℕ) (o : Token) (ts : Trees) (u : Source) → listBehind (readType n) close o ≡ ok ts u → Every isType ts
 types-behind n close o ts u h = behind-every isType (readType n) (type-told n) close o ts u h
-
-pub fields-behind : (n : ℕ) (bind : Reader) (close : ℕ) (o : Token) (fs : Trees) (u : Source) → listBehind (readField n bind) close o ≡ ok fs u → Every isField fs
-fields-behind n bind close o fs u h = behind-every isField (readField n bind) (field-told n bind) close o fs u h
 
 pub fields-every : (type : Reader) (n : ℕ) (bind : Reader) (o : Token) (fs : Trees) (u : Source) → fields type (readField n bind) o ≡ ok fs u → Every isField fs
 unfolding fields

@@ -3,4 +3,3 @@ pub mod Pieces
 pub mod Sizes
 pub mod Nesting
 pub mod Runs
-pub mod Children

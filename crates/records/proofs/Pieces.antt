@@ -1,14 +1,13 @@
 -- A record's head, written piece by piece.
-use mathlib.Core.Path.{_≡_, refl, sym, _∙_}
-use mathlib.Core.List.{List, [], _++_, append-nil}
+use mathlib.Core.Path.{_≡_, sym, _∙_}
+use mathlib.Core.List.{List, _++_}
 use Prim.Native.Nat.{ℕ, _+_, _/_, _%_}
 use native.Mathlib.Omega.{arith}
 use native.Mathlib.Numerals.{add-one}
-use lib.ListN.{length, set, length-append}
+use lib.ListN.{length, set}
 use lib.Seq.{sets}
 use Rattle.buffer.proofs.Sets.{sets-append}
-use Rattle.records.specs.Tree.{Tree, node, none, more}
-use Rattle.records.specs.Stored.{two, span, header, stored, storedAll, number, headOf}
+use Rattle.records.specs.Stored.{two, span, header, number, headOf}
 
 pub two-pieces : (l m n : List ℕ) (i v : ℕ) → m ≡ set l i (v % 256) → n ≡ set m (i + 1) (v / 256 % 256) → n ≡ sets l i (two v)
 unfolding two
@@ -16,10 +15,6 @@ two-pieces l m n i v e f = rw (f, e, add-one i)
 
 pub both : (l m n xs ys : List ℕ) (i : ℕ) → m ≡ sets l i xs → n ≡ sets m (i + length xs) ys → n ≡ sets l i (xs ++ ys)
 both l m n xs ys i e f = f ∙ rw e (sym (sets-append xs ys l i))
-
-pub header-long : (len k s e : ℕ) → length (header len k s e) ≡ 8
-unfolding header span two
-header-long len k s e = refl
 
 pub header-pieces : (l m n o q : List ℕ) (i len k s e : ℕ) → m ≡ sets l i (two len) → n ≡ sets m (i + 2) (two k) → o ≡ sets n (i + 4) (two s) → q ≡ sets o (i + 6) (two e) → q ≡ sets l i (header len k s e)
 unfolding header span two
@@ -46,11 +41,3 @@ wide-pieces l m n o q i len k s e f g h j =
     both l m q (number 4 len) (number 2 k ++ (number 4 s ++ number 4 e)) i f
     (both m n q (number 2 k) (number 4 s ++ number 4 e) (i + 4) g
     (rw a (both n o q (number 4 s) (number 4 e) (i + 6) h (rw b j))))
-
--- a record of two children, written piece by piece
-pub node-pieces : (l m n o : List ℕ) (i len k s e : ℕ) (x y : Tree) → len ≡ length (stored x) + length (stored y) + 8 → m ≡ sets l i (header len k s e) → n ≡ sets m (i + 8) (stored x)
-    → o ≡ sets n (i + 8 + length (stored x)) (stored y) → o ≡ sets l i (stored (node k s e (more x (more y none))))
-unfolding stored storedAll
-node-pieces l m n o i len k s e x y z f g h =
-    let q : length (stored x ++ (stored y ++ [])) + 8 ≡ len = omega (arith, length-append (stored x) (stored y ++ []), length-append (stored y) []) in
-    rw (q, append-nil (stored y)) (both l m o (header len k s e) (stored x ++ stored y) i f (rw (header-long len k s e) (both m n o (stored x) (stored y) (i + 8) g h)))

@@ -8,7 +8,7 @@ ghost use Rattle.records.specs.Stored.{two, header, number, headOf};
 pub mod kinds;
 
 // Writes a number in two bytes, the low one first.
-pub fn put_two(out: &mut [u8], pos: usize, v: usize)
+fn put_two(out: &mut [u8], pos: usize, v: usize)
     ensures { λ _. ⌜ now (out .exit) ≡ sets (now (out .entry)) pos (two v) ⌝ }
 {
     if pos < out.len() {

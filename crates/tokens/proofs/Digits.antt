@@ -15,7 +15,7 @@ use Rattle.classes.proofs.Cut.{run-cut}
 use Rattle.classes.proofs.Bools.{false-true, and-false}
 use Rattle.classes.proofs.Runs.{run-past, run-short, run-stops, run-inside, len-same}
 use Rattle.words.specs.Search.{later}
-use Rattle.tokens.specs.Token.{digitsLen, moreDigits, moreHex}
+use Rattle.tokens.specs.Token.{digitsLen, moreDigits, moreHex, decimalLen, hexLen}
 use Rattle.tokens.specs.code.Found.{digitsClass, hexClass, begun, digitsEnd}
 
 module _ (f g : ℕ → Bool) where
@@ -121,7 +121,7 @@ digits-one f [] = refl
 digits-one f (a ∷ s) = refl
 
 -- two pairs of tests that agree have the same digits
-digits-same : (f f₂ g g₂ : ℕ → Bool) → ((b : ℕ) → f b ≡ f₂ b) → ((b : ℕ) → g b ≡ g₂ b) → (s : List ℕ) → digitsLen f g s ≡ digitsLen f₂ g₂ s
+pub digits-same : (f f₂ g g₂ : ℕ → Bool) → ((b : ℕ) → f b ≡ f₂ b) → ((b : ℕ) → g b ≡ g₂ b) → (s : List ℕ) → digitsLen f g s ≡ digitsLen f₂ g₂ s
 unfolding digitsLen
 digits-same f f₂ g g₂ e h [] = refl
 digits-same f f₂ g g₂ e h (a ∷ s) = rw (e a, len-same g g₂ h s)
@@ -214,3 +214,12 @@ module _ (ed : ℕ) (text : List ℕ) (at m n : ℕ) where
   pub hex-by-class : m ≡ hexClass ed → n ≡ digitsEnd (begun m) (inClass m) text at → n ≡ digitsEnd isHex (moreHex ed) text at
   unfolding digitsEnd
   hex-by-class h g = g ∙ rw h (ap (λ (i : ℕ). at + i) (digits-same _ _ _ _ (begun-hex ed) (hex-told ed) (drop at text)))
+
+-- in edition 1 the digits of a number are the run of digits
+pub decimal-one : (s : List ℕ) → decimalLen 1 s ≡ runLen isDigit s
+unfolding decimalLen moreDigits
+decimal-one s = digits-same isDigit isDigit (moreDigits 1) isDigit (λ b. refl) (λ b. refl) s ∙ digits-one isDigit s
+
+pub hex-one : (s : List ℕ) → hexLen 1 s ≡ 2 + runLen isHex (drop 2 s)
+unfolding hexLen moreHex
+hex-one s = ap (λ (n : ℕ). 2 + n) (digits-same isHex isHex (moreHex 1) isHex (λ b. refl) (λ b. refl) (drop 2 s) ∙ digits-one isHex (drop 2 s))

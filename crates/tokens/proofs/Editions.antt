@@ -27,6 +27,7 @@ use Rattle.words.proofs.Above.{name-above, mark-above}
 use Rattle.words.proofs.Suffix.{both-lists, later-kept, no-suffix}
 use Rattle.tokens.specs.Token.{Front, front, fault, typed, digitsLen, moreDigits, moreHex, decimalLen, decimal, hexTyped, hexLen, hexNumber, number, stringBy, string, opensString, stringRefusal, name, word, mark, findToken, Scanned, tok, bad, placed, behindGap, lex}
 use Rattle.tokens.specs.declared.Refusal.{Refusal}
+use Rattle.tokens.proofs.Digits.{digits-same}
 use Rattle.tokens.proofs.Fronts.{Takes, find-takes}
 use Rattle.tokens.proofs.Spelled.{begins-is}
 
@@ -432,3 +433,35 @@ editions-number p s k a b w r = behind-longer k a b w r (gap 0 p s .last)
 pub editions-refused : (p : ℕ) (s : List ℕ) (r : Refusal) → lex 1 p s ≡ bad r → lex 2 p s ≡ bad r
 unfolding lex
 editions-refused p s r = behind-refused r (gap 0 p s .last)
+
+-- every number but 2 is read as edition 1
+module _ (ed : ℕ) (h : later ed ≡ false) where
+  suffix-first : (s : List ℕ) → suffixLen ed s ≡ suffixLen 1 s
+  unfolding suffixLen suffixesOf
+  suffix-first s = rw h
+
+  decimal-first : (s : List ℕ) → decimalLen ed s ≡ decimalLen 1 s
+  unfolding decimalLen moreDigits
+  decimal-first s = digits-same isDigit isDigit (moreDigits ed) (moreDigits 1) (λ b. refl) (λ b. rw h) s
+
+  hex-first : (s : List ℕ) → hexLen ed s ≡ hexLen 1 s
+  unfolding hexLen moreHex
+  hex-first s = ap (λ (n : ℕ). 2 + n) (digits-same isHex isHex (moreHex ed) (moreHex 1) (λ b. refl) (λ b. rw h) (drop 2 s))
+
+  number-first : (s : List ℕ) → number ed s ≡ number 1 s
+  unfolding number hexNumber decimal
+  number-first s = rw (hex-first s, decimal-first s, suffix-first (drop (hexLen 1 s) s), suffix-first (drop (decimalLen 1 s) s)) refl
+
+  find-first : (s : List ℕ) → findToken ed s ≡ findToken 1 s
+  unfolding findToken
+  find-first [] = refl
+  find-first (a ∷ s) = rw (number-first (a ∷ s)) refl
+
+  behind-first : (e : End) → behindGap ed e ≡ behindGap 1 e
+  unfolding behindGap
+  behind-first (clear p s) = ap (placed p s) (find-first s)
+  behind-first (broken o q) = refl
+
+  pub others-first : (p : ℕ) (s : List ℕ) → lex ed p s ≡ lex 1 p s
+  unfolding lex
+  others-first p s = behind-first (gap 0 p s .last)
