@@ -28,7 +28,7 @@ past-left : (n : ℕ) (u : Source) → left (past n u) ≡ left u - n
 past-left n u = length-drop n (u .rest)
 
 module _ (u : Source) (t : Token) (d : Standing u t) where
-  here-left : left (t .here) ≡ left u - d .gap
+  pub here-left : left (t .here) ≡ left u - d .gap
   here-left = ap left (d .here) ∙ past-left (d .gap) u
 
   pub after-left : left (after t) ≤ left u

@@ -186,7 +186,7 @@ module _ (f ed : ℕ) (text : List ℕ) (n : ℕ) where
           struct-laid : (y : Tree) (fs : Trees) (u : Source) (e : ℕ) → rest ≡ ok fs u
               → laid f (node RecStructTyped (a .start) e (more y (joined (types-had .what) fs))) ≡ headed f RecStructTyped (a .start) e ((laid f y ++ angled f (types-had .what)) ++ braced f fs)
           struct-laid y fs u e o =
-              laid-struct-typed f (a .start) e y (types-had .what) fs (types-behind n Greater (held ed text (p .next)) (types-had .what) (opened ed text (q .end)) (types-had .is)) (fields-every (readType n) n _ (held ed text (q .next)) fs u o)
+              laid-struct-typed f (a .start) e y (types-had .what) fs (types-behind n (held ed text (p .next)) (types-had .what) (opened ed text (q .end)) (types-had .is)) (fields-every n (held ed text (q .next)) fs u o)
               ∙ ap (headed f RecStructTyped (a .start) e) (joins (laid f y) (markIn f (bytes "<")) (laidItems f (types-had .what)) (markIn f (bytes ">")) (braced f fs))
 
           unpack-typed : length l ≤ last → i ≡ inside f s → (v r : Parsed) (m₂ m : List ℕ) → ReadsBy (braced f) ed text (Fits text (q .next)) rest (q .next .end) (q .to) l₂ v m₂

@@ -12,21 +12,24 @@ use lib.Seq.{sets, take-append-le, take-all}
 use Rattle.classes.proofs.Bools.{false-true, and-left}
 use Rattle.tokens.specs.Refusals.{NoRoom, LineSpoiled, among}
 use Rattle.tokens.specs.Answers.{refusal, token}
-use Rattle.tokens.specs.Calls.{textLimit, nextToken, noEdition}
 use Rattle.tokens.specs.declared.Refusal.{Refusal}
+use Rattle.tokens.specs.declared.Fault.{Fault}
+use Rattle.tokens.specs.declared.Fault.the-variants.{Faultless, Faulty}
+use Rattle.tokens.proofs.Faults.{unless-not, unless-faulty}
 use Rattle.tokens.specs.declared.Token.{Token as First}
 use Rattle.tokens.specs.declared.Lexed.{Lexed}
 use Rattle.tokens.specs.declared.Lexed.the-variants.{Found, Refused as Bad}
 use Rattle.records.specs.Tree.{Tree}
 use Rattle.records.specs.Stored.{records}
 use Rattle.records.proofs.Runs.{sets-front}
-use Rattle.sources.specs.Source.{opened, Token, Scanned, lex, tokenOf}
+use Rattle.sources.specs.Source.{Token, Scanned, tokenOf}
 use Rattle.answers.specs.Reading.{Ans, ok, no, look, when}
 use Rattle.grammar.specs.Names.{chain}
 use Rattle.grammar.specs.Values.{value}
 use Rattle.grammar.specs.Types.{levels, readType}
 use Rattle.grammar.specs.Binds.{readBindList, readLambdaList}
-use Rattle.grammar.specs.Items.{Item, item, refused, readKind, followed, finished, readItem}
+use Rattle.grammar.specs.Items.{Item, item, refused, readKind, followed, finished, Asked, faultOf, reading, readItem}
+use Rattle.grammar.proofs.Asked.{in-order}
 use Rattle.forms.specs.Forms.{FormNarrow, FormLine, FormWide, isLine, front, laid, written, narrowLimit, formOf}
 use Rattle.frames.proofs.Faithful.{readRefusals, item-refusals}
 use Rattle.forms.specs.code.Spots.{last, cap, Placed}
@@ -43,8 +46,8 @@ use Rattle.calls.specs.declared.Answer.{Answer}
 use Rattle.calls.specs.declared.Answer.the-variants.{Item as Accepted, Refused as Rejected}
 use Rattle.calls.specs.declared.Displayed.{Displayed}
 use Rattle.calls.specs.declared.Displayed.the-variants.{Line, Refused as Undisplayed}
-use Rattle.calls.specs.Calls.{noKind, lineLimit, roomed, filled, unspoiled, answeredIn, read, readBuffer, answered, asLine, display, displayBuffer, displayed}
-use Rattle.calls.specs.code.Given.{refusedWith, atStart, itemFrom, outgrown, firstForm, lastForm, roomIn, widened, spoiledAt, replacedBy, inPlace, SpoiledFrom, LaidDown, Gives, Widens, Longer, Lays, Calls, Displays}
+use Rattle.calls.specs.Calls.{lineLimit, roomed, filled, unspoiled, answeredIn, read, readBuffer, answered, asLine, display, displayBuffer, displayed}
+use Rattle.calls.specs.code.Given.{refusedWith, atStart, readFrom, itemFrom, firstOf, outgrown, firstForm, lastForm, roomIn, widened, spoiledAt, replacedBy, inPlace, SpoiledFrom, LaidDown, Gives, Widens, Longer, Lays, Calls, Displays}
 use Rattle.calls.proofs.Spoiling.{item-only, not-item, read-clean, read-spoiled}
 
 -- an item by its kind: which reader reads it
@@ -76,15 +79,15 @@ pub reads-by : (form ed : ℕ) (text : List ℕ) (fits : Type 0) (x y : Ans Tree
 reads-by form ed text fits x y from s l m r e d = subst (λ (z : Ans Tree). Reads form ed text fits z from s l r m) (sym e) d
 
 -- an item behind what stands in front
-pub laid-down : (form kind ed : ℕ) (text : List ℕ) (a : First) (l k m : List ℕ) (s q : Spot) (r : Parsed) → length l ≤ last → s ≡ atStart → Placed l s (front form) q k
-    → Reads form ed text (Fits text a) (readKind kind (held ed text a)) (a .end) q k r m → LaidDown form kind ed text a l r m
-laid-down form kind ed text a l k m s q r h e d w = record { from = q; fronted = k; short = h; inFront = subst (λ (z : Spot). Placed l z (front form) q k) e d; reads = w }
+pub laid-down : (form : ℕ) (ask : Asked) (a : First) (l k m : List ℕ) (s q : Spot) (r : Parsed) → length l ≤ last → s ≡ atStart → Placed l s (front form) q k
+    → Reads form (ask .edition) (ask .text) (Fits (ask .text) a) (readFrom ask a) (a .end) q k r m → LaidDown form ask a l r m
+laid-down form ask a l k m s q r h e d w = record { from = q; fronted = k; short = h; inFront = subst (λ (z : Spot). Placed l z (front form) q k) e d; reads = w }
 
 -- the item by what the walk answers
-module _ (form kind ed : ℕ) (text : List ℕ) (a : First) (l m : List ℕ) (f : Fits text a) where
-  item-refused : (r : Refusal) → LaidDown form kind ed text a l (Refused r) m → itemFrom kind ed text a ≡ refused r
+module _ (form : ℕ) (ask : Asked) (a : First) (l m : List ℕ) (f : Fits (ask .text) a) where
+  item-refused : (r : Refusal) → LaidDown form ask a l (Refused r) m → itemFrom ask a ≡ refused r
   unfolding Meets Refuses finished followed
-  item-refused r d = go (readKind kind (held ed text a)) (d .reads .meets f)
+  item-refused r d = go (readFrom ask a) (d .reads .meets f)
     where
       go : (y : Ans Tree) → Refuses y r → finished y ≡ refused r
       go (ok z u) e = ap (followed z) e
@@ -93,16 +96,16 @@ module _ (form kind ed : ℕ) (text : List ℕ) (a : First) (l m : List ℕ) (f 
   -- what the walk read, and the item that this is
   record Laid (p : Part) : Type 0 where
     what : Tree
-    is : itemFrom kind ed text a ≡ item what (held ed text (p .next))
+    is : itemFrom ask a ≡ item what (held (ask .edition) (ask .text) (p .next))
     bytes : Placed l atStart (written form what) (p .to) m
-    next : tokenOf (held ed text (p .next)) ≡ p .next
+    next : tokenOf (held (ask .edition) (ask .text) (p .next)) ≡ p .next
 
-  item-laid : (p : Part) → LaidDown form kind ed text a l (Read p) m → Laid p
+  item-laid : (p : Part) → LaidDown form ask a l (Read p) m → Laid p
   unfolding Meets Follows finished followed written
   item-laid p d =
-      let h : Had form ed text (readKind kind (held ed text a)) (d .from) (d .fronted) p m = d .reads .meets f in
-      let n = next-found ed text (p .end) (p .next) (d .reads .goes .1) in
-      let e = held-end ed text (p .next) (n .fits) in
+      let h : Had form (ask .edition) (ask .text) (readFrom ask a) (d .from) (d .fronted) p m = d .reads .meets f in
+      let n = next-found (ask .edition) (ask .text) (p .end) (p .next) (d .reads .goes .1) in
+      let e = held-end (ask .edition) (ask .text) (p .next) (n .fits) in
       record {
         what = h .what;
         is = ap finished (h .is) ∙ ap (followed (h .what)) (n .is);
@@ -122,12 +125,12 @@ made-in xs z made n w e f h =
     rw (w, e, sets-whole xs z (omega arith)) (take-append-le (length xs) xs (drop (length xs) z) (omega arith) ∙ take-all (length xs) xs (omega arith))
 
 -- writing an item that is accepted
-module _ (form kind ed : ℕ) (text : List ℕ) (a : First) (l m : List ℕ) where
-  again : (r : Parsed) → LaidDown form kind ed text a l r m → Fits text a → (x : Tree) (t : Token) → itemFrom kind ed text a ≡ item x t → m ≡ sets l 0 (written form x)
+module _ (form : ℕ) (ask : Asked) (a : First) (l m : List ℕ) where
+  again : (r : Parsed) → LaidDown form ask a l r m → Fits (ask .text) a → (x : Tree) (t : Token) → itemFrom ask a ≡ item x t → m ≡ sets l 0 (written form x)
   again (Read p) d f x t i =
-      let v = item-laid form kind ed text a l m f p d in
-      v .bytes .holds ∙ ap (λ (z : Tree). sets l 0 (written form z)) (item-only (v .what) x (held ed text (p .next)) t (sym (v .is) ∙ i))
-  again (Refused r) d f x t i = absurd (not-item x t r (sym (item-refused form kind ed text a l m f r d) ∙ i))
+      let v = item-laid form ask a l m f p d in
+      v .bytes .holds ∙ ap (λ (z : Tree). sets l 0 (written form z)) (item-only (v .what) x (held (ask .edition) (ask .text) (p .next)) t (sym (v .is) ∙ i))
+  again (Refused r) d f x t i = absurd (not-item x t r (sym (item-refused form ask a l m f r d) ∙ i))
 
 -- the answers
 module _ (form : Tree → ℕ) (room : ℕ) (i : Item) (l : List ℕ) where
@@ -195,20 +198,20 @@ room-least form n = go (isLine form)
     go false = omega arith
 
 -- an item that is written wide, by its n bytes in the narrow form
-module _ (kind ed : ℕ) (text : List ℕ) (a : First) (n : ℕ) (next : First) (l : List ℕ) (short : length l < last) (w : ℕ) (y : w ≡ widened n) where
-  pub widened-long : (r : Answer) → length l < w → r ≡ refusedWith 4 → Widens kind ed text a n next l r l
+module _ (ask : Asked) (a : First) (n : ℕ) (next : First) (l : List ℕ) (short : length l < last) (w : ℕ) (y : w ≡ widened n) where
+  pub widened-long : (r : Answer) → length l < w → r ≡ refusedWith 4 → Widens ask a n next l r l
   widened-long r h u f x t i o e = gives-long (λ _. FormWide) (length l) (item x t) l x t refl r (omega (arith, wide-size x, y, h, e)) u
 
-  pub widened-done : (d : Parsed) (m : List ℕ) → w ≤ length l → LaidDown FormWide kind ed text a l d m → Widens kind ed text a n next l (Accepted w next) m
+  pub widened-done : (d : Parsed) (m : List ℕ) → w ≤ length l → LaidDown FormWide ask a l d m → Widens ask a n next l (Accepted w next) m
   widened-done d m h v f x t i o e =
       let z : w ≡ length (written FormWide x) = omega (arith, wide-size x, y, h, e, short) in
       gives-item (λ _. FormWide) (length l) (item x t) l x t refl (Accepted w next) m (omega arith) (omega (arith, z, h))
       (ap (λ (k : ℕ). Accepted k next) z ∙ ap (Accepted (length (written FormWide x))) (sym o))
-      (again FormWide kind ed text a l m d v f x t i)
+      (again FormWide ask a l m d v f x t i)
 
 -- an item that is laid down once more, by its n bytes in the form
-module _ (form kind ed : ℕ) (text : List ℕ) (a : First) (n : ℕ) (next : First) (l : List ℕ) (short : length l < last) (g : Bool) (y : g ≡ outgrown form n) where
-  pub longer-wide : (r : Answer) (m : List ℕ) → g ≡ true → Widens kind ed text a n next l r m → Longer form kind ed text a n next l r m
+module _ (form : ℕ) (ask : Asked) (a : First) (n : ℕ) (next : First) (l : List ℕ) (short : length l < last) (g : Bool) (y : g ≡ outgrown form n) where
+  pub longer-wide : (r : Answer) (m : List ℕ) → g ≡ true → Widens ask a n next l r m → Longer form ask a n next l r m
   longer-wide r m c v f x t i o e =
       let k : form ≡ FormNarrow = eqb-true form FormNarrow (and-left (eqb form FormNarrow) _ (sym y ∙ c)) in
       let q : roomIn form (length l) ≡ length l = ap (λ (z : ℕ). roomIn z (length l)) k in
@@ -220,16 +223,16 @@ module _ (form kind ed : ℕ) (text : List ℕ) (a : First) (n : ℕ) (next : Fi
     stays : (x : Tree) → n ≡ cap (length (written form x)) → lastForm form x ≡ form
     stays x e = rw (sym (grown form n x e) ∙ sym y ∙ c) refl
 
-    pub longer-long : (r : Answer) → room < n → r ≡ refusedWith 4 → Longer form kind ed text a n next l r l
+    pub longer-long : (r : Answer) → room < n → r ≡ refusedWith 4 → Longer form ask a n next l r l
     longer-long r h u f x t i o e = gives-long (lastForm form) (roomIn form (length l)) (item x t) l x t refl r (rw (stays x e) (omega (arith, e, q, h))) u
 
-    pub longer-done : (d : Parsed) (m : List ℕ) → n ≤ room → LaidDown form kind ed text a l d m → Longer form kind ed text a n next l (Accepted n next) m
+    pub longer-done : (d : Parsed) (m : List ℕ) → n ≤ room → LaidDown form ask a l d m → Longer form ask a n next l (Accepted n next) m
     longer-done d m h v f x t i o e =
         let z : n ≡ length (written form x) = omega (arith, e, q, h, short, room-least form (length l)) in
         gives-item (lastForm form) (roomIn form (length l)) (item x t) l x t refl (Accepted n next) m (room-least form (length l))
         (rw (stays x e) (omega (arith, z, q, h)))
         (rw (stays x e) (ap (λ (k : ℕ). Accepted k next) z ∙ ap (Accepted (length (written form x))) (sym o)))
-        (rw (stays x e) (again form kind ed text a l m d v f x t i))
+        (rw (stays x e) (again form ask a l m d v f x t i))
 
 -- what fits two bytes stays in its form, and fits a line
 module _ (form n : ℕ) (h : n ≤ narrowLimit) where
@@ -248,99 +251,69 @@ module _ (form n : ℕ) (h : n ≤ narrowLimit) where
       go false = i
 
 -- the item of a first token: z is the buffer that it is laid down in first, and becomes made
-module _ (form kind ed : ℕ) (text : List ℕ) (a : First) (z made l : List ℕ) where
-  pub lay-refused : (d : Parsed) (r : Refusal) → LaidDown form kind ed text a z d made → d ≡ Refused r → Lays form kind ed text a l (Rejected r) l
+module _ (form : ℕ) (ask : Asked) (a : First) (z made l : List ℕ) where
+  pub lay-refused : (d : Parsed) (r : Refusal) → LaidDown form ask a z d made → d ≡ Refused r → Lays form ask a l (Rejected r) l
   lay-refused d r w e f =
-      gives-refused (lastForm form) (roomIn form (length l)) (itemFrom kind ed text a) l (Rejected r) r
-      (item-refused form kind ed text a z made f r (subst (λ (q : Parsed). LaidDown form kind ed text a z q made) e w)) refl
+      gives-refused (lastForm form) (roomIn form (length l)) (itemFrom ask a) l (Rejected r) r
+      (item-refused form ask a z made f r (subst (λ (q : Parsed). LaidDown form ask a z q made) e w)) refl
 
-  module _ (d : Parsed) (p : Part) (w : LaidDown form kind ed text a z d made) (e : d ≡ Read p) where
-    view : (f : Fits text a) → Laid form kind ed text a z made f p
-    view f = item-laid form kind ed text a z made f p (subst (λ (q : Parsed). LaidDown form kind ed text a z q made) e w)
+  module _ (d : Parsed) (p : Part) (w : LaidDown form ask a z d made) (e : d ≡ Read p) where
+    view : (f : Fits (ask .text) a) → Laid form ask a z made f p
+    view f = item-laid form ask a z made f p (subst (λ (q : Parsed). LaidDown form ask a z q made) e w)
 
-    ends : (f : Fits text a) → p .to .pos ≡ cap (length (written form (view f .what)))
+    ends : (f : Fits (ask .text) a) → p .to .pos ≡ cap (length (written form (view f .what)))
     ends f = let e = ap (λ (k : Spot). k .pos) (view f .bytes .ends) in omega (arith, e)
 
-    pub lay-longer : (r : Answer) (m : List ℕ) → Longer form kind ed text a (p .to .pos) (p .next) l r m → Lays form kind ed text a l r m
-    lay-longer r m v f = let h = view f in rw (h .is) (v f (h .what) (held ed text (p .next)) (h .is) (h .next) (ends f))
+    pub lay-longer : (r : Answer) (m : List ℕ) → Longer form ask a (p .to .pos) (p .next) l r m → Lays form ask a l r m
+    lay-longer r m v f = let h = view f in rw (h .is) (v f (h .what) (held (ask .edition) (ask .text) (p .next)) (h .is) (h .next) (ends f))
 
     module _ (small : length z ≤ narrowLimit) (same : length made ≡ length z) (b : p .to .pos ≤ length made) where
-      whole : (f : Fits text a) → p .to .pos ≡ length (written form (view f .what))
+      whole : (f : Fits (ask .text) a) → p .to .pos ≡ length (written form (view f .what))
       whole f = omega (arith, ends f, b, same, small)
 
-      stays-short : (f : Fits text a) → lastForm form (view f .what) ≡ form
+      stays-short : (f : Fits (ask .text) a) → lastForm form (view f .what) ≡ form
       stays-short f = rw (sym (grown form (p .to .pos) (view f .what) (ends f)) ∙ not-grown form (p .to .pos) (omega (arith, b, same, small))) refl
 
-      pub lay-long : (r : Answer) → length l < p .to .pos → r ≡ refusedWith 4 → Lays form kind ed text a l r l
+      pub lay-long : (r : Answer) → length l < p .to .pos → r ≡ refusedWith 4 → Lays form ask a l r l
       lay-long r c u f =
           let h = view f in
-          gives-long (lastForm form) (roomIn form (length l)) (itemFrom kind ed text a) l (h .what) (held ed text (p .next)) (h .is) r
+          gives-long (lastForm form) (roomIn form (length l)) (itemFrom ask a) l (h .what) (held (ask .edition) (ask .text) (p .next)) (h .is) r
           (rw (stays-short f) (omega (arith, whole f, c, room-least form (length l)))) u
 
-      pub lay-done : (m : List ℕ) → p .to .pos ≤ length l → m ≡ sets l 0 (take (p .to .pos) made) → Lays form kind ed text a l (Accepted (p .to .pos) (p .next)) m
+      pub lay-done : (m : List ℕ) → p .to .pos ≤ length l → m ≡ sets l 0 (take (p .to .pos) made) → Lays form ask a l (Accepted (p .to .pos) (p .next)) m
       lay-done m c v f =
           let h = view f in
           let n = whole f in
           let k = made-in (written form (h .what)) z made (p .to .pos) (h .bytes .holds) n same b in
-          gives-item (lastForm form) (roomIn form (length l)) (itemFrom kind ed text a) l (h .what) (held ed text (p .next)) (h .is) (Accepted (p .to .pos) (p .next)) m (room-least form (length l))
+          gives-item (lastForm form) (roomIn form (length l)) (itemFrom ask a) l (h .what) (held (ask .edition) (ask .text) (p .next)) (h .is) (Accepted (p .to .pos) (p .next)) m (room-least form (length l))
           (rw (stays-short f) (omega (arith, n, room-left form (p .to .pos) (omega (arith, b, same, small)) (length l) c)))
           (rw (stays-short f) (ap (λ (x : ℕ). Accepted x (p .next)) n ∙ ap (Accepted (length (written form (h .what)))) (sym (h .next))))
           (rw (stays-short f) (v ∙ ap (sets l 0) k))
 
--- the item at an offset: the refusals of the caller
-module _ (kind ed : ℕ) (text : List ℕ) (at : ℕ) where
-  item-text : textLimit < length text → readItem kind ed text at ≡ refused (refusal 1 0 0)
-  unfolding readItem when
-  item-text h = rw (lt-ltb textLimit (length text) h)
+-- the item at an offset: the refusal of a fault, or what the text has
+module _ (form : ℕ) (ask : Asked) (first : Lexed) (l : List ℕ) (fault : Fault) (e : fault ≡ faultOf ask) where
+  pub call-faulty : (r : Refusal) → fault ≡ Faulty r → Calls form ask first l (Rejected r) l
+  unfolding readItem
+  call-faulty r h f = gives-refused (lastForm form) (roomIn form (length l)) (readItem ask) l (Rejected r) r (unless-faulty refused (faultOf ask) _ r (sym e ∙ h)) refl
 
-  module _ (h : length text ≤ textLimit) where
-    item-offset : length text < at → readItem kind ed text at ≡ refused (refusal 2 0 0)
-    unfolding readItem when
-    item-offset g = rw (le-ltb textLimit (length text) h, lt-ltb (length text) at g)
+  module _ (h : fault ≡ Faultless) where
+    item-goes : readItem ask ≡ finished (reading ask)
+    unfolding readItem
+    item-goes = unless-not refused (faultOf ask) _ (sym e ∙ h)
 
-    module _ (g : at ≤ length text) where
-      item-kind : (b : Bool) → b ≡ noKind kind → b ≡ true → readItem kind ed text at ≡ refused (refusal 3 0 0)
-      unfolding readItem when
-      item-kind b z k = rw (le-ltb textLimit (length text) h, le-ltb (length text) at g, sym z ∙ k)
+    pub call-bad : (r : Refusal) → first ≡ Bad r → Calls form ask first l (Rejected r) l
+    unfolding finished look
+    call-bad r b f =
+        let d = in-order ask (sym e ∙ h) in
+        gives-refused (lastForm form) (roomIn form (length l)) (readItem ask) l (Rejected r) r
+        (item-goes ∙ ap (λ (y : Scanned). finished (look y (readKind (ask .kind)))) (next-refused (ask .edition) (ask .text) (ask .at) (d .short) (d .inside) r (sym f ∙ b))) refl
 
-      module _ (b : Bool) (z : b ≡ noKind kind) (k : b ≡ false) where
-        item-edition : (c : Bool) → c ≡ noEdition ed → c ≡ true → readItem kind ed text at ≡ refused (refusal 19 0 0)
-        unfolding readItem when
-        item-edition c w v = rw (le-ltb textLimit (length text) h, le-ltb (length text) at g, sym z ∙ k, sym w ∙ v)
-
-        item-goes : (c : Bool) → c ≡ noEdition ed → c ≡ false → readItem kind ed text at ≡ finished (look (lex (opened ed text at)) (readKind kind))
-        unfolding readItem when
-        item-goes c w v = rw (le-ltb textLimit (length text) h, le-ltb (length text) at g, sym z ∙ k, sym w ∙ v)
-
-module _ (form kind ed : ℕ) (text : List ℕ) (at : ℕ) (first : Lexed) (l : List ℕ) where
-  pub call-text : (r : Answer) → textLimit < length text → r ≡ refusedWith 1 → Calls form kind ed text at first l r l
-  call-text r h e f = gives-refused (lastForm form) (roomIn form (length l)) (readItem kind ed text at) l r (refusal 1 0 0) (item-text kind ed text at h) e
-
-  module _ (h : length text ≤ textLimit) where
-    pub call-offset : (r : Answer) → length text < at → r ≡ refusedWith 2 → Calls form kind ed text at first l r l
-    call-offset r g e f = gives-refused (lastForm form) (roomIn form (length l)) (readItem kind ed text at) l r (refusal 2 0 0) (item-offset kind ed text at h g) e
-
-    module _ (g : at ≤ length text) (b : Bool) (z : b ≡ noKind kind) where
-      pub call-kind : (r : Answer) → b ≡ true → r ≡ refusedWith 3 → Calls form kind ed text at first l r l
-      call-kind r k e f = gives-refused (lastForm form) (roomIn form (length l)) (readItem kind ed text at) l r (refusal 3 0 0) (item-kind kind ed text at h g b z k) e
-
-      module _ (k : b ≡ false) (c : Bool) (w : c ≡ noEdition ed) where
-        pub call-edition : (r : Answer) → c ≡ true → r ≡ refusedWith 19 → Calls form kind ed text at first l r l
-        call-edition r v e f = gives-refused (lastForm form) (roomIn form (length l)) (readItem kind ed text at) l r (refusal 19 0 0) (item-edition kind ed text at h g b z k c w v) e
-
-        module _ (v : c ≡ false) where
-          pub call-bad : (r : Refusal) → first ≡ Bad r → Calls form kind ed text at first l (Rejected r) l
-          unfolding finished look
-          call-bad r e f =
-              gives-refused (lastForm form) (roomIn form (length l)) (readItem kind ed text at) l (Rejected r) r
-              (item-goes kind ed text at h g b z k c w v ∙ ap (λ (y : Scanned). finished (look y (readKind kind))) (next-refused ed text at h g r (sym f ∙ e))) refl
-
-          pub call-found : (a : First) (r : Answer) (m : List ℕ) → first ≡ Found a → Lays form kind ed text a l r m → Calls form kind ed text at first l r m
-          unfolding look
-          call-found a r m e u f =
-              let n = next-found ed text at a (sym f ∙ e) in
-              let i : readItem kind ed text at ≡ itemFrom kind ed text a = item-goes kind ed text at h g b z k c w v ∙ ap (λ (y : Scanned). finished (look y (readKind kind))) (n .is) in
-              subst (λ (j : Item). Gives (lastForm form) (roomIn form (length l)) j l r m) (sym i) (u (n .fits))
+    pub call-found : (a : First) (r : Answer) (m : List ℕ) → first ≡ Found a → Lays form ask a l r m → Calls form ask first l r m
+    unfolding look
+    call-found a r m b u f =
+        let n = next-found (ask .edition) (ask .text) (ask .at) a (sym f ∙ b) in
+        let i : readItem ask ≡ itemFrom ask a = item-goes ∙ ap (λ (y : Scanned). finished (look y (readKind (ask .kind)))) (n .is) in
+        subst (λ (j : Item). Gives (lastForm form) (roomIn form (length l)) j l r m) (sym i) (u (n .fits))
 
 -- the line's length alone
 abbrev pub lineOf : Answer → Displayed
@@ -364,12 +337,12 @@ first-room text n = go (ltb narrowLimit (length text))
     go false = refl
 
 -- the two calls
-module _ (kind ed : ℕ) (text : List ℕ) (at : ℕ) (first : Lexed) (l m : List ℕ) where
-  pub read-given : (form : ℕ) (r : Answer) → first ≡ nextToken ed text at → form ≡ firstForm text → Calls form kind ed text at first l r m
-      → (r ≡ answered text (read kind ed text at (length l))) × (m ≡ readBuffer kind ed text at l)
+module _ (ask : Asked) (first : Lexed) (l m : List ℕ) where
+  pub read-given : (form : ℕ) (r : Answer) → first ≡ firstOf ask → form ≡ firstForm (ask .text) → Calls form ask first l r m
+      → (r ≡ answered (ask .text) (read ask (length l))) × (m ≡ readBuffer ask l)
   unfolding read readBuffer answered
   read-given form r f e d =
-      let w = gives-as (lastForm (firstForm text)) (formOf text) (length l) l (readItem kind ed text at) r m (λ x _ _. first-last text x) (rw (e, first-room text (length l)) at d f) in
+      let w = gives-as (lastForm (firstForm (ask .text))) (formOf (ask .text)) (length l) l (readItem ask) r m (λ x _ _. first-last (ask .text) x) (rw (e, first-room (ask .text) (length l)) at d f) in
       (w .answer, w .buffer)
 
   line-displayed : (i : Item) → lineOf (answeredIn asLine i) ≡ displayed i
@@ -378,13 +351,13 @@ module _ (kind ed : ℕ) (text : List ℕ) (at : ℕ) (first : Lexed) (l m : Lis
   line-displayed (refused r) = refl
 
   -- where nothing spoils the line, the display is the call
-  pub display-given : (b : ℕ) → b ≡ spoiledAt kind text first → length text ≤ b → (d : Answer) (r : Displayed) → Calls FormLine kind ed text at first l d m → r ≡ lineOf d → Displays kind ed text at first l r m
+  pub display-given : (b : ℕ) → b ≡ spoiledAt (ask .kind) (ask .text) first → length (ask .text) ≤ b → (d : Answer) (r : Displayed) → Calls FormLine ask first l d m → r ≡ lineOf d → Displays ask first l r m
   unfolding display displayBuffer
   display-given b g h d r w e =
-      let z : first ≡ nextToken ed text at → readItem kind ed text at ≡ unspoiled (readItem kind ed text at) = λ f. sym (read-clean kind ed text at first f b g h) in
+      let z : first ≡ firstOf ask → readItem ask ≡ unspoiled (readItem ask) = λ f. sym (read-clean ask first f b g h) in
       let k : ℕ = min (length l) lineLimit in
       record {
-        answer = λ f. e ∙ ap lineOf (w f .answer) ∙ line-displayed (roomed asLine k (readItem kind ed text at)) ∙ ap (λ (i : Item). displayed (roomed asLine k i)) (z f);
+        answer = λ f. e ∙ ap lineOf (w f .answer) ∙ line-displayed (roomed asLine k (readItem ask)) ∙ ap (λ (i : Item). displayed (roomed asLine k i)) (z f);
         buffer = λ f. w f .buffer ∙ ap (λ (i : Item). filled asLine (roomed asLine k i) l) (z f);
       }
 
@@ -393,8 +366,8 @@ abbrev pub saidOf : Refusal → Answer → Displayed
 saidOf q (Accepted n t) = Undisplayed q
 saidOf q (Rejected r) = replacedBy q r
 
-module _ (kind ed : ℕ) (text : List ℕ) (at : ℕ) (first : Lexed) (q : Refusal) (l m : List ℕ) where
-  said : (i : Item) → readItem kind ed text at ≡ i → saidOf q (answeredIn asLine (roomed asLine (min (length l) lineLimit) i)) ≡ displayed (inPlace q i)
+module _ (ask : Asked) (first : Lexed) (q : Refusal) (l m : List ℕ) where
+  said : (i : Item) → readItem ask ≡ i → saidOf q (answeredIn asLine (roomed asLine (min (length l) lineLimit) i)) ≡ displayed (inPlace q i)
   unfolding roomed answeredIn displayed inPlace when among
   said (item x t) e = go (ltb (min (length l) lineLimit) (length (written FormLine x)))
     where
@@ -404,23 +377,23 @@ module _ (kind ed : ℕ) (text : List ℕ) (at : ℕ) (first : Lexed) (q : Refus
   said (refused r) e = go (eqb (r .number) NoRoom) refl
     where
       go : (b : Bool) → eqb (r .number) NoRoom ≡ b → Undisplayed (cond b q r) ≡ Undisplayed r
-      go true h = false-true _ (subst (λ (n : ℕ). among readRefusals n ≡ true) (eqb-true (r .number) NoRoom h) (item-refusals kind ed text at r e))
+      go true h = false-true _ (subst (λ (n : ℕ). among readRefusals n ≡ true) (eqb-true (r .number) NoRoom h) (item-refusals ask r e))
       go false h = refl
 
-  pub spoiled-given : (d : Answer) (r : Displayed) → Calls FormLine kind ed text at first l d m → r ≡ saidOf q d → SpoiledFrom kind ed text at first q r
-  spoiled-given d r w e f = e ∙ ap (saidOf q) (w f .answer) ∙ said (readItem kind ed text at) refl
+  pub spoiled-given : (d : Answer) (r : Displayed) → Calls FormLine ask first l d m → r ≡ saidOf q d → SpoiledFrom ask first q r
+  spoiled-given d r w e f = e ∙ ap (saidOf q) (w f .answer) ∙ said (readItem ask) refl
 
 -- where a byte spoils the line, it is refused there
-pub display-spoiled : (kind ed : ℕ) (text : List ℕ) (at : ℕ) (first : Lexed) (l : List ℕ) (b : ℕ) → b ≡ spoiledAt kind text first → b < length text
-    → (q : Refusal) → q ≡ refusal LineSpoiled b (b + 1) → (r : Displayed) → SpoiledFrom kind ed text at first q r → Displays kind ed text at first l r l
+pub display-spoiled : (ask : Asked) (first : Lexed) (l : List ℕ) (b : ℕ) → b ≡ spoiledAt (ask .kind) (ask .text) first → b < length (ask .text)
+    → (q : Refusal) → q ≡ refusal LineSpoiled b (b + 1) → (r : Displayed) → SpoiledFrom ask first q r → Displays ask first l r l
 unfolding display displayBuffer roomed filled inPlace
-display-spoiled kind ed text at first l b g h q e r w =
-    let z : first ≡ nextToken ed text at → unspoiled (readItem kind ed text at) ≡ inPlace q (readItem kind ed text at) = λ f. read-spoiled kind ed text at first f b g h q e in
+display-spoiled ask first l b g h q e r w =
+    let z : first ≡ firstOf ask → unspoiled (readItem ask) ≡ inPlace q (readItem ask) = λ f. read-spoiled ask first f b g h q e in
     let y : (i : Item) → roomed asLine (min (length l) lineLimit) (inPlace q i) ≡ inPlace q i = roomed-in-place q in
     let x : (i : Item) → filled asLine (inPlace q i) l ≡ l = filled-in-place q in
     record {
-      answer = λ f. w f ∙ ap displayed (sym (ap (roomed asLine (min (length l) lineLimit)) (z f) ∙ y (readItem kind ed text at)));
-      buffer = λ f. sym (ap (λ (i : Item). filled asLine (roomed asLine (min (length l) lineLimit) i) l) (z f) ∙ ap (λ (i : Item). filled asLine i l) (y (readItem kind ed text at)) ∙ x (readItem kind ed text at));
+      answer = λ f. w f ∙ ap displayed (sym (ap (roomed asLine (min (length l) lineLimit)) (z f) ∙ y (readItem ask)));
+      buffer = λ f. sym (ap (λ (i : Item). filled asLine (roomed asLine (min (length l) lineLimit) i) l) (z f) ∙ ap (λ (i : Item). filled asLine i l) (y (readItem ask)) ∙ x (readItem ask));
     }
   where
     roomed-in-place : (q : Refusal) (i : Item) → roomed asLine (min (length l) lineLimit) (inPlace q i) ≡ inPlace q i

@@ -11,7 +11,7 @@ use Rattle.tokens.specs.declared.Refusal.{Refusal}
 use Rattle.tokens.proofs.RefusalSets.{subset, among-subset}
 use Rattle.records.specs.Tree.{Tree}
 use Rattle.answers.proofs.Sure.{when-sure}
-use Rattle.grammar.specs.Items.{Item, item, refused, readItem}
+use Rattle.grammar.specs.Items.{Item, item, refused, Asked, readItem}
 use Rattle.forms.specs.Forms.{written, formOf}
 use Rattle.forms.specs.Spoiled.{spoiled}
 use Rattle.frames.proofs.Faithful.{readRefusals, Told, item-told}
@@ -40,13 +40,13 @@ unspoiled-met (item x t) h = go (spoiled x)
     go (some b) = refl
 unspoiled-met (refused r) h = h
 
-pub read-refusals : (kind ed : ℕ) (text : List ℕ) (at room : ℕ) (r : Refusal) → read kind ed text at room ≡ refused r → among itemRefusals (r .number) ≡ true
+pub read-refusals : (q : Asked) (room : ℕ) (r : Refusal) → read q room ≡ refused r → among itemRefusals (r .number) ≡ true
 unfolding read subset among
-read-refusals kind ed text at room r e =
-    subst (Met itemRefusals) e (roomed-met itemRefusals (formOf text) room (readItem kind ed text at) refl (told-met itemRefusals refl text (readItem kind ed text at) (item-told kind ed text at)))
+read-refusals q room r e =
+    subst (Met itemRefusals) e (roomed-met itemRefusals (formOf (q .text)) room (readItem q) refl (told-met itemRefusals refl (q .text) (readItem q) (item-told q)))
 
-pub display-refusals : (kind ed : ℕ) (text : List ℕ) (at room : ℕ) (r : Refusal) → display kind ed text at room ≡ refused r → among displayRefusals (r .number) ≡ true
+pub display-refusals : (q : Asked) (room : ℕ) (r : Refusal) → display q room ≡ refused r → among displayRefusals (r .number) ≡ true
 unfolding display subset among
-display-refusals kind ed text at room r e =
+display-refusals q room r e =
     subst (Met displayRefusals) e
-    (roomed-met displayRefusals asLine (min room lineLimit) (unspoiled (readItem kind ed text at)) refl (unspoiled-met (readItem kind ed text at) (told-met displayRefusals refl text (readItem kind ed text at) (item-told kind ed text at))))
+    (roomed-met displayRefusals asLine (min room lineLimit) (unspoiled (readItem q)) refl (unspoiled-met (readItem q) (told-met displayRefusals refl (q .text) (readItem q) (item-told q))))

@@ -1,6 +1,6 @@
 -- The display's look over a string: what the run of bytes that show says of the item that was read.
 use mathlib.Core.Path.{_≡_, refl, ap, sym, _∙_, subst}
-use mathlib.Core.Bool.{Bool, true, false, cond, _&&_, _||_}
+use mathlib.Core.Bool.{Bool, true, false, cond, _&&_}
 use mathlib.Core.List.{List}
 use mathlib.Core.Option.{Option, some, none as clean}
 use Prim.Native.Nat.{ℕ, _+_, _-_, _<_, _≤_}
@@ -15,7 +15,9 @@ use Rattle.words.specs.Kinds.{ByteStringValue}
 use Rattle.tokens.specs.Refusals.{LineSpoiled}
 use Rattle.tokens.specs.Answers.{refusal}
 use Rattle.tokens.specs.declared.Refusal.{Refusal}
-use Rattle.tokens.specs.Calls.{textLimit, nextToken, noEdition}
+use Rattle.tokens.specs.Calls.{unless}
+use Rattle.tokens.specs.declared.Fault.{Fault}
+use Rattle.tokens.specs.declared.Fault.the-variants.{Faultless, Faulty}
 use Rattle.tokens.specs.declared.Token.{Token as First}
 use Rattle.tokens.specs.declared.Lexed.{Lexed}
 use Rattle.tokens.specs.declared.Lexed.the-variants.{Found, Refused as Bad}
@@ -25,7 +27,8 @@ use Rattle.sources.specs.Source.{opened, Token, Scanned, tok, bad, lex}
 use Rattle.sources.proofs.Standing.{Sound, lex-sound}
 use Rattle.answers.specs.Reading.{Ans, ok, no, look, when}
 use Rattle.grammar.specs.Values.{value}
-use Rattle.grammar.specs.Items.{Item, item, refused, readKind, followed, finished, readItem}
+use Rattle.grammar.specs.Items.{Item, item, refused, readKind, followed, finished, Asked, faultOf, reading, readItem}
+use Rattle.grammar.proofs.Asked.{in-order}
 use Rattle.forms.specs.Spoiled.{spoiledWord, spoiled}
 use Rattle.forms.specs.code.Spots.{wordOf}
 use Rattle.forms.proofs.Spoils.{word-run}
@@ -33,7 +36,7 @@ use Rattle.frames.proofs.Words.{Spoils, IsClean, other-clean, value-clean, valu
 use Rattle.parts.specs.code.Meets.{Fits, held}
 use Rattle.parts.proofs.Held.{next-found, next-refused}
 use Rattle.calls.specs.Calls.{unlessSpoiled, unspoiled}
-use Rattle.calls.specs.code.Given.{itemFrom, shownEnd, spoiledValue, spoiledFirst, spoiledAt, inPlace}
+use Rattle.calls.specs.code.Given.{itemFrom, firstOf, shownEnd, spoiledValue, spoiledFirst, spoiledAt, inPlace}
 
 -- two items that are one have one tree
 pub item-only : (x y : Tree) (t u : Token) → item x t ≡ item y u → x ≡ y
@@ -74,7 +77,10 @@ kind-two : (kind : ℕ) (t : Token) → eqb kind 2 ≡ true → readKind kind t 
 unfolding readKind when
 kind-two kind t h = rw (eqb-true kind 2 h)
 
-module _ (kind ed : ℕ) (text : List ℕ) (a : First) (f : Fits text a) (g : Ascii text a) where
+module _ (ask : Asked) (a : First) (f : Fits (ask .text) a) (g : Ascii (ask .text) a) where
+  abbrev text : List ℕ
+  text = ask .text
+
   w : List ℕ
   w = wordOf text a
 
@@ -100,18 +106,18 @@ module _ (kind ed : ℕ) (text : List ℕ) (a : First) (f : Fits text a) (g : As
       go true e = let h = ltb-true (runLen shows w) (length w) e in rw (lt-ltb (shownEnd text a) (a .end) (omega (arith, ends, long, f .1, h))) (ap some (sym ends))
       go false e = let h = ltb-false (runLen shows w) (length w) e in rw (le-ltb (shownEnd text a) (a .end) (omega (arith, ends, long, f .1, h)))
 
-  module _ (x : Tree) (t : Token) (e : itemFrom kind ed text a ≡ item x t) where
+  module _ (x : Tree) (t : Token) (e : itemFrom ask a ≡ item x t) where
     -- a string, or an item without one
-    spoiled-is : spoiled x ≡ cond (eqb kind 2 && eqb (a .kind) ByteStringValue) there clean
+    spoiled-is : spoiled x ≡ cond (eqb (ask .kind) 2 && eqb (a .kind) ByteStringValue) there clean
     unfolding w
-    spoiled-is = go (eqb kind 2) refl (eqb (a .kind) ByteStringValue) refl
+    spoiled-is = go (eqb (ask .kind) 2) refl (eqb (a .kind) ByteStringValue) refl
       where
-        go : (b : Bool) → eqb kind 2 ≡ b → (c : Bool) → eqb (a .kind) ByteStringValue ≡ c → spoiled x ≡ cond (b && c) there clean
+        go : (b : Bool) → eqb (ask .kind) 2 ≡ b → (c : Bool) → eqb (a .kind) ByteStringValue ≡ c → spoiled x ≡ cond (b && c) there clean
         go true p true q =
-            spoils-item (λ (o : Option ℕ). o ≡ spoiledWord (a .start) w) x t (value (held ed text a)) (value-string (held ed text a) q) (ap finished (sym (kind-two kind (held ed text a) p)) ∙ e)
+            spoils-item (λ (o : Option ℕ). o ≡ spoiledWord (a .start) w) x t (value (held (ask .edition) (ask .text) a)) (value-string (held (ask .edition) (ask .text) a) q) (ap finished (sym (kind-two (ask .kind) (held (ask .edition) (ask .text) a) p)) ∙ e)
             ∙ word-there (eqb-true (a .kind) ByteStringValue q)
-        go true p false q = spoils-item IsClean x t (value (held ed text a)) (value-clean (held ed text a) q) (ap finished (sym (kind-two kind (held ed text a) p)) ∙ e)
-        go false p c q = spoils-item IsClean x t (readKind kind (held ed text a)) (other-clean kind (held ed text a) p) e
+        go true p false q = spoils-item IsClean x t (value (held (ask .edition) (ask .text) a)) (value-clean (held (ask .edition) (ask .text) a) q) (ap finished (sym (kind-two (ask .kind) (held (ask .edition) (ask .text) a) p)) ∙ e)
+        go false p c q = spoils-item IsClean x t (readKind (ask .kind) (held (ask .edition) (ask .text) a)) (other-clean (ask .kind) (held (ask .edition) (ask .text) a) p) e
 
 -- the place of a value's first byte that spoils its line, by the run
 module _ (text : List ℕ) (a : First) (n : ℕ) (k : a .kind ≡ ByteStringValue) (e : n ≡ shownEnd text a) where
@@ -122,81 +128,80 @@ module _ (text : List ℕ) (a : First) (n : ℕ) (k : a .kind ≡ ByteStringValu
   value-none h = rw (eq-eqb (a .kind) ByteStringValue k, le-ltb (shownEnd text a) (a .end) (omega arith))
 
 -- an item that is read is that of the token that is found at its offset
-record Begun (kind ed : ℕ) (text : List ℕ) (first : Lexed) (x : Tree) (t : Token) : Type 0 where
+record Begun (ask : Asked) (first : Lexed) (x : Tree) (t : Token) : Type 0 where
   token : First
   found : first ≡ Found token
-  fits : Fits text token
-  ascii : Ascii text token
-  from : itemFrom kind ed text token ≡ item x t
+  fits : Fits (ask .text) token
+  ascii : Ascii (ask .text) token
+  from : itemFrom ask token ≡ item x t
 
-module _ (kind ed : ℕ) (text : List ℕ) (at : ℕ) where
+module _ (ask : Asked) where
+  abbrev of : List ℕ
+  of = ask .text
+
   -- no refusal of the caller
-  admitted : (x : Tree) (t : Token) → readItem kind ed text at ≡ item x t → (length text ≤ textLimit) × (at ≤ length text) × (finished (look (lex (opened ed text at)) (readKind kind)) ≡ item x t)
-  unfolding readItem when
-  admitted x t e = go (ltb textLimit (length text)) refl (ltb (length text) at) refl (eqb kind 0 || ltb 5 kind) (noEdition ed) e
+  admitted : (x : Tree) (t : Token) → readItem ask ≡ item x t → (faultOf ask ≡ Faultless) × (finished (reading ask) ≡ item x t)
+  unfolding readItem unless
+  admitted x t e = go (faultOf ask) refl e
     where
-      go : (b : Bool) → ltb textLimit (length text) ≡ b → (c : Bool) → ltb (length text) at ≡ c → (d k : Bool)
-          → when b (λ _. refused (refusal 1 0 0)) (λ _. when c (λ _. refused (refusal 2 0 0)) λ _. when d (λ _. refused (refusal 3 0 0)) λ _. when k (λ _. refused (refusal 19 0 0)) λ _. finished (look (lex (opened ed text at)) (readKind kind))) ≡ item x t
-          → (length text ≤ textLimit) × (at ≤ length text) × (finished (look (lex (opened ed text at)) (readKind kind)) ≡ item x t)
-      go true p c q d k h = absurd (not-item x t (refusal 1 0 0) h)
-      go false p true q d k h = absurd (not-item x t (refusal 2 0 0) h)
-      go false p false q true k h = absurd (not-item x t (refusal 3 0 0) h)
-      go false p false q false true h = absurd (not-item x t (refusal 19 0 0) h)
-      go false p false q false false h = (ltb-false textLimit (length text) p, ltb-false (length text) at q, h)
+      go : (f : Fault) → faultOf ask ≡ f → unless refused f (finished (reading ask)) ≡ item x t → (faultOf ask ≡ Faultless) × (finished (reading ask) ≡ item x t)
+      go Faultless p h = (p, h)
+      go (Faulty r) p h = absurd (not-item x t r h)
 
-  begun : (first : Lexed) → first ≡ nextToken ed text at → (x : Tree) (t : Token) → readItem kind ed text at ≡ item x t → Begun kind ed text first x t
+  begun : (first : Lexed) → first ≡ firstOf ask → (x : Tree) (t : Token) → readItem ask ≡ item x t → Begun ask first x t
   unfolding finished look
   begun (Found a) f x t e =
-      let n = next-found ed text at a (sym f) in
-      record { token = a; found = refl; fits = n .fits; ascii = found-ascii ed text at a (n .is); from = ap (λ (l : Scanned). finished (look l (readKind kind))) (sym (n .is)) ∙ admitted x t e .2 }
+      let n = next-found (ask .edition) of (ask .at) a (sym f) in
+      record { token = a; found = refl; fits = n .fits; ascii = found-ascii (ask .edition) of (ask .at) a (n .is); from = ap (λ (l : Scanned). finished (look l (readKind (ask .kind)))) (sym (n .is)) ∙ admitted x t e .1 }
   begun (Bad r) f x t e =
-      let d = admitted x t e in
-      absurd (not-item x t r (ap (λ (l : Scanned). finished (look l (readKind kind))) (sym (next-refused ed text at (d .0) (d .1) r (sym f))) ∙ d .2))
+      let g = admitted x t e in
+      let d = in-order ask (g .0) in
+      absurd (not-item x t r (ap (λ (l : Scanned). finished (look l (readKind (ask .kind)))) (sym (next-refused (ask .edition) of (ask .at) (d .short) (d .inside) r (sym f))) ∙ g .1))
 
-  module _ (first : Lexed) (f : first ≡ nextToken ed text at) (b : ℕ) (h : b ≡ spoiledAt kind text first) where
+  module _ (first : Lexed) (f : first ≡ firstOf ask) (b : ℕ) (h : b ≡ spoiledAt (ask .kind) of first) where
     -- the place, by the item's first token
-    at-token : (a : First) → first ≡ Found a → b ≡ cond (eqb kind 2) (cond (eqb (a .kind) ByteStringValue && ltb (shownEnd text a) (a .end)) (shownEnd text a) (length text)) (length text)
+    at-token : (a : First) → first ≡ Found a → b ≡ cond (eqb (ask .kind) 2) (cond (eqb (a .kind) ByteStringValue && ltb (shownEnd of a) (a .end)) (shownEnd of a) (length of)) (length of)
     unfolding spoiledFirst
-    at-token a e = h ∙ ap (spoiledAt kind text) e
+    at-token a e = h ∙ ap (spoiledAt (ask .kind) of) e
 
     -- where no byte spoils the line, the item is clean; where one does, it is the first
-    item-clean : (x : Tree) (t : Token) → readItem kind ed text at ≡ item x t → length text ≤ b → spoiled x ≡ clean
+    item-clean : (x : Tree) (t : Token) → readItem ask ≡ item x t → length of ≤ b → spoiled x ≡ clean
     item-clean x t e l =
         let d = begun first f x t e in
         let a = d .token in
-        spoiled-is kind ed text a (d .fits) (d .ascii) x t (d .from) ∙ go a (d .fits) (eqb kind 2) (eqb (a .kind) ByteStringValue) (ltb (shownEnd text a) (a .end)) refl (at-token a (d .found))
+        spoiled-is ask a (d .fits) (d .ascii) x t (d .from) ∙ go a (d .fits) (eqb (ask .kind) 2) (eqb (a .kind) ByteStringValue) (ltb (shownEnd of a) (a .end)) refl (at-token a (d .found))
       where
-        go : (a : First) → Fits text a → (p q r : Bool) → ltb (shownEnd text a) (a .end) ≡ r → b ≡ cond p (cond (q && r) (shownEnd text a) (length text)) (length text)
-            → cond (p && q) (cond r (some (shownEnd text a)) clean) clean ≡ clean
-        go a k true true true i j = let m = ltb-true (shownEnd text a) (a .end) i in absurd (omega (arith, k .2))
+        go : (a : First) → Fits of a → (p q r : Bool) → ltb (shownEnd of a) (a .end) ≡ r → b ≡ cond p (cond (q && r) (shownEnd of a) (length of)) (length of)
+            → cond (p && q) (cond r (some (shownEnd of a)) clean) clean ≡ clean
+        go a k true true true i j = let m = ltb-true (shownEnd of a) (a .end) i in absurd (omega (arith, k .2))
         go a k true true false i j = refl
         go a k true false r i j = refl
         go a k false q r i j = refl
 
-    item-spoiled : (x : Tree) (t : Token) → readItem kind ed text at ≡ item x t → b < length text → spoiled x ≡ some b
+    item-spoiled : (x : Tree) (t : Token) → readItem ask ≡ item x t → b < length of → spoiled x ≡ some b
     item-spoiled x t e l =
         let d = begun first f x t e in
         let a = d .token in
-        spoiled-is kind ed text a (d .fits) (d .ascii) x t (d .from) ∙ go a (eqb kind 2) (eqb (a .kind) ByteStringValue) (ltb (shownEnd text a) (a .end)) (at-token a (d .found))
+        spoiled-is ask a (d .fits) (d .ascii) x t (d .from) ∙ go a (eqb (ask .kind) 2) (eqb (a .kind) ByteStringValue) (ltb (shownEnd of a) (a .end)) (at-token a (d .found))
       where
-        go : (a : First) → (p q r : Bool) → b ≡ cond p (cond (q && r) (shownEnd text a) (length text)) (length text) → cond (p && q) (cond r (some (shownEnd text a)) clean) clean ≡ some b
+        go : (a : First) → (p q r : Bool) → b ≡ cond p (cond (q && r) (shownEnd of a) (length of)) (length of) → cond (p && q) (cond r (some (shownEnd of a)) clean) clean ≡ some b
         go a true true true j = ap some (sym j)
         go a true true false j = absurd (omega arith)
         go a true false r j = absurd (omega arith)
         go a false q r j = absurd (omega arith)
 
-    pub read-clean : length text ≤ b → unspoiled (readItem kind ed text at) ≡ readItem kind ed text at
+    pub read-clean : length of ≤ b → unspoiled (readItem ask) ≡ readItem ask
     unfolding unspoiled unlessSpoiled
-    read-clean l = go (readItem kind ed text at) refl
+    read-clean l = go (readItem ask) refl
       where
-        go : (i : Item) → readItem kind ed text at ≡ i → unspoiled i ≡ i
+        go : (i : Item) → readItem ask ≡ i → unspoiled i ≡ i
         go (item x t) e = ap (λ (o : Option ℕ). unlessSpoiled o (item x t)) (item-clean x t e l)
         go (refused r) e = refl
 
-    pub read-spoiled : b < length text → (q : Refusal) → q ≡ refusal LineSpoiled b (b + 1) → unspoiled (readItem kind ed text at) ≡ inPlace q (readItem kind ed text at)
+    pub read-spoiled : b < length of → (q : Refusal) → q ≡ refusal LineSpoiled b (b + 1) → unspoiled (readItem ask) ≡ inPlace q (readItem ask)
     unfolding unspoiled unlessSpoiled inPlace
-    read-spoiled l q g = go (readItem kind ed text at) refl
+    read-spoiled l q g = go (readItem ask) refl
       where
-        go : (i : Item) → readItem kind ed text at ≡ i → unspoiled i ≡ inPlace q i
+        go : (i : Item) → readItem ask ≡ i → unspoiled i ≡ inPlace q i
         go (item x t) e = ap (λ (o : Option ℕ). unlessSpoiled o (item x t)) (item-spoiled x t e l) ∙ ap refused (sym g)
         go (refused r) e = refl

@@ -2,17 +2,16 @@
 -- an item is written, which for a read the text and the tree decide. What is left of a call is its form, its room and its answer, and of a
 -- display that nothing spoils the line.
 use Prim.Native.Nat.{ℕ, _+_, min}
-use mathlib.Core.Bool.{Bool, _||_}
 use mathlib.Core.List.{List, [], _∷_, _++_}
 use mathlib.Core.Option.{Option, some, none as clean}
-use lib.Dec.{eqb, ltb}
+use lib.Dec.{ltb}
 use lib.ListN.{length, drop}
-use Rattle.tokens.specs.Refusals.{TextTooLong, StartPastEnd, NoSuchKind, NoSuchEdition, NoRoom, NoToken, CommentNotClosed, HexStringNotClosed, ByteStringNotClosed, StringNotAscii, UnexpectedToken, CommaForItem, ListNotClosed, NoValue, TooDeep, LineSpoiled}
+use Rattle.tokens.specs.Refusals.{NoRoom, NoToken, CommentNotClosed, HexStringNotClosed, ByteStringNotClosed, StringNotAscii, UnexpectedToken, CommaForItem, ListNotClosed, NoValue, TooDeep, LineSpoiled}
 use Rattle.tokens.specs.Answers.{refusal, places}
 use Rattle.records.specs.Tree.{Tree}
 use Rattle.sources.specs.Source.{tokenOf}
 use Rattle.answers.specs.Reading.{when}
-use Rattle.grammar.specs.Items.{Item, item, refused, readItem}
+use Rattle.grammar.specs.Items.{Item, item, refused, Asked, faultRefusals, readItem}
 use Rattle.forms.specs.Forms.{FormLine, written, formOf}
 use Rattle.forms.specs.Spoiled.{spoiled}
 use Rattle.calls.specs.declared.Answer.{Answer}
@@ -23,16 +22,12 @@ use Rattle.calls.specs.declared.Displayed.the-variants.{Line, Refused as
 -- all that a read can meet; a display meets one more
 abbrev pub itemRefusals : List ℕ
 itemRefusals =
-    TextTooLong ∷ StartPastEnd ∷ NoSuchKind ∷ NoSuchEdition ∷ NoRoom
-    ∷ NoToken ∷ CommentNotClosed ∷ HexStringNotClosed ∷ ByteStringNotClosed ∷ StringNotAscii
-    ∷ UnexpectedToken ∷ CommaForItem ∷ ListNotClosed ∷ NoValue ∷ TooDeep ∷ []
+    faultRefusals
+    ++ (NoRoom ∷ NoToken ∷ CommentNotClosed ∷ HexStringNotClosed ∷ ByteStringNotClosed ∷ StringNotAscii
+    ∷ UnexpectedToken ∷ CommaForItem ∷ ListNotClosed ∷ NoValue ∷ TooDeep ∷ [])
 
 abbrev pub displayRefusals : List ℕ
 displayRefusals = LineSpoiled ∷ itemRefusals
-
--- a number that is no kind of item
-abbrev pub noKind : ℕ → Bool
-noKind kind = eqb kind 0 || ltb 5 kind
 
 -- the longest line
 abbrev pub lineLimit : ℕ
@@ -63,11 +58,11 @@ answeredIn form (item x t) = Accepted (length (written (form x) x)) (tokenOf t)
 answeredIn form (refused r) = Rejected r
 
 -- the read call: the item's stored tree
-unfoldable pub read : ℕ → ℕ → List ℕ → ℕ → ℕ → Item
-read kind ed text at room = roomed (formOf text) room (readItem kind ed text at)
+unfoldable pub read : Asked → ℕ → Item
+read q room = roomed (formOf (q .text)) room (readItem q)
 
-unfoldable pub readBuffer : ℕ → ℕ → List ℕ → ℕ → List ℕ → List ℕ
-readBuffer kind ed text at out = filled (formOf text) (read kind ed text at (length out)) out
+unfoldable pub readBuffer : Asked → List ℕ → List ℕ
+readBuffer q out = filled (formOf (q .text)) (read q (length out)) out
 
 unfoldable pub answered : List ℕ → Item → Answer
 answered text i = answeredIn (formOf text) i
@@ -85,11 +80,11 @@ readValues (Rejected r) = places r
 abbrev pub asLine : Tree → ℕ
 asLine t = FormLine
 
-unfoldable pub display : ℕ → ℕ → List ℕ → ℕ → ℕ → Item
-display kind ed text at room = roomed asLine (min room lineLimit) (unspoiled (readItem kind ed text at))
+unfoldable pub display : Asked → ℕ → Item
+display q room = roomed asLine (min room lineLimit) (unspoiled (readItem q))
 
-unfoldable pub displayBuffer : ℕ → ℕ → List ℕ → ℕ → List ℕ → List ℕ
-displayBuffer kind ed text at out = filled asLine (display kind ed text at (length out)) out
+unfoldable pub displayBuffer : Asked → List ℕ → List ℕ
+displayBuffer q out = filled asLine (display q (length out)) out
 
 -- the line's length alone
 unfoldable pub displayed : Item → Displayed

@@ -4,10 +4,10 @@ ghost use mathlib.Core.Path.{_≡_};
 ghost use Prim.Native.Nat.{_-_, _≤_};
 ghost use lib.ListN.{length};
 ghost use Rattle.tokens.specs.Calls.{nextToken};
-ghost use Rattle.grammar.specs.Items.{readKind};
+ghost use Rattle.grammar.specs.Items.{readKind, asked, noKind, faultOf};
 ghost use Rattle.forms.specs.Forms.{narrowLimit};
 ghost use Rattle.parts.specs.code.Meets.{Fits, held, Reads};
-ghost use Rattle.calls.specs.Calls.{noKind, answered, readBuffer, displayed, displayBuffer};
+ghost use Rattle.calls.specs.Calls.{answered, readBuffer, displayed, displayBuffer};
 ghost use Rattle.calls.specs.code.Given.{refusedWith, atStart, firstForm, roomIn, shownEnd, spoiledValue, spoiledAt, replacedBy, SpoiledFrom, LaidDown, Widens, Longer, Lays, answerOf, bufferOf, Calls, Displays};
 use classes::SHOWN;
 use forms::FORM_LINE;
@@ -17,16 +17,13 @@ use forms::Spot;
 use parts::LEVELS;
 use parts::Parsed;
 use parts::Way;
+use tokens::Fault;
 use tokens::Lexed;
 use tokens::Refusal;
-use tokens::TEXT_LIMIT;
 use tokens::Token;
 use tokens::refusals::LINE_SPOILED;
 use tokens::refusals::NO_ROOM;
-use tokens::refusals::NO_SUCH_EDITION;
 use tokens::refusals::NO_SUCH_KIND;
-use tokens::refusals::START_PAST_END;
-use tokens::refusals::TEXT_TOO_LONG;
 use words::kinds::BYTE_STRING_VALUE;
 
 // The kinds of items.
@@ -181,7 +178,7 @@ fn bytes_left(text: &[u8], at: usize) -> usize
 
 // Lays the item whose first token is a down at the front of the buffer, behind what stands in front there.
 fn lay_down(form: u8, kind: u64, edition: u64, text: &[u8], a: Token, out: &mut [u8]) -> Parsed
-    ensures { λ r. ⌜ LaidDown form kind edition (now (text .entry)) a (now (out .entry)) r (now (out .exit)) ⌝ }
+    ensures { λ r. ⌜ LaidDown form (asked kind edition (now (text .entry)) (a .start)) a (now (out .entry)) r (now (out .exit)) ⌝ }
 {
     let s = forms::put_front(form, out, at_start());
     parse_item(form, kind, edition, text, a, out, s)
@@ -198,7 +195,7 @@ fn lay_wide(
     next: Token,
     out: &mut [u8],
 ) -> Answer
-    ensures { λ r. ⌜ Widens kind edition (now (text .entry)) a n next (now (out .entry)) r (now (out .exit)) ⌝ }
+    ensures { λ r. ⌜ Widens (asked kind edition (now (text .entry)) (a .start)) a n next (now (out .entry)) r (now (out .exit)) ⌝ }
 {
     let m = widened(n);
     if out.len() < m {
@@ -220,7 +217,7 @@ fn lay_longer(
     next: Token,
     out: &mut [u8],
 ) -> Answer
-    ensures { λ r. ⌜ Longer form kind edition (now (text .entry)) a n next (now (out .entry)) r (now (out .exit)) ⌝ }
+    ensures { λ r. ⌜ Longer form (asked kind edition (now (text .entry)) (a .start)) a n next (now (out .entry)) r (now (out .exit)) ⌝ }
 {
     if outgrown(form, n) {
         return lay_wide(kind, edition, text, a, n, next, out);
@@ -245,7 +242,7 @@ fn lay_over(
     out: &mut [u8],
 ) -> Made
     requires { ⌜ length (now made) ≤ narrowLimit ⌝ }
-    ensures { λ r. ⌜ Lays form kind edition (now (text .entry)) a (now (out .entry)) (answerOf r) (bufferOf r (now (made .exit)) (now (out .exit))) ⌝ }
+    ensures { λ r. ⌜ Lays form (asked kind edition (now (text .entry)) (a .start)) a (now (out .entry)) (answerOf r) (bufferOf r (now (made .exit)) (now (out .exit))) ⌝ }
 {
     let d = lay_down(form, kind, edition, text, a, made);
     match d {
@@ -283,7 +280,7 @@ fn copied(d: Made, made: &[u8], out: &mut [u8]) -> Answer
 // The item whose first token is a, over a buffer of its own: most items are short enough to be read once, and
 // a short buffer is made sooner. Short texts may be deeply nested and have longer trees for their bytes.
 fn lay_item(form: u8, kind: u64, edition: u64, text: &[u8], a: Token, out: &mut [u8]) -> Answer
-    ensures { λ r. ⌜ Lays form kind edition (now (text .entry)) a (now (out .entry)) r (now (out .exit)) ⌝ }
+    ensures { λ r. ⌜ Lays form (asked kind edition (now (text .entry)) (a .start)) a (now (out .entry)) r (now (out .exit)) ⌝ }
 {
     let left = bytes_left(text, a.start);
     if left <= 64 {
@@ -301,6 +298,22 @@ fn lay_item(form: u8, kind: u64, edition: u64, text: &[u8], a: Token, out: &mut 
     copied(d, &made, out)
 }
 
+// What is wrong with what is asked, before the item is looked at: refusals 1, 2, 3 and 19, in this order.
+fn fault(kind: u64, edition: u64, text: &[u8], at: usize) -> Fault
+    ensures { λ r. ⌜ r ≡ faultOf (asked kind edition (now (text .entry)) at) ⌝ }
+{
+    let f = tokens::place_fault(text, at);
+    match f {
+        Fault::Faulty(r) => Fault::Faulty(r),
+        Fault::Faultless => {
+            if no_kind(kind) {
+                return Fault::Faulty(tokens::refuse(NO_SUCH_KIND, 0, 0));
+            }
+            tokens::edition_fault(edition)
+        }
+    }
+}
+
 // A call in a form, with the token that was found at the offset.
 fn call(
     form: u8,
@@ -311,30 +324,22 @@ fn call(
     first: Lexed,
     out: &mut [u8],
 ) -> Answer
-    ensures { λ r. ⌜ Calls form kind edition (now (text .entry)) at first (now (out .entry)) r (now (out .exit)) ⌝ }
+    ensures { λ r. ⌜ Calls form (asked kind edition (now (text .entry)) at) first (now (out .entry)) r (now (out .exit)) ⌝ }
 {
-    if TEXT_LIMIT < text.len() {
-        return refused(TEXT_TOO_LONG);
-    }
-    if text.len() < at {
-        return refused(START_PAST_END);
-    }
-    if no_kind(kind) {
-        return refused(NO_SUCH_KIND);
-    }
-    if tokens::no_edition(edition) {
-        return refused(NO_SUCH_EDITION);
-    }
-    match first {
-        Lexed::Refused(r) => Answer::Refused(r),
-        Lexed::Found(a) => lay_item(form, kind, edition, text, a, out),
+    let f = fault(kind, edition, text, at);
+    match f {
+        Fault::Faulty(r) => Answer::Refused(r),
+        Fault::Faultless => match first {
+            Lexed::Refused(r) => Answer::Refused(r),
+            Lexed::Found(a) => lay_item(form, kind, edition, text, a, out),
+        },
     }
 }
 
 // The read call.
 pub fn read(kind: u64, edition: u64, text: &[u8], at: usize, out: &mut [u8]) -> Answer
-    ensures answer { λ r. ⌜ r ≡ answered (now (text .entry)) (Rattle.calls.specs.Calls.read kind edition (now (text .entry)) at (length (now (out .entry)))) ⌝ }
-    ensures buffer { λ r. ⌜ now (out .exit) ≡ readBuffer kind edition (now (text .entry)) at (now (out .entry)) ⌝ }
+    ensures answer { λ r. ⌜ r ≡ answered (now (text .entry)) (Rattle.calls.specs.Calls.read (asked kind edition (now (text .entry)) at) (length (now (out .entry)))) ⌝ }
+    ensures buffer { λ r. ⌜ now (out .exit) ≡ readBuffer (asked kind edition (now (text .entry)) at) (now (out .entry)) ⌝ }
 {
     let first = tokens::next_token(edition, text, at);
     call(first_form(text), kind, edition, text, at, first, out)
@@ -397,7 +402,7 @@ fn spoiled_from(
     first: Lexed,
     q: Refusal,
 ) -> Displayed
-    ensures { λ d. ⌜ SpoiledFrom kind edition (now (text .entry)) at first q d ⌝ }
+    ensures { λ d. ⌜ SpoiledFrom (asked kind edition (now (text .entry)) at) first q d ⌝ }
 {
     let mut none = [0u8; 1];
     let d = call(FORM_LINE, kind, edition, text, at, first, &mut none);
@@ -416,7 +421,7 @@ fn display_from(
     first: Lexed,
     line: &mut [u8],
 ) -> Displayed
-    ensures { λ r. ⌜ Displays kind edition (now (text .entry)) at first (now (line .entry)) r (now (line .exit)) ⌝ }
+    ensures { λ r. ⌜ Displays (asked kind edition (now (text .entry)) at) first (now (line .entry)) r (now (line .exit)) ⌝ }
 {
     let b = spoiled_at(kind, text, first);
     if b < text.len() {
@@ -465,16 +470,16 @@ pub fn next<'a>(r: Reader<'a>, edition: u64) -> Lexed
 
 // The display of the item where the reader stands, from the token that it finds there.
 pub fn show<'a>(r: Reader<'a>, kind: u64, edition: u64, line: &mut [u8]) -> Displayed
-    ensures answer { λ d. ⌜ d ≡ displayed (Rattle.calls.specs.Calls.display kind edition (now (r .entry .text)) (r .entry .at) (length (now (line .entry)))) ⌝ }
-    ensures buffer { λ d. ⌜ now (line .exit) ≡ displayBuffer kind edition (now (r .entry .text)) (r .entry .at) (now (line .entry)) ⌝ }
+    ensures answer { λ d. ⌜ d ≡ displayed (Rattle.calls.specs.Calls.display (asked kind edition (now (r .entry .text)) (r .entry .at)) (length (now (line .entry)))) ⌝ }
+    ensures buffer { λ d. ⌜ now (line .exit) ≡ displayBuffer (asked kind edition (now (r .entry .text)) (r .entry .at)) (now (line .entry)) ⌝ }
 {
     display_from(kind, edition, r.text, r.at, next(r, edition), line)
 }
 
 // The display call, with plain parameters: who calls it needs no reader.
 pub fn display(kind: u64, edition: u64, text: &[u8], at: usize, line: &mut [u8]) -> Displayed
-    ensures answer { λ d. ⌜ d ≡ displayed (Rattle.calls.specs.Calls.display kind edition (now (text .entry)) at (length (now (line .entry)))) ⌝ }
-    ensures buffer { λ d. ⌜ now (line .exit) ≡ displayBuffer kind edition (now (text .entry)) at (now (line .entry)) ⌝ }
+    ensures answer { λ d. ⌜ d ≡ displayed (Rattle.calls.specs.Calls.display (asked kind edition (now (text .entry)) at) (length (now (line .entry)))) ⌝ }
+    ensures buffer { λ d. ⌜ now (line .exit) ≡ displayBuffer (asked kind edition (now (text .entry)) at) (now (line .entry)) ⌝ }
 {
     show(open(text, at), kind, edition, line)
 }

@@ -12,14 +12,16 @@ use Rattle.records.specs.Tree.{Tree, Trees}
 use Rattle.records.specs.Stored.{Kinds, KindsAll}
 use Rattle.sources.specs.Source.{Source, Token, Scanned, tok, bad, scanned, lex}
 use Rattle.answers.specs.Reading.{Ans, ok, no, Reader}
-use Rattle.frames.specs.Related.{Frame, Alike, leaves, nodes, AllAlike, nones, mores, Step, Met, toks, bads, Rel, oks, nos, quit, Lawful, Strings, Obeys}
+use Rattle.frames.specs.Related.{Step, Met, toks, bads, Rel, oks, nos, quit}
+use Rattle.frames.specs.Shape.{Shape, Alike, leaves, nodes, AllAlike, nones, mores, framed, Shapely, Strings}
+use Rattle.frames.proofs.Shapes.{Obeys}
 
 -- what the lexer refuses, and what readers do
 abbrev pub textRefusals : List ℕ
 textRefusals = lexRefusals ++ (UnexpectedToken ∷ CommaForItem ∷ ListNotClosed ∷ NoValue ∷ TooDeep ∷ [])
 
-abbrev frame : Frame
-frame = record { starts = λ a b. Unit {0}; ends = λ a b. Unit {0}; source = λ u v. u ≡ v; kind = λ c. c < 65536; word = λ k w. Unit {0}; number = λ n. among textRefusals n ≡ true; quits = λ _. ⊥ }
+abbrev frame : Shape
+frame = record { starts = λ a b. Unit {0}; ends = λ a b. Unit {0}; source = λ u v. u ≡ v; kind = λ c. c < 65536; word = λ k w s s₂. Unit {0}; number = λ n. among textRefusals n ≡ true; quits = λ _. ⊥ }
 
 abbrev pub TokenMet : Scanned → Type 0
 TokenMet (tok t) = Unit {0}
@@ -34,10 +36,10 @@ pub token-met : (u : Source) → TokenMet (lex u)
 unfolding lex
 token-met u = scanned-met u (lexFrom (u .edition) (u .at) (u .rest)) (lex-met (u .edition) (u .at) (u .rest))
 
-token-itself : (t : Token) → Step frame t t
-token-itself t = record { kind = refl; spelled = refl; good = tt; from = tt; to = tt; on = λ _. refl; half = λ _. refl }
+token-itself : (t : Token) → Step (framed frame) t t
+token-itself t = record { kind = refl; spelled = refl; good = record { good = tt; from = tt; to = tt }; on = λ _. refl; half = λ _. refl }
 
-itself : (l : Scanned) → TokenMet l → Met frame l l
+itself : (l : Scanned) → TokenMet l → Met (framed frame) l l
 itself (tok t) h = toks (token-itself t)
 itself (bad r) h = bads (record { same = refl; good = h; from = tt; to = tt; from₂ = tt; to₂ = tt })
 
@@ -50,14 +52,14 @@ reader-number (suc (suc (suc zero))) h = refl
 reader-number (suc (suc (suc (suc zero)))) h = refl
 reader-number (suc (suc (suc (suc (suc i))))) h = absurd (omega arith)
 
-law : Lawful frame
+law : Shapely frame
 law =
     record {
       point = λ s s₂ h. tt;
       ended = λ u u₂ h. tt;
       next = λ u u₂ h. rw h (itself (lex u₂) (token-met u₂));
       kinds = λ c h s. omega arith;
-      wordless = tt;
+      wordless = λ s s₂. tt;
       numbers = λ n h g.
           let z : UnexpectedToken + (n - UnexpectedToken) ≡ n = omega arith in
           subst (λ (m : ℕ). among textRefusals m ≡ true) z (reader-number (n - UnexpectedToken) (omega arith));
@@ -82,7 +84,7 @@ abbrev pub Checked : Ans Tree → Type 0
 Checked (ok x u) = Kinds x
 Checked (no r) = among textRefusals (r .number) ≡ true
 
-checked : {a b : Ans Tree} → Rel frame (Alike frame) a b → Checked a
+checked : {m m₂ : ℕ} {a b : Ans Tree} → Rel (framed frame) m m₂ (λ u u₂ x y. Alike frame x y) a b → Checked a
 checked (oks x n) = tree-kinds x
 checked (nos d) = d .good
 checked (quit d) = absurd d

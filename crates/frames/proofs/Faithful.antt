@@ -2,35 +2,34 @@
 -- records and how many there are, so that each number fits its bytes and the stored tree tells the tree from that of every other item,
 -- but for words.
 use mathlib.Core.Path.{_≡_, refl, ap, sym, subst, _∙_}
-use mathlib.Core.Bool.{true, _||_}
-use mathlib.Core.List.{List, _∷_}
+use mathlib.Core.Bool.{true}
+use mathlib.Core.List.{List, _++_}
 use Prim.Native.Nat.{ℕ, _*_, _≤_}
 use native.Mathlib.Omega.{arith}
-use borrow.Author.Tests.{ltb-false}
-use lib.Dec.{eqb, ltb}
 use lib.ListN.{length}
-use Rattle.tokens.specs.Refusals.{TextTooLong, StartPastEnd, NoSuchKind, NoSuchEdition, among}
-use Rattle.tokens.specs.Calls.{textLimit, noEdition}
+use Rattle.tokens.specs.Refusals.{among}
+use Rattle.tokens.specs.Calls.{textLimit}
 use Rattle.tokens.specs.declared.Refusal.{Refusal}
+use Rattle.tokens.proofs.Faults.{unless-sure}
 use Rattle.tokens.proofs.RefusalSets.{subset, among-subset}
 use Rattle.records.specs.Tree.{Tree}
 use Rattle.records.specs.Stored.{unspelled, records, Kinds}
 use Rattle.sources.specs.Source.{opened, Token, Scanned, tok, bad, lex}
 use Rattle.answers.specs.Reading.{Ans, ok, no, look}
-use Rattle.answers.proofs.Sure.{when-sure}
-use Rattle.grammar.specs.Items.{Item, item, refused, readKind, followed, finished, readItem}
-use Rattle.grammar.proofs.Held.{HeldItem, Held, item-held}
+use Rattle.grammar.specs.Items.{Item, item, refused, readKind, followed, finished, Asked, faultOf, faultRefusals, reading, readItem}
+use Rattle.grammar.proofs.Asked.{fault-each, in-order}
+use Rattle.frames.proofs.Held.{HeldItem, Held, item-held}
 use Rattle.forms.specs.Forms.{FormNarrow, FormWide, headSize, width, written, formOf, treeRoom, Fitting}
 use Rattle.forms.proofs.Constructs.{written-stored}
 use Rattle.forms.proofs.Sizes.{recorded-size, narrow-size, wide-size}
 use Rattle.forms.proofs.Injective.{fitting-tree, written-injective}
 use Rattle.forms.proofs.Apart.{form-narrow, form-cases, form-stored, same-form}
 use Rattle.frames.proofs.Checked.{textRefusals, TokenMet, token-met, Checked, checked-reader}
-use Rattle.frames.proofs.Readers.{kind-obeys}
+use Rattle.frames.proofs.Shapes.{kind-obeys}
 
 -- all that an item is refused with before its room is looked at: 1 to 3 and 5 to 14
 abbrev pub readRefusals : List ℕ
-readRefusals = TextTooLong ∷ StartPastEnd ∷ NoSuchKind ∷ NoSuchEdition ∷ textRefusals
+readRefusals = faultRefusals ++ textRefusals
 
 abbrev pub Told : List ℕ → Item → Type 0
 Told text (item x t) = Kinds x × (length text ≤ textLimit)
@@ -56,33 +55,30 @@ module _ (text : List ℕ) (h : length text ≤ textLimit) where
   finished-told (ok x u) g = followed-told x (lex u) g (token-met u)
   finished-told (no r) g = of-text (r .number) g
 
-pub item-told : (kind ed : ℕ) (text : List ℕ) (at : ℕ) → Told text (readItem kind ed text at)
+pub item-told : (q : Asked) → Told (q .text) (readItem q)
 unfolding readItem among
-item-told kind ed text at =
-    when-sure (Told text) (ltb textLimit (length text)) _ _ (λ _. refl)
-    (λ b. when-sure (Told text) (ltb (length text) at) _ _ (λ _. refl)
-    (λ _. when-sure (Told text) (eqb kind 0 || ltb 5 kind) _ _ (λ _. refl)
-    (λ _. when-sure (Told text) (noEdition ed) _ _ (λ _. refl)
-    (λ _. finished-told text (ltb-false textLimit (length text) b) (look (lex (opened ed text at)) (readKind kind)) (looked-checked kind (lex (opened ed text at)) (token-met (opened ed text at)))))))
+item-told q =
+    unless-sure refused (Told (q .text)) (faultOf q) _ (fault-each q (λ (r : Refusal). among readRefusals (r .number) ≡ true) refl refl refl refl) λ e.
+    finished-told (q .text) (in-order q e .short) (reading q) (looked-checked (q .kind) (lex (opened (q .edition) (q .text) (q .at))) (token-met (opened (q .edition) (q .text) (q .at))))
 
 -- an item is refused with one of these numbers
-pub item-refusals : (kind ed : ℕ) (text : List ℕ) (at : ℕ) (r : Refusal) → readItem kind ed text at ≡ refused r → among readRefusals (r .number) ≡ true
-item-refusals kind ed text at r e = subst (Told text) e (item-told kind ed text at)
+pub item-refusals : (q : Asked) (r : Refusal) → readItem q ≡ refused r → among readRefusals (r .number) ≡ true
+item-refusals q r e = subst (Told (q .text)) e (item-told q)
 
-module _ (kind ed : ℕ) (text : List ℕ) (at : ℕ) (x : Tree) (t : Token) (e : readItem kind ed text at ≡ item x t) where
-  held : HeldItem text at x t
-  held = subst (Held text at) e (item-held text at kind ed)
+module _ (q : Asked) (x : Tree) (t : Token) (e : readItem q ≡ item x t) where
+  held : HeldItem (q .text) (q .at) x t
+  held = subst (Held (q .text) (q .at)) e (item-held q)
 
-  told : Kinds x × (length text ≤ textLimit)
-  told = subst (Told text) e (item-told kind ed text at)
+  told : Kinds x × (length (q .text) ≤ textLimit)
+  told = subst (Told (q .text)) e (item-told q)
 
   -- an accepted one has at most three records for each byte of the text, so that `treeRoom` bytes have room for its tree
-  pub item-records : records x ≤ 3 * length text
+  pub item-records : records x ≤ 3 * length (q .text)
   item-records = omega (arith, narrow-size x, held .small, held .follows, held .within)
 
-  pub item-room : length (written (formOf text x) x) ≤ treeRoom (length text)
+  pub item-room : length (written (formOf (q .text) x) x) ≤ treeRoom (length (q .text))
   item-room =
-      form-cases text x (λ (f : ℕ). length (written f x) ≤ treeRoom (length text)) (λ _. omega (arith, ap length (written-stored x), narrow-size x, item-records))
+      form-cases (q .text) x (λ (f : ℕ). length (written f x) ≤ treeRoom (length (q .text))) (λ _. omega (arith, ap length (written-stored x), narrow-size x, item-records))
       (λ _. omega (arith, wide-size x, item-records))
 
   -- each number of its records fits four bytes, and fits its bytes in the form that is written
@@ -90,20 +86,20 @@ module _ (kind ed : ℕ) (text : List ℕ) (at : ℕ) (x : Tree) (t : Token) (e 
   unfolding width headSize
   item-wide = fitting-tree FormWide x (told .0) (held .nested) (omega (arith, held .follows, held .within, told .1)) (omega (arith, recorded-size FormWide x, item-records, told .1))
 
-  pub item-fitting : Fitting (formOf text x) x
+  pub item-fitting : Fitting (formOf (q .text) x) x
   unfolding width headSize
-  item-fitting = form-cases text x (λ (f : ℕ). Fitting f x) narrow (λ _. item-wide)
+  item-fitting = form-cases (q .text) x (λ (f : ℕ). Fitting f x) narrow (λ _. item-wide)
     where
-      narrow : formOf text x ≡ FormNarrow → Fitting FormNarrow x
+      narrow : formOf (q .text) x ≡ FormNarrow → Fitting FormNarrow x
       narrow f =
-          let g = form-narrow text x .0 f in
+          let g = form-narrow (q .text) x .0 f in
           fitting-tree FormNarrow x (told .0) (held .nested) (omega (arith, held .follows, held .within, g .0)) (omega (arith, recorded-size FormNarrow x, g .1))
 
 -- items of any texts, offsets, kinds and editions that are written as the same bytes have the same form and the same records
-pub item-faithful : (kind kind₂ ed ed₂ : ℕ) (text text₂ : List ℕ) (at at₂ : ℕ) (x x₂ : Tree) (t t₂ : Token) → readItem kind ed text at ≡ item x t → readItem kind₂ ed₂ text₂ at₂ ≡ item x₂ t₂
-    → written (formOf text x) x ≡ written (formOf text₂ x₂) x₂ → (formOf text x ≡ formOf text₂ x₂) × (unspelled x ≡ unspelled x₂)
-item-faithful kind kind₂ ed ed₂ text text₂ at at₂ x x₂ t t₂ e e₂ p =
-    let q = same-form text text₂ x x₂ p in
-    let f : ℕ = formOf text x in
-    let fits : Fitting f x₂ = subst (λ (g : ℕ). Fitting g x₂) (sym q) (item-fitting kind₂ ed₂ text₂ at₂ x₂ t₂ e₂) in
-    (q, written-injective f (form-stored text x) x x₂ (item-fitting kind ed text at x t e) fits (p ∙ ap (λ (g : ℕ). written g x₂) (sym q)))
+pub item-faithful : (q q₂ : Asked) (x x₂ : Tree) (t t₂ : Token) → readItem q ≡ item x t → readItem q₂ ≡ item x₂ t₂
+    → written (formOf (q .text) x) x ≡ written (formOf (q₂ .text) x₂) x₂ → (formOf (q .text) x ≡ formOf (q₂ .text) x₂) × (unspelled x ≡ unspelled x₂)
+item-faithful q q₂ x x₂ t t₂ e e₂ p =
+    let s = same-form (q .text) (q₂ .text) x x₂ p in
+    let f : ℕ = formOf (q .text) x in
+    let fits : Fitting f x₂ = subst (λ (g : ℕ). Fitting g x₂) (sym s) (item-fitting q₂ x₂ t₂ e₂) in
+    (s, written-injective f (form-stored (q .text) x) x x₂ (item-fitting q x t e) fits (p ∙ ap (λ (g : ℕ). written g x₂) (sym s)))

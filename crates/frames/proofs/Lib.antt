@@ -1,9 +1,14 @@
 pub mod Ways
 pub mod Readers
+pub mod Facts
+pub mod Sure
+pub mod Held
+pub mod Lists
+pub mod Shapes
 pub mod Raised
-pub mod Checked
 pub mod Deeper
+pub mod Checked
+pub mod Words
+pub mod Faithful
 pub mod Told
 pub mod Unbracketed
-pub mod Faithful
-pub mod Words

@@ -1,36 +1,38 @@
 -- An instance of the law: what holds of the words of all tokens that are met holds of the words of all leaves. Three facts of this
 -- sort: each leaf's word shows, or the leaf is a string below 128; a text whose bytes all show gives words that do; and an item that is
 -- no value has no strings.
-use mathlib.Core.Path.{_≡_, refl, ap, sym, _∙_, subst}
-use mathlib.Core.Bool.{Bool, true, false, cond, _&&_, _||_}
+use mathlib.Core.Path.{_≡_, refl, sym, _∙_, subst}
+use mathlib.Core.Bool.{Bool, true, false, cond, _&&_}
 use mathlib.Core.List.{List, []}
 use mathlib.Core.Option.{Option, some, none as clean}
 use Prim.Native.Nat.{ℕ}
 use native.Mathlib.Omega.{arith}
 use borrow.Author.Tests.{eqb-true}
-use lib.Dec.{eqb, ltb}
-use lib.ListN.{length, getD}
+use lib.Dec.{eqb}
+use lib.ListN.{getD}
 use Rattle.classes.specs.Class.{isAscii, shows}
 use Rattle.classes.specs.Run.{allOf}
 use Rattle.classes.proofs.Bools.{false-true}
 use Rattle.classes.proofs.All.{all-take, all-drop}
 use Rattle.words.specs.Kinds.{EOF, NumValue, ByteStringValue, Identifier, ColonColon, AtSign}
-use Rattle.tokens.specs.Calls.{textLimit, noEdition}
+use Rattle.tokens.specs.declared.Refusal.{Refusal}
+use Rattle.tokens.proofs.Faults.{each-any, unless-sure}
 use Rattle.tokens.proofs.Legible.{legible}
 use Rattle.records.specs.Kinds.{RecName, RecAddress}
 use Rattle.records.specs.Tree.{Tree, leaf, node, Trees, none, more}
 use Rattle.sources.specs.Source.{Source, opened, Token, start, word, after, split, Scanned, tok, bad, lex}
-use Rattle.sources.proofs.Standing.{Standing, Sound, lex-sound}
+use Rattle.sources.proofs.Standing.{Sound, lex-sound}
 use Rattle.answers.specs.Reading.{Ans, ok, no, look}
 use Rattle.answers.proofs.Sure.{when-sure}
 use Rattle.grammar.specs.Names.{isFirst}
 use Rattle.grammar.specs.Values.{valueKind, leafValue, addressValue, value}
-use Rattle.grammar.specs.Items.{Item, item, refused, readKind, followed, finished, readItem}
+use Rattle.grammar.specs.Items.{Item, item, refused, readKind, followed, finished, Asked, faultOf, reading, readItem}
 use Rattle.forms.specs.Spoiled.{isString, spoiledWord, firstOf, spoiled, spoiledAll}
 use Rattle.forms.proofs.Spoils.{WordsShow, AllWordsShow, clean-word}
-use Rattle.frames.specs.Related.{Frame, Alike, leaves, nodes, AllAlike, nones, mores, Step, Met, toks, bads, Rel, oks, nos, quit, Lawful, Strings}
-use Rattle.frames.proofs.Readers.{value-leaf, kind-rel}
-use Rattle.frames.proofs.Told.{look-told}
+use Rattle.frames.specs.Related.{Step, Met, toks, bads, Rel, oks, nos, quit}
+use Rattle.frames.specs.Shape.{Shape, Alike, leaves, nodes, AllAlike, nones, mores, framed, Shapely, Strings}
+use Rattle.frames.proofs.Ways.{near}
+use Rattle.frames.proofs.Shapes.{value-leaf, kind-shaped}
 
 -- K holds of each leaf's kind, and W of its word and the kind of a token that is a string exactly where the leaf is
 unfoldable mutual
@@ -51,13 +53,13 @@ module _ (S : Source → Type 0) (K : ℕ → Type 0) (W : ℕ → List ℕ → 
   Facts (tok t) = Fact t
   Facts (bad r) = Unit {0}
 
-  abbrev frame : Frame
-  frame = record { starts = λ a b. Unit {0}; ends = λ a b. Unit {0}; source = λ u v. (u ≡ v) × S u; kind = K; word = W; number = λ n. Unit {0}; quits = λ _. ⊥ }
+  abbrev frame : Shape
+  frame = record { starts = λ a b. Unit {0}; ends = λ a b. Unit {0}; source = λ u v. (u ≡ v) × S u; kind = K; word = λ k w s s₂. W k w; number = λ n. Unit {0}; quits = λ _. ⊥ }
 
-  token-itself : (t : Token) → Fact t → Step frame t t
-  token-itself t f = record { kind = refl; spelled = refl; good = f .0; from = tt; to = tt; on = λ _. (refl, f .1); half = λ _. (refl, f .2) }
+  token-itself : (t : Token) → Fact t → Step (framed frame) t t
+  token-itself t f = record { kind = refl; spelled = refl; good = record { good = f .0; from = tt; to = tt }; on = λ _. (refl, f .1); half = λ _. (refl, f .2) }
 
-  itself : (l : Scanned) → Facts l → Met frame l l
+  itself : (l : Scanned) → Facts l → Met (framed frame) l l
   itself (tok t) f = toks (token-itself t f)
   itself (bad r) f = bads (record { same = refl; good = tt; from = tt; to = tt; from₂ = tt; to₂ = tt })
 
@@ -76,26 +78,26 @@ module _ (S : Source → Type 0) (K : ℕ → Type 0) (W : ℕ → List ℕ → 
   Read (ok x u) = Leaves K W x
   Read (no r) = Unit {0}
 
-  read : {a b : Ans Tree} → Rel frame (Alike frame) a b → Read a
+  read : {m m₂ : ℕ} {a b : Ans Tree} → Rel (framed frame) m m₂ (λ u u₂ x y. Alike frame x y) a b → Read a
   read (oks x n) = tree-leaves x
   read (nos d) = tt
   read (quit d) = absurd d
 
   module _ (kinds : (c : ℕ) → isString c ≡ false → K c) (wordless : W EOF []) (found : (u : Source) → S u → Facts (lex u)) (kind : ℕ) (strings : eqb kind 2 ≡ true → Strings frame) where
-    law : Lawful frame
+    law : Shapely frame
     law =
         record {
           point = λ s s₂ h. tt;
           ended = λ u u₂ h. tt;
           next = λ u u₂ h. rw (h .0) (itself (lex u₂) (found u₂ (subst S (h .0) (h .1))));
           kinds = λ c h s. kinds c s;
-          wordless = wordless;
+          wordless = λ s s₂. wordless;
           numbers = λ n h g. tt;
         }
 
     -- what is read from a token on, and from a source
     words-from : (t : Token) → Fact t → Read (readKind kind t)
-    words-from t f = read (kind-rel kind frame law strings t t (token-itself t f))
+    words-from t f = read (kind-shaped frame law kind strings _ _ t t (near (token-itself t f)))
 
     words-read : (u : Source) → S u → Read (look (lex u) (readKind kind))
     unfolding look
@@ -143,15 +145,12 @@ finished-of (ok x u) h = go (lex u)
     go (bad r) = tt
 finished-of (no r) h = tt
 
-pub item-readable : (kind ed : ℕ) (text : List ℕ) (at : ℕ) (x : Tree) (t : Token) → readItem kind ed text at ≡ item x t → Readable x
+pub item-readable : (q : Asked) (x : Tree) (t : Token) → readItem q ≡ item x t → Readable x
 unfolding readItem
-item-readable kind ed text at x t e =
+item-readable q x t e =
     subst Of e
-    (when-sure Of (ltb textLimit (length text)) _ _ (λ _. tt)
-    (λ _. when-sure Of (ltb (length text) at) _ _ (λ _. tt)
-    (λ _. when-sure Of (eqb kind 0 || ltb 5 kind) _ _ (λ _. tt)
-    (λ _. when-sure Of (noEdition ed) _ _ (λ _. tt)
-    (λ _. finished-of (look (lex (opened ed text at)) (readKind kind)) (words-read Anywhere Any Legible (λ c s. tt) wordless legible-found kind (λ _. record { hex = tt; byte = tt }) (opened ed text at) tt))))))
+    (unless-sure refused Of (faultOf q) _ (each-any (λ _. Unit {0}) (faultOf q) (λ _. tt))
+    (λ _. finished-of (reading q) (words-read Anywhere Any Legible (λ c s. tt) wordless legible-found (q .kind) (λ _. record { hex = tt; byte = tt }) (opened (q .edition) (q .text) (q .at)) tt)))
 
 -- where such a tree is clean, the words of all its leaves show
 first-clean : (p q : Option ℕ) → firstOf p q ≡ clean → (p ≡ clean) × (q ≡ clean)
@@ -256,10 +255,16 @@ other-clean kind t h = go (readKind kind t) (words-from Anywhere NoString AnyWor
     go (ok x u) l = tree-clean x l
     go (no r) l = tt
 
+-- whatever token is met
+look-any : {B : Type 0} (P : Ans B → Type 0) (l : Scanned) (f : Token → Ans B) → ((r : Refusal) → P (no r)) → ((t : Token) → P (f t)) → P (look l f)
+unfolding look
+look-any P (tok t) f n g = g t
+look-any P (bad r) f n g = n r
+
 -- a value whose first token is no string has none either
 address-clean : (t : Token) → Clean (addressValue t)
 unfolding addressValue spoiled spoiledAll firstOf
-address-clean t = look-told Clean (lex (after t)) _ (λ r. tt) λ a. when-sure Clean (isFirst a) _ _ (λ _. part (start a) (word a) (eqb (a .kind) Identifier)) (λ _. tt)
+address-clean t = look-any Clean (lex (after t)) _ (λ r. tt) λ a. when-sure Clean (isFirst a) _ _ (λ _. part (start a) (word a) (eqb (a .kind) Identifier)) (λ _. tt)
   where
     part : (s : ℕ) (w : List ℕ) (b : Bool) → firstOf (cond (isString (cond b RecName RecAddress)) (spoiledWord s w) clean) clean ≡ clean
     part s w true = refl
@@ -269,7 +274,7 @@ module _ (t : Token) where
   -- the leaf of a token, by what is known of its place
   leaf-value : (P : Option ℕ → Type 0) → P (cond (isString (valueKind t)) (spoiledWord (start t) (word t)) clean) → Spoils P (leafValue t)
   unfolding leafValue spoiled
-  leaf-value P h = look-told (Spoils P) (lex (after t)) _ (λ r. tt) λ d. when-sure (Spoils P) (eqb (t .kind) NumValue && eqb (d .kind) ColonColon) _ _ (λ _. tt) (λ _. h)
+  leaf-value P h = look-any (Spoils P) (lex (after t)) _ (λ r. tt) λ d. when-sure (Spoils P) (eqb (t .kind) NumValue && eqb (d .kind) ColonColon) _ _ (λ _. tt) (λ _. h)
 
   pub value-clean : eqb (t .kind) ByteStringValue ≡ false → Clean (value t)
   unfolding value

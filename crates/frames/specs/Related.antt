@@ -1,88 +1,185 @@
--- Two answers of reading that are alike: a frame says when two places, two sources and two refusals are, and the rest is made of
--- that.
+-- Two answers of reading that are related. A frame says how: when two sources, two tokens and two refusals are related, and when what was
+-- read is, by its sort, from where it was read and where reading goes on. What the grammar's records are made of is a table, `Rule`;
+-- a frame satisfies one law for each sort of part, and one for a record over its parts.
 use mathlib.Core.Path.{_≡_}
-use mathlib.Core.Bool.{false, _||_}
-use mathlib.Core.List.{List, []}
-use Prim.Native.Nat.{ℕ, _<_, _≤_}
+use mathlib.Core.Bool.{true, false, cond, _||_}
+use mathlib.Core.List.{List, [], _∷_}
+use Prim.Native.Nat.{ℕ, suc, _<_, _≤_}
 use lib.Dec.{eqb}
-use Rattle.words.specs.Kinds.{EOF, ByteStringValue, GreaterEqual, GreaterGreater}
+use lib.ListN.{length}
+use Rattle.words.specs.Kinds.{EOF, Identifier, Comma, Colon, ColonColon, AtSign, Amp, AmpMut, LParen, RParen, Less, Greater, Pipe, LBrace, RBrace, GreaterEqual, GreaterGreater}
 use Rattle.tokens.specs.declared.Refusal.{Refusal}
-use Rattle.records.specs.Kinds.{RecHexString, RecByteString}
-use Rattle.records.specs.Tree.{Tree, leaf, node, Trees, none, more}
-use Rattle.sources.specs.Source.{Source, Token, start, end, word, after, split, Scanned, tok, bad, lex}
-use Rattle.answers.specs.Reading.{Ans, ok, no, Reader}
-use Rattle.forms.specs.Spoiled.{isString}
+use Rattle.records.specs.Kinds.{RecName, RecAddress, RecOnePart, RecTwoPart, RecThreePart, RecPair, RecType, RecRef, RecRefMut, RecFunction, RecVariable, RecStruct, RecStructTyped, RecField, RecBindList, RecLambdaBindList, RecAddressValue}
+use Rattle.records.specs.Tree.{Tree, Trees, none, more, behind, joined}
+use Rattle.sources.specs.Source.{Source, Token, start, word, after, split, Scanned, tok, bad, lex}
+use Rattle.answers.specs.Reading.{Ans, ok, no, leafOf, refusedAt, refusedBefore, Reader}
+use Rattle.grammar.specs.Names.{isFirst, colonsDue}
+use Rattle.grammar.specs.Values.{valueKind}
+use Rattle.grammar.specs.Types.{levels, spanned, bracketed}
 
--- what is chosen: where tokens start, where they end, sources, and what is asked of the kinds of records, of a token's kind and word,
--- and of the numbers of refusals. `quits`: a refusal on the left that is alike to any answer on the right
+-- what is read; a type, a field or a binding with so many levels left
+pub data Sort : Type 0 where
+  aName : Sort
+  aPair : Sort
+  aValue : Sort
+  aType : ℕ → Sort
+  aField : ℕ → Sort
+  aBind : ℕ → Sort
+  aBindList : Sort
+  aLambdaList : Sort
+
+-- the leaves that are names or parts of names: the kind of each by its token, and the tokens that it is made of
+pub data Role : Type 0 where
+  name : Role
+  first : Role
+  onePart : Role
+  variable : Role
+
+abbrev pub kindOf : Role → Token → ℕ
+kindOf name t = RecName
+kindOf first t = cond (eqb (t .kind) Identifier) RecName RecAddress
+kindOf onePart t = RecOnePart
+kindOf variable t = RecVariable
+
+abbrev pub Fits : Role → Token → Type 0
+Fits name t = eqb (t .kind) Identifier ≡ true
+Fits first t = isFirst t ≡ true
+Fits onePart t = eqb (t .kind) Identifier ≡ true
+Fits variable t = eqb (t .kind) Identifier ≡ true
+
+-- those that are all that is read
+pub data Lone : Sort → Role → Type 0 where
+  aPart : Lone aName onePart
+  aVariable : {n : ℕ} → Lone (aBind (suc n)) variable
+
+-- the parts of a record: a mark, which leaves nothing in the tree; a leaf; what is read of a sort; the items of a list with the mark that
+-- closes it
+pub data Part : Type 0 where
+  mark : ℕ → Part
+  leaf : Role → Part
+  one : Sort → Part
+  many : Sort → ℕ → Part
+
+-- the records: sort, kind and parts, the last part first
+pub data Rule : Sort → ℕ → List Part → Type 0 where
+  pair : Rule aPair RecPair (leaf name ∷ mark ColonColon ∷ leaf first ∷ [])
+  two : Rule aName RecTwoPart (leaf name ∷ mark ColonColon ∷ leaf first ∷ [])
+  three : Rule aName RecThreePart (leaf name ∷ mark ColonColon ∷ one aPair ∷ [])
+  address : Rule aValue RecAddressValue (leaf first ∷ mark AtSign ∷ [])
+  shared : {n : ℕ} → Rule (aType (suc n)) RecRef (one (aType n) ∷ mark Amp ∷ [])
+  mutable : {n : ℕ} → Rule (aType (suc n)) RecRefMut (one (aType n) ∷ mark AmpMut ∷ [])
+  function : {n : ℕ} → Rule (aType (suc n)) RecFunction (one (aType n) ∷ many (aType n) Pipe ∷ mark Pipe ∷ [])
+  plain : {n : ℕ} → Rule (aType (suc n)) RecType (one aName ∷ [])
+  applied : {n : ℕ} → Rule (aType (suc n)) RecType (many (aType n) Greater ∷ mark Less ∷ one aName ∷ [])
+  struct : {n : ℕ} → Rule (aBind (suc n)) RecStruct (many (aField n) RBrace ∷ mark LBrace ∷ one aName ∷ [])
+  typed : {n : ℕ} → Rule (aBind (suc n)) RecStructTyped (many (aField n) RBrace ∷ mark LBrace ∷ many (aType n) Greater ∷ mark Less ∷ one aName ∷ [])
+  field : {n : ℕ} → Rule (aField (suc n)) RecField (one (aBind (suc n)) ∷ mark Colon ∷ leaf name ∷ [])
+  several : Rule aBindList RecBindList (many (aBind levels) RParen ∷ mark LParen ∷ [])
+  alone : Rule aBindList RecBindList (one (aBind levels) ∷ [])
+  lambda : Rule aLambdaList RecLambdaBindList (many (aBind levels) Pipe ∷ mark Pipe ∷ [])
+
+-- what is chosen. `tree s a a₂ u u₂`: read from the tokens a and a₂ on, up to the sources u and u₂; `row r a a₂ u u₂`: so far the parts r of a
+-- record; `items s close u u₂ v v₂`: of a list, from u and u₂ up to v and v₂, behind the mark that closes it. `wrap`: what the readers on the
+-- right make of brackets. `quits`: a refusal on the left that is related to any answer on the right
 pub record Frame : Type 1 where
-  pub starts : ℕ → ℕ → Type 0
-  pub ends : ℕ → ℕ → Type 0
   pub source : Source → Source → Type 0
-  pub kind : ℕ → Type 0
-  pub word : ℕ → List ℕ → Type 0
-  pub number : ℕ → Type 0
+  pub token : Token → Token → Type 0
+  pub refusal : Refusal → Refusal → Type 0
   pub quits : Refusal → Type 0
-
--- trees of one shape, with the same kinds and words. A leaf has the word of a token, a string that of a string's
-mutual
-  pub data Alike (F : Frame) : Tree → Tree → Type 0 where
-    leaves : {c s e s₂ e₂ k : ℕ} {w w₂ : List ℕ} → F .kind c → isString c ≡ eqb k ByteStringValue → F .word k w → w ≡ w₂ → F .starts s s₂ → F .ends e e₂ → Alike F (leaf c s e w) (leaf c s₂ e₂ w₂)
-    nodes : {c s e s₂ e₂ : ℕ} {ts us : Trees} → F .kind c → F .starts s s₂ → F .ends e e₂ → AllAlike F ts us → Alike F (node c s e ts) (node c s₂ e₂ us)
-
-  pub data AllAlike (F : Frame) : Trees → Trees → Type 0 where
-    nones : AllAlike F none none
-    mores : {t u : Tree} {ts us : Trees} → Alike F t u → AllAlike F ts us → AllAlike F (more t ts) (more u us)
-
-pub record Refused (F : Frame) (r r₂ : Refusal) : Type 0 where
-  pub same : r .number ≡ r₂ .number
-  pub good : F .number (r .number)
-  pub from : F .starts (r .place .start) (r₂ .place .start)
-  pub to : F .ends (r .place .end) (r₂ .place .end)
-  pub from₂ : F .starts (r .second .start) (r₂ .second .start)
-  pub to₂ : F .ends (r .second .end) (r₂ .second .end)
+  pub wrap : Token → Source → Trees → Tree
+  pub tree : Sort → (a a₂ : Token) (u u₂ : Source) → Tree → Tree → Type 0
+  pub row : List Part → (a a₂ : Token) (u u₂ : Source) → Trees → Trees → Type 0
+  pub items : Sort → (close : ℕ) (u u₂ v v₂ : Source) → Trees → Trees → Type 0
 
 -- readers go on behind tokens of every kind but these three: EOF, `>=`, and `>>`, which is split
 abbrev pub Goes : ℕ → Type 0
 Goes k = (eqb k EOF || eqb k GreaterEqual || eqb k GreaterGreater) ≡ false
 
--- tokens
+-- related tokens; that stand in two sources, or at their beginning; and are of a kind that a test named
 pub record Step (F : Frame) (t t₂ : Token) : Type 0 where
   pub kind : t .kind ≡ t₂ .kind
   pub spelled : word t ≡ word t₂
-  pub good : F .word (t .kind) (word t)
-  pub from : F .starts (start t) (start t₂)
-  pub to : F .ends (end t) (end t₂)
+  pub good : F .token t t₂
   pub on : (Goes (t .kind) → F .source (after t) (after t₂))
   pub half : (t .kind ≡ GreaterGreater → F .source (split t) (split t₂))
 
+pub record At (F : Frame) (u u₂ : Source) (t t₂ : Token) : Type 0 where
+  pub step : Step F t t₂
+  pub from : u .at ≤ start t
+  pub from₂ : u₂ .at ≤ start t₂
+
+pub record Mark (F : Frame) (k : ℕ) (u u₂ : Source) (t t₂ : Token) : Type 0 where
+  pub here : At F u u₂ t t₂
+  pub is : eqb (t .kind) k ≡ true
+  pub goes : Goes (t .kind)
+
 pub data Met (F : Frame) : Scanned → Scanned → Type 0 where
   toks : {t t₂ : Token} → Step F t t₂ → Met F (tok t) (tok t₂)
-  bads : {r r₂ : Refusal} → Refused F r r₂ → Met F (bad r) (bad r₂)
+  bads : {r r₂ : Refusal} → F .refusal r r₂ → Met F (bad r) (bad r₂)
 
--- answers
-pub data Rel (F : Frame) {A B : Type 0} (Y : A → B → Type 0) : Ans A → Ans B → Type 0 where
-  oks : {a : A} {b : B} {u u₂ : Source} → Y a b → F .source u u₂ → Rel F Y (ok a u) (ok b u₂)
-  nos : {r r₂ : Refusal} → Refused F r r₂ → Rel F Y (no r) (no r₂)
-  quit : {r : Refusal} {b : Ans B} → F .quits r → Rel F Y (no r) b
+-- answers: sources with at most so many bytes left on either side, since reading never goes back
+abbrev pub left : Source → ℕ
+left u = length (u .rest)
 
-abbrev pub RelReader : Frame → (item item₂ : Reader) → Type 0
-RelReader F item item₂ = (t t₂ : Token) → Step F t t₂ → Rel F (Alike F) (item t) (item₂ t₂)
+pub record On (F : Frame) (m m₂ : ℕ) (u u₂ : Source) : Type 0 where
+  pub good : F .source u u₂
+  pub few : left u ≤ m
+  pub few₂ : left u₂ ≤ m₂
 
--- what a frame must satisfy
+pub data Rel (F : Frame) (m m₂ : ℕ) {A B : Type 0} (Y : Source → Source → A → B → Type 0) : Ans A → Ans B → Type 0 where
+  oks : {a : A} {b : B} {u u₂ : Source} → Y u u₂ a b → On F m m₂ u u₂ → Rel F m m₂ Y (ok a u) (ok b u₂)
+  nos : {r r₂ : Refusal} → F .refusal r r₂ → Rel F m m₂ Y (no r) (no r₂)
+  quit : {r : Refusal} {b : Ans B} → F .quits r → Rel F m m₂ Y (no r) b
+
+pub record Near (F : Frame) (m m₂ : ℕ) (t t₂ : Token) : Type 0 where
+  pub step : Step F t t₂
+  pub few : left (t .here) ≤ m
+  pub few₂ : left (t₂ .here) ≤ m₂
+
+abbrev pub RelReader : Frame → Sort → (item item₂ : Reader) → Type 0
+RelReader F s item item₂ = (m m₂ : ℕ) (t t₂ : Token) → Near F m m₂ t t₂ → Rel F m m₂ (F .tree s t t₂) (item t) (item₂ t₂)
+
+-- what the first token of a record is, by its first part
+abbrev pub Starts : List Part → Token → Type 0
+Starts [] a = Unit {0}
+Starts (p ∷ q ∷ r) a = Starts (q ∷ r) a
+Starts (mark k ∷ []) a = eqb (a .kind) k ≡ true
+Starts (leaf l ∷ []) a = Fits l a
+Starts (one s ∷ []) a = Unit {0}
+Starts (many s c ∷ []) a = Unit {0}
+
+-- what a frame must satisfy: of the lexer and of refusals; of the parts of a record, none and one more of each sort; of the items of a
+-- list, none, the last, and one with a comma and others behind it, where reading goes on in w, behind the token that closes or behind the
+-- first byte of it; and of what is read: a leaf that is all of it, a record over its parts, and brackets, which are one of three records
 pub record Lawful (F : Frame) : Type 0 where
-  pub point : (s s₂ : ℕ) → F .starts s s₂ → F .ends s s₂
-  pub ended : (u u₂ : Source) → F .source u u₂ → F .ends (u .at) (u₂ .at)
   pub next : (u u₂ : Source) → F .source u u₂ → Met F (lex u) (lex u₂)
-  pub kinds : (c : ℕ) → c < 256 → isString c ≡ false → F .kind c
-  pub wordless : F .word EOF []
-  pub numbers : (n : ℕ) → 10 ≤ n → n ≤ 14 → F .number n
+  pub refusedAt : (n : ℕ) (t t₂ : Token) → 10 ≤ n → n ≤ 14 → Step F t t₂ → F .refusal (refusedAt n t) (refusedAt n t₂)
+  pub refusedBefore : (n : ℕ) (t t₂ o o₂ : Token) → 10 ≤ n → n ≤ 14 → Step F t t₂ → Step F o o₂ → F .refusal (refusedBefore n t o) (refusedBefore n t₂ o₂)
+  pub colonsDue : (t t₂ a a₂ : Token) → Step F t t₂ → Step F a a₂ → F .refusal (colonsDue t a) (colonsDue t₂ a₂)
+  pub begin : {a a₂ : Token} → Step F a a₂ → F .row [] a a₂ (a .here) (a₂ .here) none none
+  pub mark : {r : List Part} {a a₂ t t₂ : Token} {u u₂ : Source} {xs ys : Trees} (k : ℕ) → F .row r a a₂ u u₂ xs ys → Mark F k u u₂ t t₂ → F .row (mark k ∷ r) a a₂ (after t) (after t₂) xs ys
+  pub leaf : {r : List Part} {a a₂ t t₂ : Token} {u u₂ : Source} {xs ys : Trees} (l : Role) → F .row r a a₂ u u₂ xs ys → At F u u₂ t t₂ → Fits l t
+      → F .row (leaf l ∷ r) a a₂ (after t) (after t₂) (behind xs (leafOf (kindOf l t) t)) (behind ys (leafOf (kindOf l t₂) t₂))
+  pub one : {r : List Part} {a a₂ t t₂ : Token} {u u₂ v v₂ : Source} {xs ys : Trees} {x y : Tree} (s : Sort) → F .row r a a₂ u u₂ xs ys → At F u u₂ t t₂ → F .tree s t t₂ v v₂ x y
+      → F .row (one s ∷ r) a a₂ v v₂ (behind xs x) (behind ys y)
+  pub many : {r : List Part} {a a₂ : Token} {u u₂ v v₂ : Source} {xs ys ts us : Trees} (s : Sort) (close : ℕ) → F .row r a a₂ u u₂ xs ys → F .items s close u u₂ v v₂ ts us
+      → F .row (many s close ∷ r) a a₂ v v₂ (joined xs ts) (joined ys us)
+  pub empty : {u u₂ w w₂ : Source} {t t₂ : Token} (s : Sort) (close : ℕ) → At F u u₂ t t₂ → F .source w w₂ → start t < w .at → F .items s close u u₂ w w₂ none none
+  pub last : {u u₂ v v₂ w w₂ : Source} {t t₂ c c₂ : Token} {x y : Tree} (s : Sort) (close : ℕ) → At F u u₂ t t₂ → eqb (t .kind) close ≡ false → F .tree s t t₂ v v₂ x y → At F v v₂ c c₂ → F .source w w₂ → start c < w .at
+      → F .items s close u u₂ w w₂ (more x none) (more y none)
+  pub more : {u u₂ v v₂ w w₂ : Source} {t t₂ c c₂ : Token} {x y : Tree} {xs ys : Trees} (s : Sort) (close : ℕ) → At F u u₂ t t₂ → eqb (t .kind) close ≡ false → F .tree s t t₂ v v₂ x y → Mark F Comma v v₂ c c₂
+      → F .items s close (after c) (after c₂) w w₂ xs ys → F .items s close u u₂ w w₂ (more x xs) (more y ys)
+  pub lone : {a a₂ : Token} (s : Sort) (l : Role) → Lone s l → Step F a a₂ → Fits l a → F .source (after a) (after a₂) → F .tree s a a₂ (after a) (after a₂) (leafOf (kindOf l a) a) (leafOf (kindOf l a₂) a₂)
+  pub made : {a a₂ : Token} {u u₂ : Source} {xs ys : Trees} (s : Sort) (c : ℕ) (r : List Part) → Rule s c r → Step F a a₂ → Starts r a → F .row r a a₂ u u₂ xs ys → F .source u u₂
+      → F .tree s a a₂ u u₂ (spanned c a u xs) (spanned c a₂ u₂ ys)
+  pub brackets : {a a₂ : Token} {u u₂ : Source} {xs ys : Trees} (n : ℕ) → Step F a a₂ → eqb (a .kind) LParen ≡ true → F .items (aType n) RParen (after a) (after a₂) u u₂ xs ys → F .source u u₂
+      → F .tree (aType (suc n)) a a₂ u u₂ (bracketed a u xs) (F .wrap a₂ u₂ ys)
 
--- and, where values are read, of strings
-pub record Strings (F : Frame) : Type 0 where
-  pub hex : F .kind RecHexString
-  pub byte : F .kind RecByteString
+-- where values are read, of those that are one token; and where bindings are, of a field that binds its own name
+abbrev pub Literal : Frame → Type 0
+Literal F = (a a₂ : Token) → Step F a a₂ → eqb (valueKind a) 0 ≡ false → F .source (after a) (after a₂) → F .tree aValue a a₂ (after a) (after a₂) (leafOf (valueKind a) a) (leafOf (valueKind a₂) a₂)
 
--- a reader that obeys the law: in every lawful frame, alike first tokens give alike answers
-abbrev pub Obeys : Reader → Type 1
-Obeys item = (F : Frame) → Lawful F → Strings F → RelReader F item item
+abbrev pub Short : Frame → Type 0
+Short F =
+    (n : ℕ) (a a₂ : Token) → Step F a a₂ → eqb (a .kind) Identifier ≡ true → F .source (after a) (after a₂)
+    → F .tree (aField (suc n)) a a₂ (after a) (after a₂) (spanned RecField a (after a) (more (leafOf RecName a) (more (leafOf RecVariable a) none))) (spanned RecField a₂ (after a₂) (more (leafOf RecName a₂) (more (leafOf RecVariable a₂) none)))

@@ -1,4 +1,2 @@
-pub mod Sure
-pub mod Held
-pub mod Lists
+pub mod Asked
 pub mod Spelled

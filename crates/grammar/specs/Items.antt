@@ -1,12 +1,11 @@
 -- The five kinds of items, read at an offset of a text in an edition.
 use Prim.Native.Nat.{ℕ}
-use mathlib.Core.Bool.{_||_}
-use mathlib.Core.List.{List}
+use mathlib.Core.Bool.{Bool, _||_}
+use mathlib.Core.List.{List, [], _∷_}
 use lib.Dec.{eqb, ltb}
-use lib.ListN.{length}
 use Rattle.tokens.specs.Refusals.{TextTooLong, StartPastEnd, NoSuchKind, NoSuchEdition}
-use Rattle.tokens.specs.Answers.{refusal}
-use Rattle.tokens.specs.Calls.{textLimit, noEdition}
+use Rattle.tokens.specs.Calls.{faultIf, _orElse_, placeFault, editionFault, unless}
+use Rattle.tokens.specs.declared.Fault.{Fault}
 use Rattle.tokens.specs.declared.Refusal.{Refusal}
 use Rattle.records.specs.Tree.{Tree}
 use Rattle.sources.specs.Source.{opened, Token, Scanned, tok, bad, lex}
@@ -41,14 +40,41 @@ unfoldable pub finished : Ans Tree → Item
 finished (ok x u) = followed x (lex u)
 finished (no r) = refused r
 
--- refusals 1, 2, 3 and 19, in this order; then what the text says
-abbrev pub itemOver : (ℕ → Reader) → ℕ → ℕ → List ℕ → ℕ → Item
-itemOver one kind ed text at =
-    when (ltb textLimit (length text)) (λ _. refused (refusal TextTooLong 0 0)) λ _.
-    when (ltb (length text) at) (λ _. refused (refusal StartPastEnd 0 0)) λ _.
-    when (eqb kind 0 || ltb 5 kind) (λ _. refused (refusal NoSuchKind 0 0)) λ _.
-    when (noEdition ed) (λ _. refused (refusal NoSuchEdition 0 0)) λ _.
-    finished (look (lex (opened ed text at)) (one kind))
+-- what a read or a display is asked: an item kind, an edition, a text and a start offset
+pub record Asked : Type 0 where
+  pub kind : ℕ
+  pub edition : ℕ
+  pub text : List ℕ
+  pub at : ℕ
 
-unfoldable pub readItem : ℕ → ℕ → List ℕ → ℕ → Item
-readItem kind ed text at = itemOver readKind kind ed text at
+abbrev pub asked : (kind edition : ℕ) (text : List ℕ) (at : ℕ) → Asked
+asked kind ed text at = record { kind = kind; edition = ed; text = text; at = at }
+
+-- the same asked of another text, from 0; and in another edition
+abbrev pub ofText : List ℕ → Asked → Asked
+ofText text q = record { kind = q .kind; edition = q .edition; text = text; at = 0 }
+
+abbrev pub inEdition : ℕ → Asked → Asked
+inEdition ed q = record { kind = q .kind; edition = ed; text = q .text; at = q .at }
+
+-- a number that is no kind of item
+abbrev pub noKind : ℕ → Bool
+noKind kind = eqb kind 0 || ltb 5 kind
+
+-- what is wrong with it before the item is looked at: refusals 1, 2, 3 and 19, in this order
+unfoldable pub faultOf : Asked → Fault
+faultOf q = placeFault (q .text) (q .at) orElse faultIf (noKind (q .kind)) NoSuchKind orElse editionFault (q .edition)
+
+abbrev pub faultRefusals : List ℕ
+faultRefusals = TextTooLong ∷ StartPastEnd ∷ NoSuchKind ∷ NoSuchEdition ∷ []
+
+-- what is read from the offset on, by a reader for each kind
+abbrev pub readingOver : (ℕ → Reader) → Asked → Ans Tree
+readingOver one q = look (lex (opened (q .edition) (q .text) (q .at))) (one (q .kind))
+
+abbrev pub reading : Asked → Ans Tree
+reading q = readingOver readKind q
+
+-- the item that is asked for: the refusal of a fault, and otherwise what the text has
+unfoldable pub readItem : Asked → Item
+readItem q = unless refused (faultOf q) (finished (reading q))

@@ -1,16 +1,16 @@
 -- The Rust's trees, where brackets round one type are no record of their own. Its readers are those of the grammar but for brackets,
 -- where the one type inside takes their place and their span.
 use Prim.Native.Nat.{ℕ, zero, suc}
-use mathlib.Core.List.{List}
 use Rattle.words.specs.Kinds.{RParen}
 use Rattle.tokens.specs.Refusals.{TooDeep}
+use Rattle.tokens.specs.Calls.{unless}
 use Rattle.records.specs.Tree.{Tree, Trees, none, more}
 use Rattle.records.specs.Rust.{respan, unbracketed}
 use Rattle.sources.specs.Source.{Source, Token, start}
 use Rattle.answers.specs.Reading.{ok, no, then, refusedAt, Reader, listBehind}
 use Rattle.grammar.specs.Types.{levels, bracketed, typeBy}
 use Rattle.grammar.specs.Binds.{bindOver, readField, bindListOver, lambdaListOver}
-use Rattle.grammar.specs.Items.{Item, item, refused, kindOver, itemOver}
+use Rattle.grammar.specs.Items.{Item, item, refused, kindOver, finished, Asked, faultOf, readingOver}
 
 -- brackets round one; round none or more they are what they were
 unfoldable pub rustBracketed : Token → Source → Trees → Tree
@@ -38,8 +38,8 @@ rustBind (suc n) a = bindOver (rustType n) (readField n (rustBind n)) a
 unfoldable pub rustKind : ℕ → Reader
 rustKind kind a = kindOver (rustType levels) (bindListOver (rustBind levels)) (lambdaListOver (rustBind levels)) kind a
 
-unfoldable pub rustItem : ℕ → ℕ → List ℕ → ℕ → Item
-rustItem kind ed text at = itemOver rustKind kind ed text at
+unfoldable pub rustItem : Asked → Item
+rustItem q = unless refused (faultOf q) (finished (readingOver rustKind q))
 
 -- an item with its tree unbracketed
 unfoldable pub unbracketedItem : Item → Item

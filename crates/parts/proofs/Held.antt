@@ -9,7 +9,8 @@ use Rattle.tokens.specs.Calls.{textLimit, nextToken}
 use Rattle.tokens.specs.declared.Refusal.{Refusal}
 use Rattle.tokens.specs.declared.Token.{Token as Answer}
 use Rattle.tokens.specs.declared.Lexed.the-variants.{Found, Refused as Bad}
-use Rattle.tokens.proofs.Again.{found-fits, admitted-in}
+use Rattle.tokens.proofs.Faults.{admits}
+use Rattle.tokens.proofs.Again.{found-fits}
 use Rattle.records.specs.Tree.{leaf}
 use Rattle.sources.specs.Source.{Source, opened, past, Token, start, end, after, Scanned, tok, bad, lex, tokenOf, answerOf}
 use Rattle.sources.proofs.Standing.{Standing, Sound, lex-sound, next-token-same}
@@ -69,7 +70,7 @@ module _ (ed : ℕ) (text : List ℕ) where
     scanned-bad (bad r₂) r h = let y : r₂ ≡ r = cc in ap bad y
 
     answer : answerOf (lex (opened ed text at)) ≡ nextToken ed text at
-    answer = sym (next-token-same ed text at ∙ admitted-in Bad text at (answerOf (lex (opened ed text at))) short inside)
+    answer = sym (next-token-same ed text at ∙ admits text at Bad (answerOf (lex (opened ed text at))) short inside)
 
     pub next-refused : (r : Refusal) → nextToken ed text at ≡ Bad r → lex (opened ed text at) ≡ bad r
     next-refused r h = scanned-bad (lex (opened ed text at)) r (answer ∙ h)

@@ -67,11 +67,6 @@ module _ (es : Editions) where
   map-every P Q (ok x u) f h = (h .0, f x (h .1))
   map-every P Q (no r) f h = tt
 
-  pub then-every : {A B : Type 0} (P : A → Type 0) (Q : B → Type 0) (a : Ans A) (f : A → Source → Ans B) → Every P a → ((x : A) (u : Source) → Here u → P x → Every Q (f x u)) → Every Q (then a f)
-  unfolding then
-  then-every P Q (ok x u) f h g = g x u (h .0) (h .1)
-  then-every P Q (no r) f h g = tt
-
   module _ {B : Type 0} (Q : B → Type 0) where
     pub look-every : (u : Source) → Here u → (f : Token → Ans B) → ((t : Token) → Good es t → Every Q (f t)) → Every Q (look (lex u) f)
     unfolding look
@@ -85,7 +80,3 @@ module _ (es : Editions) where
     unfolding when
     when-every true f g h i = h refl
     when-every false f g h i = i refl
-
-    pub closed-every : (close : ℕ) (t : Token) → Good es t → (f : Source → Ans B) (g : Unit {0} → Ans B) → ((u : Source) → Here u → Every Q (f u)) → (eqb (t .kind) close ≡ false → Every Q (g tt)) → Every Q (closed close t f g)
-    unfolding closed
-    closed-every close t e f g h i = when-every (eqb (t .kind) close) _ _ (λ _. h _ (e .0)) λ x. when-every _ _ _ (λ _. h _ (e .0)) λ _. i x

@@ -2,7 +2,7 @@
 use mathlib.Core.Path.{_≡_, refl, subst, sym, ap, ap₂, _∙_}
 use mathlib.Core.Bool.{Bool, true, false}
 use mathlib.Core.List.{List, _∷_, _++_, append-assoc}
-use Prim.Native.Nat.{ℕ, zero, suc}
+use Prim.Native.Nat.{ℕ, suc}
 use lib.Dec.{eqb}
 use Rattle.classes.specs.Bytes.{bytes}
 use Rattle.classes.specs.Class.{inRange, isDigit, isLetter, isName}
@@ -10,19 +10,19 @@ use Rattle.words.specs.Kinds.{Identifier, RParen, Greater, Pipe, LBrace, RBrace
 use Rattle.records.specs.Kinds.{RecName, RecVariable, RecStruct, RecStructTyped, RecField, RecBindList, RecLambdaBindList}
 use Rattle.records.specs.Tree.{Tree, node, Trees, none, more, joined, Build, spelled, made, Builds, bnone, bmore, build, builds}
 use Rattle.sources.specs.Source.{Source, Token, word, after, lex}
-use Rattle.answers.specs.Reading.{leafOf, listBehind}
+use Rattle.answers.specs.Reading.{leafOf}
 use Rattle.grammar.specs.Types.{levels, readType}
 use Rattle.grammar.specs.Binds.{fields, structOver, unpacked, bindOver, fieldOver, readField, readBind, readBindList, readLambdaList}
 use Rattle.forms.specs.Line.{isField, isType, kindOfBuild, shown}
 use Rattle.forms.specs.Forms.{FormLine, head, markIn, laid, headed, laidItems}
 use Rattle.forms.proofs.Constructs.{Every as EachKind, laid-field, laid-struct, laid-struct-typed, laid-bind-list, laid-lambda-list}
 use Rattle.roundtrip.proofs.Words.{Stops, extends}
-use Rattle.roundtrip.proofs.Tokens.{Met, met-map, Editions, Rest, Near, at-once, blank, Word, Spelled, Good}
-use Rattle.roundtrip.proofs.Answers.{Gives, gives, gives-then, gives-look, gives-true, gives-false, gives-when, Every, then-every, look-every, when-every}
+use Rattle.roundtrip.proofs.Tokens.{Met, met-map, Editions, Rest, Near, at-once, blank, Word, Spelled}
+use Rattle.roundtrip.proofs.Answers.{Gives, gives, gives-then, gives-look, gives-true, gives-false, gives-when}
 use Rattle.roundtrip.proofs.Marks.{widens, isBar, lparen, lbrace, rbrace, colon, less, bar, Ends, ends}
-use Rattle.roundtrip.proofs.Lists.{All, all-map, rest, join, join-listed, Same, SameAll, structs, Reads, Opens, Begins, opened, Closed, closed-mark, closed-greater, list-reads, behind-sure}
-use Rattle.roundtrip.proofs.Names.{isColons, Structs, clashes, headed-starts, leaf-shown, Chain, identifier, chain-sure}
-use Rattle.roundtrip.proofs.Types.{round, inner, inner-near, bars-line, firsts, Typed, types-open, angle-opens, bar-opens, closed-close, closed-bar, type-sure}
+use Rattle.roundtrip.proofs.Lists.{All, all-map, join, join-listed, Same, SameAll, structs, Reads, Opens, Begins, opened, Closed, closed-mark, closed-greater, list-reads}
+use Rattle.roundtrip.proofs.Names.{isColons, Structs, clashes, headed-starts, leaf-shown, Chain}
+use Rattle.roundtrip.proofs.Types.{round, inner, inner-near, bars-line, firsts, Typed, types-open, angle-opens, bar-opens, closed-close, closed-bar}
 
 -- one list of trees behind another
 bjoined : Builds → Builds → Builds
@@ -82,13 +82,13 @@ colon-stops s = refl
 
 module _ (es : Editions) where
   -- x is a binding, and a field, whose line reads back with n levels left
-  record Bound (n : ℕ) (x : Tree) : Type 0 where
-    starts : (z : List ℕ) → Stops clashes (shown x ++ z)
-    reads : Reads es (readBind n) (Begins firsts) x
+  pub record Bound (n : ℕ) (x : Tree) : Type 0 where
+    pub starts : (z : List ℕ) → Stops clashes (shown x ++ z)
+    pub reads : Reads es (readBind n) (Begins firsts) x
 
-  record Fielded (n : ℕ) (x : Tree) : Type 0 where
-    reads : Reads es (readField n (readBind n)) (Begins λ k. eqb k Identifier) x
-    marked : isField (kindOfBuild (build x)) ≡ true
+  pub record Fielded (n : ℕ) (x : Tree) : Type 0 where
+    pub reads : Reads es (readField n (readBind n)) (Begins λ k. eqb k Identifier) x
+    pub marked : isField (kindOfBuild (build x)) ≡ true
 
   -- the items of a list of bindings, and of fields
   binds-open : (n close : ℕ) → firsts close ≡ false → (xs : Trees) → All (Bound n) xs → All (Reads es (readBind n) (Opens close)) xs
@@ -97,7 +97,7 @@ module _ (es : Editions) where
   fields-open : (n : ℕ) (xs : Trees) → All (Fielded n) xs → All (Reads es (readField n (readBind n)) (Opens RBrace)) xs
   fields-open n = all-map (Fielded n) (Reads es (readField n (readBind n)) (Opens RBrace)) λ x d. opened es (readField n (readBind n)) (λ k. eqb k Identifier) RBrace refl refl refl x (d .reads)
 
-  variable-back : (n : ℕ) (a : Token) → Spelled es Identifier (word a) → Bound (suc n) (leafOf RecVariable a)
+  pub variable-back : (n : ℕ) (a : Token) → Spelled es Identifier (word a) → Bound (suc n) (leafOf RecVariable a)
   unfolding readBind bindOver build
   variable-back n a m = record {
     starts = λ z. rw (leaf-shown RecVariable a refl) (headed-starts (word a) z (m .0));
@@ -109,7 +109,7 @@ module _ (es : Editions) where
         (m .1 u z (rw (leaf-shown RecVariable a refl) at d) (e .stops));
   }
 
-  field-back : (n s e : ℕ) (a : Token) (x : Tree) → Spelled es Identifier (word a) → Bound (suc n) x → Fielded (suc n) (node RecField s e (more (leafOf RecName a) (more x none)))
+  pub field-back : (n s e : ℕ) (a : Token) (x : Tree) → Spelled es Identifier (word a) → Bound (suc n) x → Fielded (suc n) (node RecField s e (more (leafOf RecName a) (more x none)))
   unfolding readField fieldOver build builds isField kindOfBuild
   field-back n s e a x m h = record {
     marked = refl;
@@ -147,7 +147,7 @@ module _ (es : Editions) where
           (h .reads u (f z) (subst (Near es u) (l z) d) (e z));
     }
 
-    struct-back : (s e : ℕ) (c : Tree) (fs : Trees) → Chain es c → All (Fielded n) fs → Bound (suc n) (node RecStruct s e (more c fs))
+    pub struct-back : (s e : ℕ) (c : Tree) (fs : Trees) → Chain es c → All (Fielded n) fs → Bound (suc n) (node RecStruct s e (more c fs))
     unfolding structOver build builds isName isLetter isDigit inRange
     struct-back s e c fs h a =
         struct-like c (node RecStruct s e (more c fs)) (λ z. 32 ∷ braced fs z) (struct-line s e c fs) h (λ z. ends es isColons (lbrace es) (join fs (125 ∷ z)) _ tt refl refl refl λ u. blank)
@@ -159,7 +159,7 @@ module _ (es : Editions) where
     types-opens none y a = refl
     types-opens (more t ts) y a = angle-opens es n t ts (62 ∷ y) a
 
-    typed-back : (s e : ℕ) (c : Tree) (ts fs : Trees) → Chain es c → All (Typed es n) ts → All (Fielded n) fs → Bound (suc n) (node RecStructTyped s e (more c (joined ts fs)))
+    pub typed-back : (s e : ℕ) (c : Tree) (ts fs : Trees) → Chain es c → All (Typed es n) ts → All (Fielded n) fs → Bound (suc n) (node RecStructTyped s e (more c (joined ts fs)))
     unfolding structOver build builds isName isLetter isDigit inRange
     typed-back s e c ts fs h a b =
         let y : List ℕ → List ℕ = λ z. 32 ∷ braced fs z in
@@ -172,76 +172,21 @@ module _ (es : Editions) where
         gives-look _ (lbrace es w (join fs (125 ∷ z)) (blank q) tt) λ p l. gives-then _ (fields-back fs b z p l) λ ys m r r₂.
         gives _ _ (ap₂ (λ (v : Build) (w : Builds). made RecStructTyped (bmore v w)) g (joined-same xs ys ts fs k r)) r₂)
 
-  -- what reading with n levels left is sure of
-  SureBind : ℕ → Type 0
-  SureBind n = (a : Token) → Good es a → Every es (Bound n) (readBind n a)
-
-  field-sure : (n : ℕ) → SureBind n → (a : Token) → Good es a → Every es (Fielded n) (readField n (readBind n) a)
-  unfolding SureBind readField fieldOver
-  field-sure zero ih a g = tt
-  field-sure (suc n) ih a g =
-      when-every es _ _ _ _
-      (λ c. let i = identifier es a g c in
-      look-every es _ (after a) (g .0) _ λ t o. when-every es _ _ _ _
-      (λ _. look-every es _ (after t) (o .0) _ λ b h. then-every es (Bound (suc n)) _ _ _ (ih b h) λ x u e k. (e, field-back n _ _ a x i k))
-      λ _. (g .0, field-back n _ _ a (leafOf RecVariable a) i (variable-back n a i)))
-      λ _. tt
-
-  module _ (n : ℕ) (ih : SureBind n) where
-    fields-sure : (t : Token) → Good es t → Every es (All (Fielded n)) (fields (readType n) (readField n (readBind n)) t)
-    unfolding fields
-    fields-sure t e = when-every es _ _ _ _ (λ _. behind-sure es (readField n (readBind n)) RBrace t (Fielded n) (λ a g _. field-sure n ih a g) (e .0)) λ _. tt
-
-    unpacked-sure : (a : Token) → Good es a → Every es (Bound (suc n)) (unpacked (readType n) (readField n (readBind n)) a)
-    unfolding unpacked structOver
-    unpacked-sure a g =
-        then-every es (Chain es) _ _ _ (chain-sure es a g) λ c u e h. look-every es _ u e _ λ o p.
-        when-every es _ _ _ _
-        (λ _. then-every es (All (Typed es n)) _ _ _ (behind-sure es (readType n) Greater o (Typed es n) (λ b i _. type-sure es n b i) (p .0)) λ ts v q k. look-every es _ v q _ λ t r.
-        then-every es (All (Fielded n)) _ _ _ (fields-sure t r) λ fs w j l. (j, typed-back n _ _ c ts fs h k l))
-        λ _. then-every es (All (Fielded n)) _ _ _ (fields-sure o p) λ fs v q k. (q, struct-back n _ _ c fs h k)
-
-    over-sure : (a : Token) → Good es a → Every es (Bound (suc n)) (bindOver (readType n) (readField n (readBind n)) a)
-    unfolding bindOver
-    over-sure a g =
-        when-every es _ _ _ _
-        (λ c. look-every es _ (after a) (g .0) _ λ t _. when-every es _ _ _ _ (λ _. unpacked-sure a g) λ _. (g .0, variable-back n a (identifier es a g c)))
-        λ _. unpacked-sure a g
-
-  bind-sure : (n : ℕ) → SureBind n
-  unfolding SureBind readBind
-  bind-sure zero a g = tt
-  bind-sure (suc n) a g = over-sure n (bind-sure n) a g
-
-  binds-sure : (close : ℕ) (o : Token) → Good es o → Every es (All (Bound levels)) (listBehind (readBind levels) close o)
-  unfolding SureBind
-  binds-sure close o e = behind-sure es (readBind levels) close o (Bound levels) (λ a g _. bind-sure levels a g) (e .0)
-
   -- the two lists
   abbrev pub ListBack : Tree → Type 0
   ListBack x = (u : Source) (z : List ℕ) → Near es u (shown x ++ z) → Met (λ (a : Token). Gives es (Same x) z (readBindList a)) (lex u)
 
-  list-back : (s e : ℕ) (xs : Trees) → All (Bound levels) xs → ListBack (node RecBindList s e xs)
+  pub list-back : (s e : ℕ) (xs : Trees) → All (Bound levels) xs → ListBack (node RecBindList s e xs)
   unfolding readBindList build
   list-back s e xs h u z d =
       met-map (λ a i. gives-true _ _ _ (rw (i .kind)) (gives-then _ (list-reads es (readBind levels) RParen a refl (41 ∷ z) z (closed-close es z) xs (binds-open levels RParen refl xs h) (at-once (i .goes))) λ ys v j k. gives _ _ (ap (made RecBindList) j) k))
       (lparen es u (join xs (41 ∷ z)) (subst (Near es u) (list-line s e xs z) d) tt)
 
-  pub list-sure : (a : Token) → Good es a → Every es ListBack (readBindList a)
-  unfolding readBindList SureBind
-  list-sure a g =
-      when-every es _ _ _ _ (λ _. then-every es (All (Bound levels)) _ _ _ (binds-sure RParen a g) λ xs u e h. (e, list-back _ _ xs h))
-      λ _. then-every es (Bound levels) _ _ _ (bind-sure levels a g) λ x u e h. (e, list-back _ _ (more x none) (h, tt))
-
   abbrev pub LambdaBack : Tree → Type 0
   LambdaBack x = (u : Source) (z : List ℕ) → Near es u (shown x ++ z) → Stops isBar z → Met (λ (a : Token). Gives es (Same x) z (readLambdaList a)) (lex u)
 
-  lambda-back : (s e : ℕ) (xs : Trees) → All (Bound levels) xs → LambdaBack (node RecLambdaBindList s e xs)
+  pub lambda-back : (s e : ℕ) (xs : Trees) → All (Bound levels) xs → LambdaBack (node RecLambdaBindList s e xs)
   unfolding readLambdaList build
   lambda-back s e xs h u z d g =
       met-map (λ a i. gives-true _ _ _ (rw (i .kind)) (gives-then _ (list-reads es (readBind levels) Pipe a refl (124 ∷ z) z (closed-bar es z g) xs (binds-open levels Pipe refl xs h) (inner-near es (after a) xs _ (i .goes))) λ ys v j k. gives _ _ (ap (made RecLambdaBindList) j) k))
       (bar es u (inner xs (124 ∷ z)) (subst (Near es u) (lambda-line s e xs z) d) (bar-opens (Bound levels) (λ x i. i .starts) xs (124 ∷ z) h))
-
-  pub lambda-sure : (a : Token) → Good es a → Every es LambdaBack (readLambdaList a)
-  unfolding readLambdaList
-  lambda-sure a g = when-every es _ _ _ _ (λ _. then-every es (All (Bound levels)) _ _ _ (binds-sure Pipe a g) λ xs u e h. (e, lambda-back _ _ xs h)) λ _. tt

@@ -20,7 +20,7 @@ use Rattle.tokens.specs.declared.Refusal.{Refusal}
 use Rattle.records.specs.Tree.{Tree}
 use Rattle.sources.specs.Source.{opened, Token}
 use Rattle.answers.specs.Reading.{Ans, when}
-use Rattle.grammar.specs.Items.{Item, item, refused, readItem}
+use Rattle.grammar.specs.Items.{Item, item, refused, Asked, ofText, reading, readItem}
 use Rattle.forms.specs.Line.{shown}
 use Rattle.forms.specs.Forms.{FormLine, front, laid, written, formOf}
 use Rattle.forms.specs.Spoiled.{spoiled}
@@ -32,7 +32,7 @@ use Rattle.calls.proofs.Room.{roomed-fits}
 use Rattle.roundtrip.proofs.Tokens.{own}
 use Rattle.roundtrip.proofs.Answers.{Gives, gives}
 use Rattle.roundtrip.proofs.Lists.{Same}
-use Rattle.roundtrip.proofs.Round.{reading, item-alone}
+use Rattle.roundtrip.proofs.Round.{item-alone}
 
 -- an item is no refusal
 abbrev IsItem : Item → Type 0
@@ -54,89 +54,89 @@ unspoiled-item (item x u) t n e = go (spoiled x) refl e
 unspoiled-item (refused r) t n e = absurd (subst IsItem (sym e) tt)
 
 -- where an item is clean, its line shows
-item-shows : (kind ed : ℕ) (text : List ℕ) (at : ℕ) (t : Tree) (n : Token) → readItem kind ed text at ≡ item t n → spoiled t ≡ clean → allOf shows (shown t) ≡ true
-item-shows kind ed text at t n e c = line-shows t (clean-words t (item-readable kind ed text at t n e) c)
+item-shows : (q : Asked) (t : Tree) (n : Token) → readItem q ≡ item t n → spoiled t ≡ clean → allOf shows (shown t) ≡ true
+item-shows q t n e c = line-shows t (clean-words t (item-readable q t n e) c)
 
 -- every byte of an accepted display is from 32 to 126
-pub clean-line : (kind ed : ℕ) (text : List ℕ) (at room : ℕ) (t : Tree) (n : Token) → display kind ed text at room ≡ item t n → allOf shows (shown t) ≡ true
+pub clean-line : (q : Asked) (room : ℕ) (t : Tree) (n : Token) → display q room ≡ item t n → allOf shows (shown t) ≡ true
 unfolding display
-clean-line kind ed text at room t n e =
-    let d = unspoiled-item (readItem kind ed text at) t n (roomed-fits asLine (min room lineLimit) (unspoiled (readItem kind ed text at)) t n e .0) in
-    item-shows kind ed text at t n (d .0) (d .1)
+clean-line q room t n e =
+    let d = unspoiled-item (readItem q) t n (roomed-fits asLine (min room lineLimit) (unspoiled (readItem q)) t n e .0) in
+    item-shows q t n (d .0) (d .1)
 
 -- so are all bytes that a display changes
-pub clean-buffer : (kind ed : ℕ) (text : List ℕ) (at : ℕ) (out : List ℕ) (k : ℕ) → (getD (displayBuffer kind ed text at out) k 0 ≡ getD out k 0 → ⊥) → shows (getD (displayBuffer kind ed text at out) k 0) ≡ true
+pub clean-buffer : (q : Asked) (out : List ℕ) (k : ℕ) → (getD (displayBuffer q out) k 0 ≡ getD out k 0 → ⊥) → shows (getD (displayBuffer q out) k 0) ≡ true
 unfolding displayBuffer filled written front laid
-clean-buffer kind ed text at out k h = go (display kind ed text at (length out)) refl h
+clean-buffer q out k h = go (display q (length out)) refl h
   where
-    go : (i : Item) → display kind ed text at (length out) ≡ i → (getD (filled asLine i out) k 0 ≡ getD out k 0 → ⊥) → shows (getD (filled asLine i out) k 0) ≡ true
+    go : (i : Item) → display q (length out) ≡ i → (getD (filled asLine i out) k 0 ≡ getD out k 0 → ⊥) → shows (getD (filled asLine i out) k 0) ≡ true
     go (refused r) e g = absurd (g refl)
     go (item t n) e g = at-byte (ltb k (length (shown t))) refl
       where
         at-byte : (b : Bool) → ltb k (length (shown t)) ≡ b → shows (getD (filled asLine (item t n) out) k 0) ≡ true
         at-byte true l =
             let m = ltb-true k (length (shown t)) l in
-            rw (List·getD-append (shown t) (drop (length (shown t)) out) 0 k m) (all-at shows (shown t) k (clean-line kind ed text at (length out) t n e) m)
+            rw (List·getD-append (shown t) (drop (length (shown t)) out) 0 k m) (all-at shows (shown t) k (clean-line q (length out) t n e) m)
         at-byte false l =
             let m = ltb-false k (length (shown t)) l in
             let z : length (shown t) + (k - length (shown t)) ≡ k = omega arith in
             absurd (g (ap (λ (j : ℕ). getD (filled asLine (item t n) out) j 0) (sym z) ∙ getD-append-add (shown t) (drop (length (shown t)) out) (k - length (shown t)) 0 ∙ getD-drop (length (shown t)) out (k - length (shown t)) 0 ∙ ap (λ (j : ℕ). getD out j 0) z))
 
 -- of all that a read gives, what is clean and nothing else has a line of such bytes: 18 refuses no line that could be shown
-shows-again : (kind ed : ℕ) (t : Tree) (a : Ans Tree) → reading ed kind (shown t) ≡ a → Gives (own ed) (Same t) [] a → allOf shows (shown t) ≡ true → spoiled t ≡ clean
-shows-again kind ed t a e (gives y u b g) h = build-spoiled y t b .0 (words-clean y (shown-words kind (opened ed (shown t) 0) u y h e))
+shows-again : (q : Asked) (t : Tree) (a : Ans Tree) → reading (ofText (shown t) q) ≡ a → Gives (own (q .edition)) (Same t) [] a → allOf shows (shown t) ≡ true → spoiled t ≡ clean
+shows-again q t a e (gives y u b g) h = build-spoiled y t b .0 (words-clean y (shown-words (q .kind) (opened (q .edition) (shown t) 0) u y h e))
 
-pub exactly : (kind ed : ℕ) (text : List ℕ) (at : ℕ) (t : Tree) (n : Token) → readItem kind ed text at ≡ item t n → (spoiled t ≡ clean) ↔ (allOf shows (shown t) ≡ true)
-exactly kind ed text at t n e = (item-shows kind ed text at t n e, shows-again kind ed t (reading ed kind (shown t)) refl (item-alone (own ed) kind text at t n e .2))
+pub exactly : (q : Asked) (t : Tree) (n : Token) → readItem q ≡ item t n → (spoiled t ≡ clean) ↔ (allOf shows (shown t) ≡ true)
+exactly q t n e = (item-shows q t n e, shows-again q t (reading (ofText (shown t) q)) refl (item-alone (own (q .edition)) q refl t n e .1))
 
-pub read-exactly : (kind ed : ℕ) (text : List ℕ) (at room : ℕ) (t : Tree) (n : Token) → read kind ed text at room ≡ item t n → (spoiled t ≡ clean) ↔ (allOf shows (shown t) ≡ true)
+pub read-exactly : (q : Asked) (room : ℕ) (t : Tree) (n : Token) → read q room ≡ item t n → (spoiled t ≡ clean) ↔ (allOf shows (shown t) ≡ true)
 unfolding read
-read-exactly kind ed text at room t n e = exactly kind ed text at t n (roomed-fits (formOf text) room (readItem kind ed text at) t n e .0)
+read-exactly q room t n e = exactly q t n (roomed-fits (formOf (q .text)) room (readItem q) t n e .0)
 
 -- what a display that is refused with 18 at b tells: its read is accepted, room set aside, and b is the first byte of a string of it that
 -- is under 32 or 127
-pub record SpoiledAt (kind ed : ℕ) (text : List ℕ) (at b : ℕ) : Type 0 where
+pub record SpoiledAt (q : Asked) (b : ℕ) : Type 0 where
   pub tree : Tree
   pub next : Token
-  pub isItem : readItem kind ed text at ≡ item tree next
+  pub isItem : readItem q ≡ item tree next
   pub isSpoiled : spoiled tree ≡ some b
 
-module _ (kind ed : ℕ) (text : List ℕ) (at room : ℕ) where
+module _ (q : Asked) (room : ℕ) where
   abbrev pub Refused : ℕ → Type 0
-  Refused b = (r : Refusal) × (display kind ed text at room ≡ refused r) × (r .number ≡ LineSpoiled) × (r .place .start ≡ b)
+  Refused b = (r : Refusal) × (display q room ≡ refused r) × (r .number ≡ LineSpoiled) × (r .place .start ≡ b)
 
-  same-refusal : (r q : Refusal) → refused r ≡ refused q → r ≡ q
-  same-refusal r q e = ap of e
+  same-refusal : (r r₂ : Refusal) → refused r ≡ refused r₂ → r ≡ r₂
+  same-refusal r r₂ e = ap of e
     where
       of : Item → Refusal
       of (item x t) = r
       of (refused s) = s
 
-  told : (b : ℕ) → Refused b → SpoiledAt kind ed text at b
+  told : (b : ℕ) → Refused b → SpoiledAt q b
   unfolding display unspoiled unlessSpoiled roomed when among
-  told b d = go (readItem kind ed text at) refl (d .1)
+  told b d = go (readItem q) refl (d .1)
     where
-      room-only : (c : Bool) (t : Tree) (n : Token) → when c (λ _. refused (refusal 4 0 0)) (λ _. item t n) ≡ refused (d .0) → SpoiledAt kind ed text at b
+      room-only : (c : Bool) (t : Tree) (n : Token) → when c (λ _. refused (refusal 4 0 0)) (λ _. item t n) ≡ refused (d .0) → SpoiledAt q b
       room-only true t n h = let z : _≡_ {A = ℕ} 4 18 = ap (λ (r : Refusal). r .number) (same-refusal (refusal 4 0 0) (d .0) h) ∙ d .2 in absurd (omega arith)
       room-only false t n h = absurd (subst IsItem h tt)
 
-      of-item : (t : Tree) (n : Token) → readItem kind ed text at ≡ item t n → (o : Option ℕ) → spoiled t ≡ o → roomed asLine (min room lineLimit) (unlessSpoiled o (item t n)) ≡ refused (d .0) → SpoiledAt kind ed text at b
+      of-item : (t : Tree) (n : Token) → readItem q ≡ item t n → (o : Option ℕ) → spoiled t ≡ o → roomed asLine (min room lineLimit) (unlessSpoiled o (item t n)) ≡ refused (d .0) → SpoiledAt q b
       of-item t n e clean c h = room-only (ltb (min room lineLimit) (length (written FormLine t))) t n h
       of-item t n e (some p) c h =
           let z : p ≡ b = ap (λ (r : Refusal). r .place .start) (same-refusal (refusal LineSpoiled p (p + 1)) (d .0) h) ∙ d .3 in
           record { tree = t; next = n; isItem = e; isSpoiled = c ∙ ap some z }
 
-      go : (i : Item) → readItem kind ed text at ≡ i → roomed asLine (min room lineLimit) (unspoiled i) ≡ refused (d .0) → SpoiledAt kind ed text at b
+      go : (i : Item) → readItem q ≡ i → roomed asLine (min room lineLimit) (unspoiled i) ≡ refused (d .0) → SpoiledAt q b
       go (item t n) e h = of-item t n e (spoiled t) refl h
-      go (refused q) e h =
-          let z : q .number ≡ 18 = ap (λ (r : Refusal). r .number) (same-refusal q (d .0) h) ∙ d .2 in
-          false-true _ (subst (λ (m : ℕ). among readRefusals m ≡ true) z (item-refusals kind ed text at q e))
+      go (refused s) e h =
+          let z : s .number ≡ 18 = ap (λ (r : Refusal). r .number) (same-refusal s (d .0) h) ∙ d .2 in
+          false-true _ (subst (λ (m : ℕ). among readRefusals m ≡ true) z (item-refusals q s e))
 
   -- its places are (b,b+1) twice
-  pub spoiled-places : (b : ℕ) → SpoiledAt kind ed text at b → display kind ed text at room ≡ refused (refusal LineSpoiled b (b + 1))
+  pub spoiled-places : (b : ℕ) → SpoiledAt q b → display q room ≡ refused (refusal LineSpoiled b (b + 1))
   unfolding display unspoiled unlessSpoiled roomed
   spoiled-places b d = ap (λ (i : Item). roomed asLine (min room lineLimit) (unspoiled i)) (d .isItem) ∙ ap (λ (o : Option ℕ). roomed asLine (min room lineLimit) (unlessSpoiled o (item (d .tree) (d .next)))) (d .isSpoiled)
 
   -- a display is refused with 18 at b exactly where this holds
-  pub spoiled-exactly : (b : ℕ) → Refused b ↔ SpoiledAt kind ed text at b
+  pub spoiled-exactly : (b : ℕ) → Refused b ↔ SpoiledAt q b
   spoiled-exactly b = (told b, λ d. (refusal LineSpoiled b (b + 1), spoiled-places b d, refl, refl))

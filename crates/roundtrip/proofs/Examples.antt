@@ -13,7 +13,7 @@ use Rattle.words.specs.Search.{same, lookup, kindOf, longest, markOf, frontLen,
 use Rattle.words.specs.Quote.{endsLine, quoteFrom}
 use Rattle.tokens.specs.Token.{typed, digitsLen, moreDigits, moreHex, decimalLen, decimal, hexTyped, hexLen, hexNumber, number, stringBy, string, opensString, stringRefusal, name, word, mark, findToken, placed, behindGap, lex as lexFrom}
 use Rattle.tokens.specs.Answers.{tokenNumber, tokenValues}
-use Rattle.tokens.specs.Calls.{admitted, lexed, nextToken, lineFeedBefore, advanced, admittedIn, tokenCall}
+use Rattle.tokens.specs.Calls.{_orElse_, placeFault, callFault, unless, lexed, nextToken, lineFeedBefore, advanced, tokenCall}
 use Rattle.records.specs.Tree.{build, builds, behind, joined}
 use Rattle.records.specs.Stored.{number as inBytes, headOf, counted, countedAll, records}
 use Rattle.sources.specs.Source.{scanned, lex}
@@ -22,7 +22,7 @@ use Rattle.grammar.specs.Names.{lastPart, thirdPart, secondPart, chain}
 use Rattle.grammar.specs.Values.{leafKind, leafValue, addressValue, value}
 use Rattle.grammar.specs.Types.{bracketed, brackets, reference, function, withArguments, named, typeOver, readType}
 use Rattle.grammar.specs.Binds.{fields, structOver, unpacked, bindOver, fieldOver, readField, readBind, readBindList, readLambdaList}
-use Rattle.grammar.specs.Items.{readKind, followed, finished, readItem}
+use Rattle.grammar.specs.Items.{readKind, followed, finished, faultOf, readItem}
 use Rattle.forms.specs.Line.{plain, others, commas, bars, angles, inBrackets, braces, first, later, initial, final, select, isField, isType, shape, kindOfBuild, line as lineOf, pieces, shown}
 use Rattle.forms.specs.Forms.{front, headSize, width, head, recorded, recordedAll, laid, written, formOf}
 use Rattle.forms.specs.Spoiled.{spoils, spoiledWord, firstOf, spoiled, spoiledAll}
@@ -39,11 +39,11 @@ unfolding keywords longMarks doubleMarks singleMarks marks same lookup kindOf lo
 lexing = tt
 
 unfoldable telling : Unit {0}
-unfolding tokenNumber tokenValues admitted lexed nextToken scanned lex lineFeedBefore advanced admittedIn tokenCall
+unfolding tokenNumber tokenValues _orElse_ placeFault callFault unless lexed nextToken scanned lex lineFeedBefore advanced tokenCall
 telling = tt
 
 unfoldable reading : Unit {0}
-unfolding then look when closed list listBehind lastPart thirdPart secondPart chain leafKind leafValue addressValue value bracketed brackets reference function withArguments named typeOver readType fields structOver unpacked bindOver fieldOver readField readBind readBindList readLambdaList readKind followed finished readItem behind joined
+unfolding then look when closed list listBehind lastPart thirdPart secondPart chain leafKind leafValue addressValue value bracketed brackets reference function withArguments named typeOver readType fields structOver unpacked bindOver fieldOver readField readBind readBindList readLambdaList readKind followed finished faultOf readItem behind joined
 reading = tt
 
 unfoldable calling : Unit {0}

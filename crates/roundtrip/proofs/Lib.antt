@@ -6,6 +6,7 @@ pub mod Lists
 pub mod Names
 pub mod Types
 pub mod Binds
+pub mod Backs
 pub mod Round
 pub mod Theorem
 pub mod Clean

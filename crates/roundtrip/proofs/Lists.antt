@@ -16,8 +16,8 @@ use Rattle.answers.specs.Reading.{ok, no, then, look, when, closed, refusedBefo
 use Rattle.forms.specs.Line.{shown}
 use Rattle.forms.specs.Forms.{FormLine, markIn, laid, listedRest, laidItems}
 use Rattle.roundtrip.proofs.Words.{Stops, extends, differs}
-use Rattle.roundtrip.proofs.Tokens.{Met, met-map, Editions, Rest, Near, at-once, blank, near-long, Stands, Good}
-use Rattle.roundtrip.proofs.Answers.{Gives, gives, Shuts, Stays, Here, gives-then, gives-look, gives-true, gives-false, gives-stays, gives-shuts, Every, then-every, look-every, when-every, closed-every}
+use Rattle.roundtrip.proofs.Tokens.{Met, met-map, Editions, Rest, Near, at-once, blank, near-long, Stands}
+use Rattle.roundtrip.proofs.Answers.{Gives, gives, Shuts, Stays, gives-then, gives-look, gives-true, gives-false, gives-stays, gives-shuts}
 use Rattle.roundtrip.proofs.Marks.{isEqual, comma, greater, Ends, ends, ends-greater}
 
 abbrev pub All : (Tree → Type 0) → Trees → Type 0
@@ -138,21 +138,3 @@ module _ (es : Editions) where
     pub list-reads : (ts : Trees) → All (Reads item (Opens close)) ts → Near es (after o) (join ts y) → Gives es (SameAll ts) z (listBehind item close o)
     unfolding Back listBehind
     list-reads ts a n = list-back ts a (suc (length (after o .rest))) (after o) n (omega (arith, near-long n))
-
-  -- what is sure of each item is sure of all
-  module _ (item : Reader) (close : ℕ) (o : Token) (P : Tree → Type 0) (one : (t : Token) → Good es t → eqb (t .kind) close ≡ false → Every es P (item t)) where
-    list-sure : (f : ℕ) (u : Source) → Here es u → Every es (All P) (list item close o f (lex u))
-    unfolding list
-    list-sure zero u e = tt
-    list-sure (suc f) u e =
-        look-every es _ u e _ λ t g.
-        closed-every es _ close t g _ _ (λ v q. (q, tt)) λ x.
-        when-every es _ _ _ _ (λ c. tt) λ c.
-        then-every es P _ _ _ (one t g x) λ a v q h.
-        look-every es _ v q _ λ t₂ g₂.
-        closed-every es _ close t₂ g₂ _ _ (λ w r. (r, (h, tt))) λ x₂.
-        when-every es _ _ _ _ (λ c₂. then-every es (All P) _ _ _ (list-sure f (after t₂) (g₂ .0)) λ ts w r i. (r, (h, i))) λ c₂. tt
-
-    pub behind-sure : Here es (after o) → Every es (All P) (listBehind item close o)
-    unfolding listBehind
-    behind-sure e = list-sure (suc (length (after o .rest))) (after o) e

@@ -9,11 +9,11 @@ use lib.ListN.{getD}
 use Rattle.classes.specs.Class.{inRange, isDigit, isLetter, isName}
 use Rattle.classes.proofs.Bools.{false-true, and-false}
 use Rattle.words.specs.Kinds.{NumValue, Identifier, ColonColon, AtSign}
-use Rattle.records.specs.Kinds.{RecName, RecAddress, RecOnePart, RecTwoPart, RecPair, RecUnit, RecAddressValue}
+use Rattle.records.specs.Kinds.{RecName, RecAddress, RecOnePart, RecTwoPart, RecThreePart, RecPair, RecUnit, RecAddressValue}
 use Rattle.records.specs.Tree.{Tree, node, none, more, Build, spelled, made, bnone, bmore, build, builds}
 use Rattle.sources.specs.Source.{Source, Token, word, after, lex}
 use Rattle.answers.specs.Reading.{leafOf}
-use Rattle.grammar.specs.Names.{isFirst, firstPart, pairOf, threeOf, lastPart, thirdPart, secondPart, chain}
+use Rattle.grammar.specs.Names.{isFirst, firstPart, lastPart, thirdPart, secondPart, chain}
 use Rattle.grammar.specs.Values.{leafKind, valueKind, leafValue, addressValue, value}
 use Rattle.grammar.specs.Binds.{isStruct}
 use Rattle.forms.specs.Line.{line, shown}
@@ -22,7 +22,7 @@ use Rattle.forms.proofs.Constructs.{laid-leaf, laid-two, laid-three, laid-pair,
 use Rattle.roundtrip.specs.Arguments.{Bracketed, BracketedAll}
 use Rattle.roundtrip.proofs.Words.{Stops, extends, differs, Headed, wordy}
 use Rattle.roundtrip.proofs.Tokens.{Met, met-map, Editions, Rest, Near, at-once, Spelled, Good}
-use Rattle.roundtrip.proofs.Answers.{Gives, gives, gives-look, gives-true, gives-false, Every, look-every, when-every}
+use Rattle.roundtrip.proofs.Answers.{Gives, gives, gives-look, gives-true, gives-false}
 use Rattle.roundtrip.proofs.Marks.{widens, isBar, at-sign, colons, Ends}
 use Rattle.roundtrip.proofs.Lists.{Same}
 
@@ -67,10 +67,10 @@ unfolding laid headed head markIn
 at-line s e a = laid-address FormLine s e (firstPart a) ∙ ap (_∷_ 64) (part-shown a)
 
 -- a value of one token: its record's kind is no unit's, and tells that the token is a word
-abbrev Leaf : ℕ → ℕ → Type 0
+abbrev pub Leaf : ℕ → ℕ → Type 0
 Leaf k c = (eqb c RecUnit ≡ false) × (eqb c 0 ≡ false → wordy k ≡ true)
 
-leaf-word : (k b : ℕ) → Leaf k (leafKind k b)
+pub leaf-word : (k b : ℕ) → Leaf k (leafKind k b)
 unfolding leafKind
 leaf-word k b = go (eqb k 55) refl (eqb k 43) refl (eqb k 1) refl (eqb k 2) refl (eqb k 3) refl (eqb b 120)
   where
@@ -98,7 +98,7 @@ module _ (es : Editions) where
     pub reads : (u : Source) (z : List ℕ) → Near es u (shown c ++ z) → Ends es isColons z → Met (Named c z) (lex u)
 
   -- one part
-  chain-one : (a : Token) → Spelled es Identifier (word a) → Chain (leafOf RecOnePart a)
+  pub chain-one : (a : Token) → Spelled es Identifier (word a) → Chain (leafOf RecOnePart a)
   unfolding chain build Bracketed
   chain-one a n = record {
     bracketed = tt;
@@ -129,23 +129,26 @@ module _ (es : Editions) where
     two-line : (k s e : ℕ) → ((x y : Tree) → shown (node k s e (more x (more y none))) ≡ shown x ++ (58 ∷ 58 ∷ shown y)) → (z : List ℕ) → shown (node k s e (more (firstPart a) (more (leafOf RecName b) none))) ++ z ≡ word a ++ (58 ∷ 58 ∷ (word b ++ z))
     two-line k s e h z = rw (h (firstPart a) (leafOf RecName b), part-shown a, leaf-shown RecName b refl) (append-assoc (word a) (58 ∷ 58 ∷ word b) z)
 
-    chain-two : Chain (pairOf RecTwoPart a b)
+    pub chain-two : (s e : ℕ) → Chain (node RecTwoPart s e (more (firstPart a) (more (leafOf RecName b) none)))
     unfolding thirdPart build builds Bracketed BracketedAll laid headed head markIn
-    chain-two =
-        chain-from (pairOf RecTwoPart a b) (λ z. z) (λ x. false-true _ x, (tt, (tt, tt))) (two-line RecTwoPart _ _ (laid-two FormLine _ _)) (λ z e. e .stops) λ z e a₂ b₂ g h i.
+    chain-two s e =
+        chain-from (node RecTwoPart s e (more (firstPart a) (more (leafOf RecName b) none))) (λ z. z) (λ x. false-true _ x, (tt, (tt, tt))) (two-line RecTwoPart _ _ (laid-two FormLine _ _)) (λ z e. e .stops) λ z e a₂ b₂ g h i.
         gives-look _ (e .after (after b₂) i) λ t x. gives-false _ _ _ x (gives _ _ (ap₂ (λ (v : Build) (w : List ℕ). made RecTwoPart (bmore v (bmore (spelled RecName w) bnone))) g h) i)
 
-    three-line : (c : Token) (z : List ℕ) → shown (threeOf a b c) ++ z ≡ word a ++ (58 ∷ 58 ∷ (word b ++ (58 ∷ 58 ∷ (word c ++ z))))
+    abbrev pub parts : (s e s₂ e₂ : ℕ) → Token → Tree
+    parts s e s₂ e₂ c = node RecThreePart s e (more (node RecPair s₂ e₂ (more (firstPart a) (more (leafOf RecName b) none))) (more (leafOf RecName c) none))
+
+    three-line : (s e s₂ e₂ : ℕ) (c : Token) (z : List ℕ) → shown (parts s e s₂ e₂ c) ++ z ≡ word a ++ (58 ∷ 58 ∷ (word b ++ (58 ∷ 58 ∷ (word c ++ z))))
     unfolding laid headed head markIn
-    three-line c z =
-        ap (λ (x : List ℕ). x ++ z) (laid-three FormLine _ _ (pairOf RecPair a b) (leafOf RecName c))
-        ∙ append-assoc (shown (pairOf RecPair a b)) (58 ∷ 58 ∷ shown (leafOf RecName c)) z
+    three-line s e s₂ e₂ c z =
+        ap (λ (x : List ℕ). x ++ z) (laid-three FormLine s e (node RecPair s₂ e₂ (more (firstPart a) (more (leafOf RecName b) none))) (leafOf RecName c))
+        ∙ append-assoc (shown (node RecPair s₂ e₂ (more (firstPart a) (more (leafOf RecName b) none)))) (58 ∷ 58 ∷ shown (leafOf RecName c)) z
         ∙ two-line RecPair _ _ (laid-pair FormLine _ _) _ ∙ ap (λ (x : List ℕ). word a ++ (58 ∷ 58 ∷ (word b ++ (58 ∷ 58 ∷ (x ++ z))))) (leaf-shown RecName c refl)
 
-    chain-three : (c : Token) → Spelled es Identifier (word c) → Chain (threeOf a b c)
+    pub chain-three : (s e s₂ e₂ : ℕ) (c : Token) → Spelled es Identifier (word c) → Chain (parts s e s₂ e₂ c)
     unfolding thirdPart lastPart build builds Bracketed BracketedAll
-    chain-three c o =
-        chain-from (threeOf a b c) (λ z. 58 ∷ 58 ∷ (word c ++ z)) (λ x. false-true _ x, ((λ x. false-true _ x, (tt, (tt, tt))), (tt, tt))) (three-line c) (λ z e. colons-stop (word c ++ z)) λ z e a₂ b₂ g h i.
+    chain-three s e s₂ e₂ c o =
+        chain-from (parts s e s₂ e₂ c) (λ z. 58 ∷ 58 ∷ (word c ++ z)) (λ x. false-true _ x, ((λ x. false-true _ x, (tt, (tt, tt))), (tt, tt))) (three-line s e s₂ e₂ c) (λ z e. colons-stop (word c ++ z)) λ z e a₂ b₂ g h i.
         gives-look _ (colons es (after b₂) _ (at-once i) tt) λ t j. gives-true _ _ _ (rw (j .kind))
         (gives-look _ (o .1 (after t) z (at-once (j .goes)) (e .stops)) λ c₂ v. gives-true _ _ _ (rw (v .kind))
         (gives _ _ (rw (g, h, v .spelt)) (v .goes)))
@@ -154,45 +157,23 @@ module _ (es : Editions) where
   pub identifier : (t : Token) → Good es t → eqb (t .kind) Identifier ≡ true → Spelled es Identifier (word t)
   identifier t g c = let e : t .kind ≡ Identifier = eqb-true (t .kind) Identifier c in subst (λ (k : ℕ). Spelled es k (word t)) e (g .1 (rw e refl))
 
-  first-word : (t : Token) → Good es t → isFirst t ≡ true → Spelled es (t .kind) (word t)
+  pub first-word : (t : Token) → Good es t → isFirst t ≡ true → Spelled es (t .kind) (word t)
   first-word t g c = g .1 (rw c)
-
-  pub chain-sure : (a : Token) → Good es a → Every es Chain (chain a)
-  unfolding chain secondPart thirdPart lastPart
-  chain-sure a g =
-      when-every es _ _ _ _
-      (λ f. let n = first-word a g f in
-      look-every es _ (after a) (g .0) _ λ d o. when-every es _ _ _ _
-      (λ _. look-every es _ (after d) (o .0) _ λ b h. when-every es _ _ _ _
-      (λ i. let m = identifier b h i in
-      look-every es _ (after b) (h .0) _ λ d₂ o₂. when-every es _ _ _ _
-      (λ _. look-every es _ (after d₂) (o₂ .0) _ λ c j. when-every es _ _ _ _ (λ k. (j .0, chain-three a b f n m c (identifier c j k))) λ _. tt)
-      λ _. (h .0, chain-two a b f n m))
-      λ _. tt)
-      λ _. when-every es _ _ _ _ (λ i. (g .0, chain-one a (identifier a g i))) λ _. tt)
-      λ _. tt
 
   -- values
   abbrev pub ValueBack : Tree → Type 0
   ValueBack x = (u : Source) (z : List ℕ) → Near es u (shown x ++ z) → Ends es isColons z → Met (λ (a : Token). Gives es (Same x) z (value a)) (lex u)
 
-  at-back : (s e : ℕ) (a : Token) → isFirst a ≡ true → Spelled es (a .kind) (word a) → ValueBack (node RecAddressValue s e (more (firstPart a) none))
+  pub at-back : (s e : ℕ) (a : Token) → isFirst a ≡ true → Spelled es (a .kind) (word a) → ValueBack (node RecAddressValue s e (more (firstPart a) none))
   unfolding value addressValue build builds
   at-back s e a f n u z d h =
       met-map (λ t i. gives-true _ _ _ (rw (i .kind)) (gives-look _ (n .1 (after t) z (at-once (i .goes)) (h .stops)) λ a₂ j.
       gives-true _ _ _ (rw (j .kind) f) (gives _ _ (ap (λ (b : Build). made RecAddressValue (bmore b bnone)) (part-same a a₂ (j .kind) (j .spelt))) (j .goes))))
       (at-sign es u (word a ++ z) (rw (at-line s e a) at d) tt)
 
-  leaf-back : (t : Token) → Spelled es (t .kind) (word t) → eqb (t .kind) AtSign ≡ false → eqb (valueKind t) 0 ≡ false → ValueBack (leafOf (valueKind t) t)
+  pub leaf-back : (t : Token) → Spelled es (t .kind) (word t) → eqb (t .kind) AtSign ≡ false → eqb (valueKind t) 0 ≡ false → ValueBack (leafOf (valueKind t) t)
   unfolding value leafValue build
   leaf-back t n a h u z d e =
       met-map (λ t₂ i. gives-false _ _ _ (rw (i .kind) a) (gives-false _ _ _ (rw (i .kind, i .spelt) h)
       (gives-look _ (e .after (after t₂) (i .goes)) λ t₃ x. gives-false _ _ _ (rw x (and-false (eqb (t₂ .kind) NumValue))) (gives _ _ (rw (i .kind, i .spelt)) (i .goes)))))
       (n .1 u z (rw (leaf-shown (valueKind t) t (leaf-word (t .kind) (getD (word t) 0 0) .0)) at d) (e .stops))
-
-  pub value-sure : (t : Token) → Good es t → Every es ValueBack (value t)
-  unfolding value addressValue leafValue
-  value-sure t g =
-      when-every es _ _ _ _ (λ _. look-every es _ (after t) (g .0) _ λ a h. when-every es _ _ _ _ (λ f. (h .0, at-back _ _ a f (first-word a h f))) λ _. tt) λ a.
-      when-every es _ _ _ _ (λ _. tt) λ c.
-      look-every es _ (after t) (g .0) _ λ d _. when-every es _ _ _ _ (λ _. tt) λ _. (g .0, leaf-back t (g .1 (leaf-word (t .kind) (getD (word t) 0 0) .1 c)) a c)

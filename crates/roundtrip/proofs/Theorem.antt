@@ -18,7 +18,7 @@ use Rattle.records.specs.Tree.{Tree, build}
 use Rattle.records.specs.Stored.{records}
 use Rattle.sources.specs.Source.{Token, tokenOf}
 use Rattle.answers.specs.Reading.{when}
-use Rattle.grammar.specs.Items.{Item, item, refused, readItem}
+use Rattle.grammar.specs.Items.{Item, item, refused, Asked, readItem}
 use Rattle.forms.specs.Line.{shown}
 use Rattle.forms.specs.Forms.{FormNarrow, FormWide, written, narrowLimit, formOf}
 use Rattle.forms.specs.Spoiled.{spoiled}
@@ -71,18 +71,18 @@ six k e = k ∷ e .kind ∷ e .start ∷ e .end ∷ 0 ∷ 0 ∷ []
 -- what the answers of an accepted item say
 module _ (i : Lent) (t : Tree) (n : Token) where
   abbrev tree : List ℕ
-  tree = written (formOf (i .text) t) t
+  tree = written (formOf (i .asks .text) t) t
 
   tree-length : readOf i ≡ item t n → treeLength i ≡ length tree
   unfolding answered answeredIn readValues
   tree-length e = rw e
 
-  read-values : readOf i ≡ item t n → readValues (answered (i .text) (readOf i)) ≡ six (treeLength i) (tokenOf n)
+  read-values : readOf i ≡ item t n → readValues (answered (i .asks .text) (readOf i)) ≡ six (treeLength i) (tokenOf n)
   unfolding answered answeredIn readValues
   read-values e = rw e
 
-  tree-written : readOf i ≡ item t n → readBuffer (i .kind) (i .edition) (i .text) (i .at) (i .forTree) ≡ tree ++ drop (length tree) (i .forTree)
-  tree-written e = read-written (i .kind) (i .edition) (i .text) (i .at) t n (i .forTree) e
+  tree-written : readOf i ≡ item t n → readBuffer (i .asks) (i .forTree) ≡ tree ++ drop (length tree) (i .forTree)
+  tree-written e = read-written (i .asks) t n (i .forTree) e
 
   line-length : displayOf i ≡ item t n → lineLength i ≡ length (shown t)
   unfolding displayed displayValues
@@ -92,7 +92,7 @@ module _ (i : Lent) (t : Tree) (n : Token) where
   unfolding displayed displayValues
   display-values e = rw (e, written-line t)
 
-  line-written : displayOf i ≡ item t n → displayBuffer (i .kind) (i .edition) (i .text) (i .at) (i .forLine) ≡ shown t ++ drop (length (shown t)) (i .forLine)
+  line-written : displayOf i ≡ item t n → displayBuffer (i .asks) (i .forLine) ≡ shown t ++ drop (length (shown t)) (i .forLine)
   unfolding displayBuffer filled
   line-written e = rw (e, written-line t)
 
@@ -101,48 +101,48 @@ module _ (i : Lent) (t : Tree) (n : Token) where
 
 -- the item, its two answers, and that both fit
 record Known (i : Lent) (t : Tree) (n : Token) : Type 0 where
-  isItem : readItem (i .kind) (i .edition) (i .text) (i .at) ≡ item t n
+  isItem : readItem (i .asks) ≡ item t n
   isClean : spoiled t ≡ clean
   isShown : displayOf i ≡ item t n
   treeFits : length (tree i t n) ≤ length (i .forTree)
   lineFits : length (shown t) ≤ min (length (i .forLine)) lineLimit
 
 -- the display of a clean item looks at its room alone
-shown-clean : (room kind ed : ℕ) (text : List ℕ) (at : ℕ) (t : Tree) (n : Token) → readItem kind ed text at ≡ item t n → spoiled t ≡ clean → display kind ed text at room ≡ roomed asLine (min room lineLimit) (item t n)
+shown-clean : (room : ℕ) (q : Asked) (t : Tree) (n : Token) → readItem q ≡ item t n → spoiled t ≡ clean → display q room ≡ roomed asLine (min room lineLimit) (item t n)
 unfolding display unspoiled unlessSpoiled
-shown-clean room kind ed text at t n e c =
+shown-clean room q t n e c =
     let m : ℕ = min room lineLimit in
     ap (λ (j : Item). roomed asLine m (unspoiled j)) e ∙ ap (λ (o : Option ℕ). roomed asLine m (unlessSpoiled o (item t n))) c
 
 known : (i : Lent) (t : Tree) (n : Token) → Accepted i t n → Known i t n
 unfolding read display unspoiled unlessSpoiled
 known i t n a =
-    let r = roomed-fits (formOf (i .text)) (length (i .forTree)) (readItem (i .kind) (i .edition) (i .text) (i .at)) t n (a .isRead) in
+    let r = roomed-fits (formOf (i .asks .text)) (length (i .forTree)) (readItem (i .asks)) t n (a .isRead) in
     let m : ℕ = min (length (i .forLine)) lineLimit in
     let h : NotRefused (roomed asLine m (unlessSpoiled (spoiled t) (item t n))) = subst (λ (j : Item). NotRefused (roomed asLine m (unspoiled j))) (r .0) (a .isShown) in
     let c : spoiled t ≡ clean = clean-shown asLine m t n (spoiled t) h in
     let g : NotRefused (roomed asLine m (item t n)) = subst (λ (o : Option ℕ). NotRefused (roomed asLine m (unlessSpoiled o (item t n)))) c h in
-    let d : displayOf i ≡ item t n = shown-clean (length (i .forLine)) (i .kind) (i .edition) (i .text) (i .at) t n (r .0) c ∙ not-refused asLine m t n g in
-    let l = roomed-fits asLine m (unspoiled (readItem (i .kind) (i .edition) (i .text) (i .at))) t n d in
+    let d : displayOf i ≡ item t n = shown-clean (length (i .forLine)) (i .asks) t n (r .0) c ∙ not-refused asLine m t n g in
+    let l = roomed-fits asLine m (unspoiled (readItem (i .asks))) t n d in
     record { isItem = r .0; isClean = c; isShown = d; treeFits = r .1; lineFits = rw (written-line t) at (l .1) }
 
 -- a clean item with room for its tree and its line
-accept : (i : Lent) (t : Tree) (n : Token) → readItem (i .kind) (i .edition) (i .text) (i .at) ≡ item t n → spoiled t ≡ clean → length (tree i t n) ≤ length (i .forTree) → length (shown t) ≤ min (length (i .forLine)) lineLimit
+accept : (i : Lent) (t : Tree) (n : Token) → readItem (i .asks) ≡ item t n → spoiled t ≡ clean → length (tree i t n) ≤ length (i .forTree) → length (shown t) ≤ min (length (i .forLine)) lineLimit
     → (readOf i ≡ item t n) × (displayOf i ≡ item t n)
 unfolding read
 accept i t n e c g h = (
-  ap (roomed (formOf (i .text)) (length (i .forTree))) e ∙ room-for (formOf (i .text)) (length (i .forTree)) t n g,
-  shown-clean (length (i .forLine)) (i .kind) (i .edition) (i .text) (i .at) t n e c ∙ room-for asLine (min (length (i .forLine)) lineLimit) t n (rw (written-line t) h),
+  ap (roomed (formOf (i .asks .text)) (length (i .forTree))) e ∙ room-for (formOf (i .asks .text)) (length (i .forTree)) t n g,
+  shown-clean (length (i .forLine)) (i .asks) t n e c ∙ room-for asLine (min (length (i .forLine)) lineLimit) t n (rw (written-line t) h),
 )
 
 -- two accepted items of one kind, whatever the edition of each, have the same line exactly when their builds are equal
-pub lines-builds : (i j : Lent) (t u : Tree) (n m : Token) → i .kind ≡ j .kind → Accepted i t n → Accepted j u m → (lineOf i ≡ lineOf j) ↔ (build t ≡ build u)
+pub lines-builds : (i j : Lent) (t u : Tree) (n m : Token) → i .asks .kind ≡ j .asks .kind → Accepted i t n → Accepted j u m → (lineOf i ≡ lineOf j) ↔ (build t ≡ build u)
 lines-builds i j t u n m k a b =
     let x = known i t n a in
     let y = known j u m b in
     let l = line-is i t n (x .isShown) in
     let r = line-is j u m (y .isShown) in
-    let s = same-lines (j .kind) (i .edition) (j .edition) (i .text) (j .text) (i .at) (j .at) t u n m (rw k at (x .isItem)) (y .isItem) in
+    let s = same-lines (i .asks) (j .asks) t u n m k (x .isItem) (y .isItem) in
     (λ e. s .0 (sym l ∙ e ∙ r), λ e. l ∙ s .1 e ∙ sym r)
 
 -- the length that the display answers is the line's; the item's own buffers have room for its tree and its line
@@ -162,8 +162,8 @@ module _ (i : Lent) (t : Tree) (n : Token) (a : Accepted i t n) (out lineOut : L
       let j : Lent = lineBack i out lineOut in
       let k = known i t n a in
       let l = line-is i t n (k .isShown) in
-      let b = again (i .kind) (i .edition) (i .text) (i .at) t n (k .isItem) (omega (arith, k .lineFits)) in
-      let s : length (written (formOf (lineOf i) (b .tree)) (b .tree)) ≤ treeLength i = omega (arith, no-longer (i .text) (lineOf i) t (b .tree) (b .sameRecords) (omega (arith, ap length l, k .lineFits)), tree-length i t n (a .isRead)) in
+      let b = again (i .asks) t n (k .isItem) (omega (arith, k .lineFits)) in
+      let s : length (written (formOf (lineOf i) (b .tree)) (b .tree)) ≤ treeLength i = omega (arith, no-longer (i .asks .text) (lineOf i) t (b .tree) (b .sameRecords) (omega (arith, ap length l, k .lineFits)), tree-length i t n (a .isRead)) in
       let m : shown (b .tree) ≡ lineOf i = b .sameLine ∙ sym l in
       let v : length (shown (b .tree)) ≡ lineLength i = ap length m ∙ line-counted i t n a in
       let c = accept j (b .tree) (b .next) (rw l (b .isItem)) (build-spoiled t (b .tree) (sym (b .sameBuild)) .0 (k .isClean)) (omega (arith, s, g)) (omega (arith, v, h, k .lineFits, line-length i t n (k .isShown))) in
@@ -191,7 +191,7 @@ module _ (i : Lent) (t : Tree) (n : Token) (a : Accepted i t n) (out lineOut : L
       let m : shown (b .tree) ≡ lineOf i = sym (line-is j (b .tree) (b .next) d) ∙ b .sameLine in
       let v : length (shown (b .tree)) ≡ lineLength i = ap length m ∙ line-counted i t n a in
       record {
-        readNumberIs = ap (λ (x : Item). readNumber (answered (j .text) x)) r;
+        readNumberIs = ap (λ (x : Item). readNumber (answered (j .asks .text) x)) r;
         readValuesAre = read-values j (b .tree) (b .next) r ∙ ap (six (treeLength j)) (b .atEnd ∙ ap eofAt (line-counted i t n a));
         noLongerTree = b .noLongerTree;
         displayNumberIs = ap (λ (x : Item). displayNumber (displayed x)) d;
@@ -216,7 +216,7 @@ unfolding displayed displayNumber among
 shown-item (item t n) h e = tt
 shown-item (refused r) h e = never-0 ⊥ displayRefusals (r .number) refl e (h r refl)
 
-pub accepted-by-numbers : (i : Lent) → readNumber (answered (i .text) (readOf i)) ≡ 0 → displayNumber (displayed (displayOf i)) ≡ 0 → (t : Tree) × (n : Token) × Accepted i t n
+pub accepted-by-numbers : (i : Lent) → readNumber (answered (i .asks .text) (readOf i)) ≡ 0 → displayNumber (displayed (displayOf i)) ≡ 0 → (t : Tree) × (n : Token) × Accepted i t n
 accepted-by-numbers i g h =
-    let r = read-item (i .text) (readOf i) (read-refusals (i .kind) (i .edition) (i .text) (i .at) (length (i .forTree))) g in
-    (r .0, r .1, record { isRead = r .2; isShown = shown-item (displayOf i) (display-refusals (i .kind) (i .edition) (i .text) (i .at) (length (i .forLine))) h })
+    let r = read-item (i .asks .text) (readOf i) (read-refusals (i .asks) (length (i .forTree))) g in
+    (r .0, r .1, record { isRead = r .2; isShown = shown-item (displayOf i) (display-refusals (i .asks) (length (i .forLine))) h })

@@ -2,7 +2,7 @@
 use mathlib.Core.Path.{_≡_, refl, subst, sym, ap, ap₂, _∙_}
 use mathlib.Core.Bool.{Bool, true, false, not, _&&_, _||_}
 use mathlib.Core.List.{List, [], _∷_, _++_, append-assoc}
-use Prim.Native.Nat.{ℕ, zero, suc}
+use Prim.Native.Nat.{ℕ, suc}
 use lib.Dec.{eqb}
 use Rattle.classes.specs.Bytes.{bytes}
 use Rattle.classes.specs.Class.{inRange, isDigit, isLetter, isName}
@@ -11,7 +11,7 @@ use Rattle.words.specs.Kinds.{NumValue, Identifier, Amp, AmpMut, LParen, RParen
 use Rattle.records.specs.Kinds.{RecType, RecRef, RecRefMut, RecFunction, RecUnit, RecTuple, RecBrackets}
 use Rattle.records.specs.Tree.{Tree, node, Trees, none, more, behind, Build, spelled, made, Builds, bnone, bmore, build, builds}
 use Rattle.sources.specs.Source.{Source, Token, after, lex}
-use Rattle.answers.specs.Reading.{when, listBehind}
+use Rattle.answers.specs.Reading.{when}
 use Rattle.grammar.specs.Names.{isFirst}
 use Rattle.grammar.specs.Types.{bracketed, brackets, reference, function, withArguments, named, typeOver, readType}
 use Rattle.forms.specs.Line.{isField, isType, kindOfBuild, shown, line}
@@ -19,11 +19,11 @@ use Rattle.forms.specs.Forms.{FormLine, head, markIn, laid, headed, laidItems, 
 use Rattle.forms.proofs.Constructs.{laid-ref, laid-ref-mut, laid-unit, laid-brackets, laid-tuple, laid-type, laid-function}
 use Rattle.roundtrip.specs.Arguments.{isFunction, NoneBare, Bracketed, BracketedAll}
 use Rattle.roundtrip.proofs.Words.{Stops, stops-less, differs}
-use Rattle.roundtrip.proofs.Tokens.{Met, met-map, Editions, Rest, Near, at-once, blank, Good}
-use Rattle.roundtrip.proofs.Answers.{Gives, gives, gives-then, gives-look, gives-true, gives-false, Every, map-every, then-every, look-every, when-every}
+use Rattle.roundtrip.proofs.Tokens.{Met, met-map, Editions, Rest, Near, at-once, blank}
+use Rattle.roundtrip.proofs.Answers.{Gives, gives, gives-then, gives-look, gives-true, gives-false}
 use Rattle.roundtrip.proofs.Marks.{widens, isBar, lparen, rparen, amp, amp-mut, less, bar, Ends, ends}
-use Rattle.roundtrip.proofs.Lists.{All, all-map, rest, join, join-listed, Same, SameAll, structs, Reads, Opens, Begins, opened, Closed, closed-mark, closed-greater, list-reads, behind-sure}
-use Rattle.roundtrip.proofs.Names.{isColons, clashes, Chain, chain-sure}
+use Rattle.roundtrip.proofs.Lists.{All, all-map, rest, join, join-listed, Same, SameAll, structs, Reads, Opens, Begins, opened, Closed, closed-mark, closed-greater, list-reads}
+use Rattle.roundtrip.proofs.Names.{isColons, clashes, Chain}
 
 -- trees put together
 bbehind : Builds → Build → Builds
@@ -38,12 +38,12 @@ builds-behind (more u ts) t = ap (bmore (build u)) (builds-behind ts t)
 behind-same : (xs ts : Trees) (x t : Tree) → SameAll ts xs → Same t x → builds (behind xs x) ≡ builds (behind ts t)
 behind-same xs ts x t e g = builds-behind xs x ∙ ap₂ bbehind e g ∙ sym (builds-behind ts t)
 
-grouped : Builds → Build
+pub grouped : Builds → Build
 grouped bnone = spelled RecUnit []
 grouped (bmore b bnone) = made RecBrackets (bmore b bnone)
 grouped (bmore b (bmore c bs)) = made RecTuple (bmore b (bmore c bs))
 
-bracketed-build : (a : Token) (u : Source) (ts : Trees) → build (bracketed a u ts) ≡ grouped (builds ts)
+pub bracketed-build : (a : Token) (u : Source) (ts : Trees) → build (bracketed a u ts) ≡ grouped (builds ts)
 unfolding grouped bracketed build builds
 bracketed-build a u none = refl
 bracketed-build a u (more t none) = refl
@@ -90,10 +90,10 @@ abbrev pub firsts : ℕ → Bool
 firsts k = eqb k Identifier || eqb k NumValue
 
 -- the tokens that begin a type, a `|` only where it is a function type; and the bytes that no such line begins with
-abbrev beginsType : Bool → ℕ → Bool
+abbrev pub beginsType : Bool → ℕ → Bool
 beginsType v k = firsts k || (eqb k LParen || (eqb k Amp || (eqb k AmpMut || (eqb k Pipe && v))))
 
-abbrev typeClashes : Bool → ℕ → Bool
+abbrev pub typeClashes : Bool → ℕ → Bool
 typeClashes v b = widens b || (not v && isBar b)
 
 -- what stands behind a `|`
@@ -112,7 +112,7 @@ grouped-bracketed bnone a = tt
 grouped-bracketed (bmore b bnone) a = no-function RecBrackets _ refl a
 grouped-bracketed (bmore b (bmore c bs)) a = no-function RecTuple _ refl a
 
-grouped-kind : (bs : Builds) → (isFunction (grouped bs) ≡ false) × (isType (kindOfBuild (grouped bs)) ≡ true)
+pub grouped-kind : (bs : Builds) → (isFunction (grouped bs) ≡ false) × (isType (kindOfBuild (grouped bs)) ≡ true)
 unfolding grouped isType isField kindOfBuild
 grouped-kind bnone = (refl, refl)
 grouped-kind (bmore b bnone) = (refl, refl)
@@ -131,7 +131,7 @@ module _ (es : Editions) where
     pub bracketed : Bracketed (build t)
 
   -- an argument of a function type is none itself, as it stands
-  abbrev Argument : ℕ → Tree → Type 0
+  abbrev pub Argument : ℕ → Tree → Type 0
   Argument n t = Typed n t × (isFunction (build t) ≡ false)
 
   -- the items of a list of types
@@ -200,7 +200,7 @@ module _ (es : Editions) where
         let no : (k : ℕ) → firsts k ≡ false → eqb (b .kind) k ≡ false = λ k e. differs firsts k (b .kind) e f in
         gives-false _ _ _ (no LParen refl) (gives-false _ _ _ (no Amp refl) (gives-false _ _ _ (no AmpMut refl) (gives-false _ _ _ (no Pipe refl) h)))
 
-    type-back : (s e : ℕ) (c : Tree) (ts : Trees) → Chain es c → All (Typed n) ts → Typed (suc n) (node RecType s e (more c ts))
+    pub type-back : (s e : ℕ) (c : Tree) (ts : Trees) → Chain es c → All (Typed n) ts → Typed (suc n) (node RecType s e (more c ts))
     unfolding readType named build builds isType isField kindOfBuild BracketedAll
     type-back s e c ts h a = record {
       starts = λ z. rw (type-line s e c ts z) (h .starts (angled ts z));
@@ -210,7 +210,7 @@ module _ (es : Editions) where
           (h .reads u (angled ts z) (subst (Near es u) (type-line s e c ts z) d) (angled-ends ts z a g));
     }
 
-    group-back : (b : Token) (v : Source) (ts : Trees) → All (Typed n) ts → Typed (suc n) (bracketed b v ts)
+    pub group-back : (b : Token) (v : Source) (ts : Trees) → All (Typed n) ts → Typed (suc n) (bracketed b v ts)
     unfolding readType typeOver brackets
     group-back b v ts a = record {
       starts = λ z. rw (group-line b v ts z, bracketed-build b v ts, grouped-kind (builds ts) .0) refl;
@@ -241,19 +241,19 @@ module _ (es : Editions) where
       )) (w u (shown t ++ z) (subst (Near es u) (l z) d));
     }
 
-    ref-back : (s e : ℕ) (t : Tree) → Typed n t → Typed (suc n) (node RecRef s e (more t none))
+    pub ref-back : (s e : ℕ) (t : Tree) → Typed n t → Typed (suc n) (node RecRef s e (more t none))
     unfolding typeOver when laid headed head markIn isType isField
     ref-back s e t h =
         reference-back RecRef Amp s e t h (bytes "& ") (λ z. ap (λ (x : List ℕ). x ++ z) (laid-ref FormLine s e t)) (λ z. refl) refl refl refl (λ a i. rw i) λ u z d.
         met-map (λ a i. (i .kind, blank (i .goes))) (amp es u (32 ∷ z) d (z, refl))
 
-    mut-back : (s e : ℕ) (t : Tree) → Typed n t → Typed (suc n) (node RecRefMut s e (more t none))
+    pub mut-back : (s e : ℕ) (t : Tree) → Typed n t → Typed (suc n) (node RecRefMut s e (more t none))
     unfolding typeOver when laid headed head markIn isType isField
     mut-back s e t h =
         reference-back RecRefMut AmpMut s e t h (bytes "&mut ") (λ z. ap (λ (x : List ℕ). x ++ z) (laid-ref-mut FormLine s e t)) (λ z. refl) refl refl refl (λ a i. rw i) λ u z d.
         met-map (λ a i. (i .kind, at-once (i .goes))) (amp-mut es u z d tt)
 
-    function-back : (s e : ℕ) (ts : Trees) (t : Tree) → All (Argument n) ts → Typed n t → Typed (suc n) (node RecFunction s e (behind ts t))
+    pub function-back : (s e : ℕ) (ts : Trees) (t : Tree) → All (Argument n) ts → Typed n t → Typed (suc n) (node RecFunction s e (behind ts t))
     unfolding readType typeOver function build isType isField kindOfBuild Bracketed
     function-back s e ts t a h = record {
       starts = λ z. rw (function-line s e ts t z) refl;
@@ -267,38 +267,3 @@ module _ (es : Editions) where
       ))
           (bar es u (inner ts (124 ∷ 32 ∷ (shown t ++ z))) (subst (Near es u) (function-line s e ts t z) d) (bar-opens (Argument n) (λ t d. rw (d .1) at (d .0 .starts)) ts (124 ∷ 32 ∷ (shown t ++ z)) a));
     }
-
-  -- what reading from the token a with n levels left is sure of
-  abbrev Sure : ℕ → Token → Tree → Type 0
-  Sure n a t = Typed n t × (eqb (a .kind) Pipe ≡ false → isFunction (build t) ≡ false)
-
-  module _ (n : ℕ) (ih : (a : Token) → Good es a → Every es (Sure n a) (readType n a)) where
-    typed-sure : (a : Token) → Good es a → Every es (Typed n) (readType n a)
-    typed-sure a g = map-every es (Sure n a) (Typed n) (readType n a) (λ t h. h .0) (ih a g)
-
-    types-sure : (close : ℕ) (o : Token) → Good es o → Every es (All (Typed n)) (listBehind (readType n) close o)
-    types-sure close o e = behind-sure es (readType n) close o (Typed n) (λ a g _. typed-sure a g) (e .0)
-
-    arguments-sure : (o : Token) → Good es o → Every es (All (Argument n)) (listBehind (readType n) Pipe o)
-    arguments-sure o e = behind-sure es (readType n) Pipe o (Argument n) (λ a g x. map-every es (Sure n a) (Argument n) (readType n a) (λ t h. (h .0, h .1 x)) (ih a g)) (e .0)
-
-    over-sure : (a : Token) → Good es a → Every es (Sure (suc n) a) (typeOver (readType n) a)
-    unfolding typeOver brackets reference function named withArguments build kindOfBuild
-    over-sure a g =
-        when-every es _ _ _ _ (λ _. then-every es (All (Typed n)) _ _ _ (types-sure RParen a g) λ ts u e h. (e, (group-back n a u ts h, λ _. rw (bracketed-build a u ts) (grouped-kind (builds ts) .0)))) λ _.
-        when-every es _ _ _ _ (λ _. look-every es _ (after a) (g .0) _ λ b i. then-every es (Typed n) _ _ _ (typed-sure b i) λ t u e h. (e, (ref-back n _ _ t h, λ _. refl))) λ _.
-        when-every es _ _ _ _ (λ _. look-every es _ (after a) (g .0) _ λ b i. then-every es (Typed n) _ _ _ (typed-sure b i) λ t u e h. (e, (mut-back n _ _ t h, λ _. refl))) λ _.
-        when-every es _ _ _ _
-        (λ c. then-every es (All (Argument n)) _ _ _ (arguments-sure a g) λ ts u e h. look-every es _ u e _ λ b i. then-every es (Typed n) _ _ _ (typed-sure b i) λ t v q j.
-        (q, (function-back n _ _ ts t h j, λ x. false-true _ (sym x ∙ c)))) λ _.
-        then-every es (Chain es) _ _ _ (chain-sure es a g) λ c u e h. look-every es _ u e _ λ o k.
-        when-every es _ _ _ _ (λ _. then-every es (All (Typed n)) _ _ _ (types-sure Greater o k) λ ts v q j. (q, (type-back n _ _ c ts h j, λ _. refl))) λ _.
-        (e, (type-back n _ _ c none h tt, λ _. refl))
-
-  both-sure : (n : ℕ) (a : Token) → Good es a → Every es (Sure n a) (readType n a)
-  unfolding readType
-  both-sure zero a g = tt
-  both-sure (suc n) a g = over-sure n (both-sure n) a g
-
-  pub type-sure : (n : ℕ) (a : Token) → Good es a → Every es (Typed n) (readType n a)
-  type-sure n = typed-sure n (both-sure n)

@@ -8,25 +8,22 @@ use Rattle.tokens.specs.Answers.{token}
 use Rattle.tokens.specs.declared.Token.{Token as Answer}
 use Rattle.records.specs.Tree.{Tree, build}
 use Rattle.sources.specs.Source.{Token, tokenOf}
-use Rattle.grammar.specs.Items.{Item, item, refused}
+use Rattle.grammar.specs.Items.{Item, item, refused, Asked, ofText}
 use Rattle.forms.specs.Forms.{written, formOf}
 use Rattle.calls.specs.Calls.{read, readBuffer, answered, readNumber, readValues, display, displayBuffer, displayed, displayNumber, displayValues}
 
--- an item is a text, a start offset, an item kind and an edition; with it come the buffers lent to its read and to its display
+-- an item is what is asked: an item kind, an edition, a text and a start offset; with it come the buffers lent to its read and to its display
 pub record Lent : Type 0 where
-  pub text : List ℕ
-  pub at : ℕ
-  pub kind : ℕ
-  pub edition : ℕ
+  pub asks : Asked
   pub forTree : List ℕ
   pub forLine : List ℕ
 
 -- the answers of its read and of its display
 abbrev pub readOf : Lent → Item
-readOf i = read (i .kind) (i .edition) (i .text) (i .at) (length (i .forTree))
+readOf i = read (i .asks) (length (i .forTree))
 
 abbrev pub displayOf : Lent → Item
-displayOf i = display (i .kind) (i .edition) (i .text) (i .at) (length (i .forLine))
+displayOf i = display (i .asks) (length (i .forLine))
 
 -- an answer that is no refusal
 abbrev pub NotRefused : Item → Type 0
@@ -41,19 +38,19 @@ pub record Accepted (i : Lent) (t : Tree) (n : Token) : Type 0 where
 
 -- the stored length that its read answers, and the line's length that its display answers
 abbrev pub treeLength : Lent → ℕ
-treeLength i = getD (readValues (answered (i .text) (readOf i))) 0 0
+treeLength i = getD (readValues (answered (i .asks .text) (readOf i))) 0 0
 
 abbrev pub lineLength : Lent → ℕ
 lineLength i = getD (displayValues (displayed (displayOf i))) 0 0
 
 -- its line is the bytes that the display writes: so many of its buffer, from the first on
 abbrev pub lineOf : Lent → List ℕ
-lineOf i = take (lineLength i) (displayBuffer (i .kind) (i .edition) (i .text) (i .at) (i .forLine))
+lineOf i = take (lineLength i) (displayBuffer (i .asks) (i .forLine))
 
 -- reading a line back means that the line alone is the text, the offset 0, and the item kind and the edition the same; two buffers are
 -- lent for it
 abbrev pub lineBack : Lent → List ℕ → List ℕ → Lent
-lineBack i out lineOut = record { text = lineOf i; at = 0; kind = i .kind; edition = i .edition; forTree = out; forLine = lineOut }
+lineBack i out lineOut = record { asks = ofText (lineOf i) (i .asks); forTree = out; forLine = lineOut }
 
 -- EOF at (n,n)
 abbrev pub eofAt : ℕ → Answer
@@ -68,7 +65,7 @@ pub record ReadBack (i : Lent) (t : Tree) (j : Lent) : Type 0 where
   pub accepted : Accepted j tree next
   pub atEnd : tokenOf next ≡ eofAt (length (lineOf i))
   pub sameBuild : build tree ≡ build t
-  pub treeWritten : readBuffer (j .kind) (j .edition) (j .text) (j .at) (j .forTree) ≡ written (formOf (j .text) tree) tree ++ drop (treeLength j) (j .forTree)
+  pub treeWritten : readBuffer (j .asks) (j .forTree) ≡ written (formOf (j .asks .text) tree) tree ++ drop (treeLength j) (j .forTree)
   pub sameLine : lineOf j ≡ lineOf i
   pub noLongerTree : treeLength j ≤ treeLength i
   pub sameLineLength : lineLength j ≡ lineLength i
@@ -76,9 +73,9 @@ pub record ReadBack (i : Lent) (t : Tree) (j : Lent) : Type 0 where
 -- the same as the calls answer it: numbers 0, a tree's length that is at most that of i, the line's length of i, EOF at (n,n), and the line
 -- in front of the buffer, whose other bytes stay
 pub record AnsweredBack (i j : Lent) : Type 0 where
-  pub readNumberIs : readNumber (answered (j .text) (readOf j)) ≡ 0
-  pub readValuesAre : readValues (answered (j .text) (readOf j)) ≡ treeLength j ∷ EOF ∷ lineLength i ∷ lineLength i ∷ 0 ∷ 0 ∷ []
+  pub readNumberIs : readNumber (answered (j .asks .text) (readOf j)) ≡ 0
+  pub readValuesAre : readValues (answered (j .asks .text) (readOf j)) ≡ treeLength j ∷ EOF ∷ lineLength i ∷ lineLength i ∷ 0 ∷ 0 ∷ []
   pub noLongerTree : treeLength j ≤ treeLength i
   pub displayNumberIs : displayNumber (displayed (displayOf j)) ≡ 0
   pub displayValuesAre : displayValues (displayed (displayOf j)) ≡ lineLength i ∷ 0 ∷ 0 ∷ 0 ∷ 0 ∷ 0 ∷ []
-  pub displayWrites : displayBuffer (j .kind) (j .edition) (j .text) (j .at) (j .forLine) ≡ lineOf i ++ drop (lineLength i) (j .forLine)
+  pub displayWrites : displayBuffer (j .asks) (j .forLine) ≡ lineOf i ++ drop (lineLength i) (j .forLine)

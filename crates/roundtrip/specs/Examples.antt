@@ -7,6 +7,7 @@ use lib.ListN.{length}
 use Rattle.classes.specs.Bytes.{bytes}
 use Rattle.tokens.specs.Answers.{tokenNumber, tokenValues}
 use Rattle.tokens.specs.Calls.{tokenCall}
+use Rattle.grammar.specs.Items.{asked}
 use Rattle.forms.specs.Forms.{treeRoom}
 use Rattle.calls.specs.Calls.{read as readCall, readBuffer, answered, readNumber, readValues, display as displayCall, displayBuffer, displayed, displayNumber, displayValues}
 
@@ -34,10 +35,10 @@ expected (noLine p k t m n v) = record { number = n; values = v }
 
 unfoldable pub given : Example → Result
 given (token p t n v) = record { number = tokenNumber (tokenCall 1 t 0 .lexed); values = tokenValues (tokenCall 1 t 0 .lexed) (tokenCall 1 t 0 .feed) }
-given (read p k t n v) = record { number = readNumber (answered t (readCall k 1 t 0 (treeRoom (length t)))); values = readValues (answered t (readCall k 1 t 0 (treeRoom (length t)))) }
-given (tree p k t v) = record { number = readNumber (answered t (readCall k 1 t 0 (length v))); values = readBuffer k 1 t 0 (map (λ b. 255) v) }
-given (line p k t v) = record { number = displayNumber (displayed (displayCall k 1 t 0 (length v))); values = displayBuffer k 1 t 0 (map (λ b. 255) v) }
-given (noLine p k t m n v) = record { number = displayNumber (displayed (displayCall k 1 t 0 m)); values = displayValues (displayed (displayCall k 1 t 0 m)) }
+given (read p k t n v) = record { number = readNumber (answered t (readCall (asked k 1 t 0) (treeRoom (length t)))); values = readValues (answered t (readCall (asked k 1 t 0) (treeRoom (length t)))) }
+given (tree p k t v) = record { number = readNumber (answered t (readCall (asked k 1 t 0) (length v))); values = readBuffer (asked k 1 t 0) (map (λ b. 255) v) }
+given (line p k t v) = record { number = displayNumber (displayed (displayCall (asked k 1 t 0) (length v))); values = displayBuffer (asked k 1 t 0) (map (λ b. 255) v) }
+given (noLine p k t m n v) = record { number = displayNumber (displayed (displayCall (asked k 1 t 0) m)); values = displayValues (displayed (displayCall (asked k 1 t 0) m)) }
 
 -- six values of which the last two are 0, as in every answer here
 abbrev pub six : ℕ → ℕ → ℕ → ℕ → List ℕ

@@ -9,7 +9,7 @@ use lib.Seq.{drop-drop}
 use Rattle.words.specs.Kinds.{EOF, GreaterGreater}
 use Rattle.tokens.specs.Token.{Scanned as Lexing, tok as found, bad as faulty, lex as lexFrom}
 use Rattle.tokens.specs.declared.Place.{Place}
-use Rattle.tokens.specs.Calls.{admitted, lexed, nextToken}
+use Rattle.tokens.specs.Calls.{placeFault, unless, lexed, nextToken}
 use Rattle.tokens.specs.declared.Lexed.the-variants.{Refused}
 use Rattle.tokens.proofs.Lexing as lexing
 use Rattle.tokens.proofs.Spelled.{markKind, spelling, SpeltToken, lex-spelt, shift-split}
@@ -141,6 +141,6 @@ module _ (u : Source) where
       go (faulty r) h = refl
 
 -- the next token, over the source
-pub next-token-same : (ed : ℕ) (text : List ℕ) (at : ℕ) → nextToken ed text at ≡ admitted Refused text at (answerOf (lex (opened ed text at)))
+pub next-token-same : (ed : ℕ) (text : List ℕ) (at : ℕ) → nextToken ed text at ≡ unless Refused (placeFault text at) (answerOf (lex (opened ed text at)))
 unfolding nextToken
-next-token-same ed text at = ap (admitted Refused text at) (sym (answer-same (opened ed text at)))
+next-token-same ed text at = ap (unless Refused (placeFault text at)) (sym (answer-same (opened ed text at)))

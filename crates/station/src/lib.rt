@@ -5,6 +5,7 @@ ghost use mathlib.Core.Bool.{cond};
 ghost use Rattle.tokens.specs.Answers.{places, tokenNumber, tokenValues, commentNumber, commentValues};
 ghost use Rattle.tokens.specs.Calls.{tokenCall, nextComment};
 ghost use lib.ListN.{length};
+ghost use Rattle.grammar.specs.Items.{asked};
 ghost use Rattle.calls.specs.Calls.{answered, readNumber, readValues, read, readBuffer, displayed, displayNumber, displayValues, display, displayBuffer};
 use calls::Answer;
 use calls::Displayed;
@@ -107,9 +108,9 @@ pub extern "C" fn movesig_read(
     out: &mut [u8],
     answer: &mut [u64; 6],
 ) -> u32
-    ensures number { λ r. ⌜ r ≡ readNumber (answered (now (text .entry)) (read kind edition (now (text .entry)) at (length (now (out .entry))))) ⌝ }
-    ensures values { λ r. ⌜ now (answer .exit) ≡ readValues (answered (now (text .entry)) (read kind edition (now (text .entry)) at (length (now (out .entry))))) ⌝ }
-    ensures buffer { λ r. ⌜ now (out .exit) ≡ readBuffer kind edition (now (text .entry)) at (now (out .entry)) ⌝ }
+    ensures number { λ r. ⌜ r ≡ readNumber (answered (now (text .entry)) (read (asked kind edition (now (text .entry)) at) (length (now (out .entry))))) ⌝ }
+    ensures values { λ r. ⌜ now (answer .exit) ≡ readValues (answered (now (text .entry)) (read (asked kind edition (now (text .entry)) at) (length (now (out .entry))))) ⌝ }
+    ensures buffer { λ r. ⌜ now (out .exit) ≡ readBuffer (asked kind edition (now (text .entry)) at) (now (out .entry)) ⌝ }
 {
     let a = calls::read(kind, edition, text, at, out);
     match a {
@@ -134,9 +135,9 @@ pub extern "C" fn movesig_display(
     line: &mut [u8],
     answer: &mut [u64; 6],
 ) -> u32
-    ensures number { λ r. ⌜ r ≡ displayNumber (displayed (display kind edition (now (text .entry)) at (length (now (line .entry))))) ⌝ }
-    ensures values { λ r. ⌜ now (answer .exit) ≡ displayValues (displayed (display kind edition (now (text .entry)) at (length (now (line .entry))))) ⌝ }
-    ensures buffer { λ r. ⌜ now (line .exit) ≡ displayBuffer kind edition (now (text .entry)) at (now (line .entry)) ⌝ }
+    ensures number { λ r. ⌜ r ≡ displayNumber (displayed (display (asked kind edition (now (text .entry)) at) (length (now (line .entry))))) ⌝ }
+    ensures values { λ r. ⌜ now (answer .exit) ≡ displayValues (displayed (display (asked kind edition (now (text .entry)) at) (length (now (line .entry))))) ⌝ }
+    ensures buffer { λ r. ⌜ now (line .exit) ≡ displayBuffer (asked kind edition (now (text .entry)) at) (now (line .entry)) ⌝ }
 {
     let d = calls::display(kind, edition, text, at, line);
     match d {

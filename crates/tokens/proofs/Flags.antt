@@ -1,6 +1,6 @@
 -- The token call's answer, by what the code found: the flag is that of the bytes before the token.
 use mathlib.Core.Path.{_≡_, refl, sym, _∙_}
-use mathlib.Core.Bool.{Bool, false, _||_}
+use mathlib.Core.Bool.{Bool, _||_}
 use mathlib.Core.List.{List}
 use Prim.Native.Nat.{ℕ, _≤_}
 use native.Mathlib.Omega.{arith}
@@ -15,15 +15,15 @@ use Rattle.gap.specs.declared.GapEnd.the-variants.{Clear}
 use Rattle.gap.proofs.Gaps.{Ended, gap-ended}
 use Rattle.gap.proofs.LineFeeds.{feed-past}
 use Rattle.tokens.specs.Token.{Front, front, fault}
-use Rattle.tokens.specs.Calls.{nextToken, lineFeedBefore, advanced}
+use Rattle.tokens.specs.Calls.{nextToken, lineFeedBefore, advanced, refusedCall}
 use Rattle.tokens.specs.code.Found.{lexedAt, flagged}
 use Rattle.tokens.specs.declared.Refusal.{Refusal}
 use Rattle.tokens.specs.declared.Lexed.{Lexed}
 use Rattle.tokens.specs.declared.Lexed.the-variants.{Refused}
 
 module _ (ed : ℕ) (text : List ℕ) (at : ℕ) where
-  pub advanced-refused : (r : Refusal) → Refused r ≡ nextToken ed text at → flagged (Refused r) false ≡ advanced ed text at
-  unfolding advanced flagged lineFeedBefore
+  pub advanced-refused : (r : Refusal) → Refused r ≡ nextToken ed text at → refusedCall r ≡ advanced ed text at
+  unfolding advanced lineFeedBefore
   advanced-refused r e = rw (← e)
 
   -- a token that stands at k

@@ -1,6 +1,7 @@
 pub mod Digits
 pub mod Fronts
 pub mod Lexing
+pub mod Faults
 pub mod Steps
 pub mod Flags
 pub mod Walks

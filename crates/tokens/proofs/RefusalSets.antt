@@ -17,17 +17,16 @@ use Rattle.words.specs.Search.{markOf, suffixLen}
 use Rattle.words.specs.Quote.{quoteFrom}
 use Rattle.words.specs.declared.Quote.{Quote}
 use Rattle.words.specs.declared.Quote.the-variants.{Found as Closing, Missing}
-use Rattle.tokens.specs.Refusals.{TextTooLong, StartPastEnd, NoSuchEdition, StringNotAscii, NoToken, among, lexRefusals, tokenRefusals, commentRefusals}
+use Rattle.tokens.specs.Refusals.{StringNotAscii, NoToken, among, lexRefusals, tokenRefusals, commentRefusals}
 use Rattle.tokens.specs.Token.{Front, front, fault, typed, decimal, hexTyped, hexLen, hexNumber, number, stringBy, string, opensString, stringRefusal, name, word, mark, findToken, Scanned, tok, bad, placed, behindGap, lex}
-use Rattle.tokens.specs.Answers.{refusal}
-use Rattle.tokens.specs.Calls.{textLimit, admitted, lexed, nextToken, advanced, noEdition, admittedIn, refusedCall, tokenCall, commentOf, nextComment}
+use Rattle.tokens.specs.Calls.{textLimit, placeFault, callFault, lexed, nextToken, advanced, refusedCall, tokenCall, commentOf, nextComment}
 use Rattle.tokens.specs.declared.Refusal.{Refusal}
 use Rattle.tokens.specs.declared.Advanced.{Advanced}
 use Rattle.tokens.specs.declared.Lexed.{Lexed}
 use Rattle.tokens.specs.declared.Lexed.the-variants.{Found, Refused}
 use Rattle.tokens.specs.declared.DocComment.{DocComment}
 use Rattle.tokens.specs.declared.DocComment.the-variants.{Doc, Nothing, Broken}
-use Rattle.tokens.proofs.Again.{admitted-in}
+use Rattle.tokens.proofs.Faults.{place-each, call-each, unless-sure, admits}
 
 -- every number of one set is one of another: of two sets that are written out, `refl` says so
 unfoldable pub subset : List ℕ → List ℕ → Bool
@@ -102,27 +101,6 @@ module _ (ed : ℕ) where
   unfolding lex
   lex-met p s = gap-met (gap 0 p s .last)
 
--- a fact of refusals 1 and 2 and of what the text has
-admitted-met : {A : Type 0} (P : A → Type 0) (refuse : Refusal → A) (text : List ℕ) (at : ℕ) (a : A)
-    → P (refuse (refusal TextTooLong 0 0)) → P (refuse (refusal StartPastEnd 0 0)) → P a → P (admitted refuse text at a)
-unfolding admitted
-admitted-met P refuse text at a f g h = go (ltb textLimit (length text)) (ltb (length text) at)
-  where
-    go : (b c : Bool) → P (cond b (refuse (refusal TextTooLong 0 0)) (cond c (refuse (refusal StartPastEnd 0 0)) a))
-    go true c = f
-    go false true = g
-    go false false = h
-
--- and of 19
-admitted-in-met : {A : Type 0} (P : A → Type 0) (refuse : Refusal → A) (ed : ℕ) (text : List ℕ) (at : ℕ) (a : A)
-    → P (refuse (refusal TextTooLong 0 0)) → P (refuse (refusal StartPastEnd 0 0)) → P (refuse (refusal NoSuchEdition 0 0)) → P a → P (admittedIn refuse ed text at a)
-unfolding admittedIn
-admitted-in-met P refuse ed text at a f g i h = admitted-met P refuse text at _ f g (go (noEdition ed))
-  where
-    go : (b : Bool) → P (cond b (refuse (refusal NoSuchEdition 0 0)) a)
-    go true = i
-    go false = h
-
 abbrev TokenMet : List ℕ → Lexed → Type 0
 TokenMet set (Found t) = Unit {0}
 TokenMet set (Refused r) = among set (r .number) ≡ true
@@ -146,21 +124,21 @@ comment-met (BrokenFirst o q) = refl
 next-met : (ed : ℕ) (text : List ℕ) (at : ℕ) → TokenMet tokenRefusals (nextToken ed text at)
 unfolding nextToken subset among
 next-met ed text at =
-    admitted-met (TokenMet tokenRefusals) Refused text at _ refl refl (lexed-met tokenRefusals refl (lex ed at (drop at text)) (lex-met ed at (drop at text)))
+    unless-sure Refused (TokenMet tokenRefusals) (placeFault text at) _ (place-each _ text at refl refl) (λ _. lexed-met tokenRefusals refl (lex ed at (drop at text)) (lex-met ed at (drop at text)))
 
 -- a token call is refused with 1, 2, 19 or 5 to 9
 pub token-refusals : (ed : ℕ) (text : List ℕ) (at : ℕ) (r : Refusal) → tokenCall ed text at .lexed ≡ Refused r → among tokenRefusals (r .number) ≡ true
 unfolding tokenCall advanced among
 token-refusals ed text at r e =
-    subst (TokenMet tokenRefusals) e (admitted-in-met (λ (a : Advanced). TokenMet tokenRefusals (a .lexed)) refusedCall ed text at _ refl refl refl (next-met ed text at))
+    subst (TokenMet tokenRefusals) e (unless-sure refusedCall (λ (a : Advanced). TokenMet tokenRefusals (a .lexed)) (callFault ed text at) _ (call-each _ ed text at refl refl refl) (λ _. next-met ed text at))
 
 -- and with 5 to 9 where the caller is not to blame
 pub token-text-refusals : (ed : ℕ) (text : List ℕ) (at : ℕ) → length text ≤ textLimit → at ≤ length text → (r : Refusal) → nextToken ed text at ≡ Refused r → among lexRefusals (r .number) ≡ true
 unfolding nextToken subset among
 token-text-refusals ed text at h g r e =
-    subst (TokenMet lexRefusals) (sym (admitted-in Refused text at (lexed (lex ed at (drop at text))) h g) ∙ e) (lexed-met lexRefusals refl (lex ed at (drop at text)) (lex-met ed at (drop at text)))
+    subst (TokenMet lexRefusals) (sym (admits text at Refused (lexed (lex ed at (drop at text))) h g) ∙ e) (lexed-met lexRefusals refl (lex ed at (drop at text)) (lex-met ed at (drop at text)))
 
 -- a comment call is refused with 1, 2, 19 or 6
 pub comment-refusals : (ed : ℕ) (text : List ℕ) (at : ℕ) (r : Refusal) → nextComment ed text at ≡ Broken r → among commentRefusals (r .number) ≡ true
 unfolding nextComment among
-comment-refusals ed text at r e = subst CommentMet e (admitted-in-met CommentMet Broken ed text at _ refl refl refl (comment-met (docOf (gap 0 at (drop at text)))))
+comment-refusals ed text at r e = subst CommentMet e (unless-sure Broken CommentMet (callFault ed text at) _ (call-each _ ed text at refl refl refl) (λ _. comment-met (docOf (gap 0 at (drop at text)))))

@@ -15,7 +15,7 @@ use Rattle.tokens.specs.Calls.{textLimit, lexed, nextToken, noEdition, c
 use Rattle.tokens.specs.Raise.{raiseScanned, raiseLexed, raiseDoc}
 use Rattle.tokens.specs.declared.Lexed.the-variants.{Refused}
 use Rattle.tokens.specs.declared.DocComment.the-variants.{Broken}
-use Rattle.tokens.proofs.Steps.{admits, admits-in}
+use Rattle.tokens.proofs.Faults.{admits, admits-in}
 
 module _ (ed k : ℕ) where
   placed-up : (p : ℕ) (s : List ℕ) (f : Front) → placed (k + p) s f ≡ raiseScanned k (placed p s f)
@@ -50,16 +50,16 @@ module _ (ed : ℕ) (text : List ℕ) (at : ℕ) (h : length text ≤ textLimit)
   pub token-from : nextToken ed text at ≡ raiseLexed at (nextToken ed (drop at text) 0)
   unfolding nextToken
   token-from =
-      sym (admits Refused text at (lexed (lex ed at (drop at text))) h g)
+      admits text at Refused (lexed (lex ed at (drop at text))) h g
       ∙ ap (λ (n : ℕ). lexed (lex ed n (drop at text))) (sym (add-zero at))
       ∙ ap lexed (lex-up ed at 0 (drop at text)) ∙ lexed-up ed at (lex ed 0 (drop at text))
-      ∙ ap (raiseLexed at) (admits Refused (drop at text) 0 (lexed (lex ed 0 (drop at text))) from-zero (omega arith))
+      ∙ ap (raiseLexed at) (sym (admits (drop at text) 0 Refused (lexed (lex ed 0 (drop at text))) from-zero (omega arith)))
 
   pub comment-from : noEdition ed ≡ false → nextComment ed text at ≡ raiseDoc at (nextComment ed (drop at text) 0)
   unfolding nextComment docOf
   comment-from q =
-      sym (admits-in Broken ed text at (commentOf (docOf (gap 0 at (drop at text)))) h g q)
+      admits-in text at Broken ed (commentOf (docOf (gap 0 at (drop at text)))) h g q
       ∙ ap (λ (n : ℕ). commentOf (docOf (gap 0 n (drop at text)))) (sym (add-zero at))
       ∙ ap (λ (x : Gap). commentOf (docOf x)) (gap-up at (drop at text) 0 0)
       ∙ doc-up ed at (gap 0 0 (drop at text) .docs) (gap 0 0 (drop at text) .last)
-      ∙ ap (raiseDoc at) (admits-in Broken ed (drop at text) 0 (commentOf (docOf (gap 0 0 (drop at text)))) from-zero (omega arith) q)
+      ∙ ap (raiseDoc at) (sym (admits-in (drop at text) 0 Broken ed (commentOf (docOf (gap 0 0 (drop at text)))) from-zero (omega arith) q))

@@ -15,7 +15,6 @@ use Rattle.classes.specs.Run.{runLen, runEnd}
 use Rattle.classes.proofs.Bools.{false-true, and-true, and-right}
 use Rattle.gap.specs.Gap.{End, clear, broken, Gap, gap, gapEndOf, docOf}
 use Rattle.gap.specs.declared.GapEnd.the-variants.{Clear, Broken}
-use Rattle.gap.specs.declared.FirstDoc.{FirstDoc}
 use Rattle.gap.proofs.Gaps.{Ended, gap-ended, gap-blanks}
 use Rattle.gap.proofs.Places.{front as front-at}
 use Rattle.words.specs.Search.{kindOf, markOf, suffixLen}
@@ -30,13 +29,16 @@ use Rattle.words.proofs.Quotes.{Within, within, quote-shift}
 use Rattle.words.proofs.Suffix.{suffix-short}
 use Rattle.tokens.specs.Answers.{refusal, token}
 use Rattle.tokens.specs.Token.{Front, front, fault, typed, moreDigits, moreHex, decimalLen, decimal, hexTyped, hexLen, hexNumber, number, stringBy, string, opensString, stringRefusal, name, word, mark, findToken, placed, behindGap, lex}
-use Rattle.tokens.specs.Calls.{textLimit, admitted, lexed, nextToken, lineFeedBefore, advanced, noEdition, admittedIn, refusedCall, tokenCall, commentOf, nextComment}
-use Rattle.tokens.specs.code.Found.{digitsEnd, editionRefusal, lexedAt, typedAt, flagged}
+use Rattle.tokens.specs.Calls.{textLimit, noEdition, faultIf, _orElse_, placeFault, callFault, unless, lexed, nextToken, lineFeedBefore, advanced, refusedCall, tokenCall, commentOf, nextComment}
+use Rattle.tokens.specs.code.Found.{digitsEnd, editionRefusal, lexedAt, typedAt}
 use Rattle.tokens.specs.declared.Refusal.{Refusal}
 use Rattle.tokens.specs.declared.Lexed.{Lexed}
+use Rattle.tokens.specs.declared.Fault.{Fault}
+use Rattle.tokens.specs.declared.Fault.the-variants.{Faultless, Faulty}
 use Rattle.tokens.specs.declared.Lexed.the-variants.{Found, Refused}
 use Rattle.tokens.specs.declared.DocComment.the-variants.{Broken as CommentBroken}
 use Rattle.tokens.proofs.Digits.{end-to}
+use Rattle.tokens.proofs.Faults.{unless-not, unless-faulty}
 
 -- numbers
 module _ (at e n : ℕ) where
@@ -222,20 +224,6 @@ module _ (ed : ℕ) (text : List ℕ) (at : ℕ) where
     unfolding findToken
     find-mark e f = rw (drop-cons text at 0 h, e, f)
 
--- the calls
-module _ {A : Type 0} (refuse : Refusal → A) (text : List ℕ) (at : ℕ) (a : A) where
-  pub too-long : textLimit < length text → refuse (refusal 1 0 0) ≡ admitted refuse text at a
-  unfolding admitted
-  too-long h = rw (lt-ltb textLimit (length text) h)
-
-  pub past-end : length text ≤ textLimit → length text < at → refuse (refusal 2 0 0) ≡ admitted refuse text at a
-  unfolding admitted
-  past-end h g = rw (le-ltb textLimit (length text) h, lt-ltb (length text) at g)
-
-  pub admits : length text ≤ textLimit → at ≤ length text → a ≡ admitted refuse text at a
-  unfolding admitted
-  admits h g = rw (le-ltb textLimit (length text) h, le-ltb (length text) at g)
-
 lexed-placed : (p : ℕ) (s : List ℕ) (f : Front) → lexed (placed p s f) ≡ lexedAt p f
 unfolding lexed placed lexedAt
 lexed-placed p s (front k n) = refl
@@ -263,58 +251,47 @@ module _ (ed : ℕ) (text : List ℕ) (at : ℕ) where
   broken-by o q (clear p u) g = let z : _≡_ {A = ℕ} 0 1 = cc in absurd (omega arith)
   broken-by o q (broken p r) g = let u : p ≡ o = cc in let v : r ≡ q = cc in rw (u, v)
 
-  module _ (i : ℕ) (q : i ≡ runEnd isSpace text at) (h : length text ≤ textLimit) (g : at ≤ length text) where
+  module _ (i : ℕ) (q : i ≡ runEnd isSpace text at) (h : placeFault text at ≡ Faultless) where
     pub next-clear : (k : ℕ) → gapEndOf (gap 0 i (drop i text) .last) ≡ Clear k → lexedAt k (findToken ed (drop k text)) ≡ nextToken ed text at
     unfolding nextToken lex
-    next-clear k e = clear-by k (gap 0 at (drop at text) .last) (gap-ended text (drop at text) 0 at refl) (same-end text at i q ∙ e) ∙ admits Refused text at _ h g
+    next-clear k e = clear-by k (gap 0 at (drop at text) .last) (gap-ended text (drop at text) 0 at refl) (same-end text at i q ∙ e) ∙ sym (unless-not Refused (placeFault text at) _ h)
 
     pub next-broken : (o p : ℕ) → gapEndOf (gap 0 i (drop i text) .last) ≡ Broken o p → Refused (refusal 6 o p) ≡ nextToken ed text at
     unfolding nextToken lex
-    next-broken o p e = broken-by o p (gap 0 at (drop at text) .last) (same-end text at i q ∙ e) ∙ admits Refused text at _ h g
+    next-broken o p e = broken-by o p (gap 0 at (drop at text) .last) (same-end text at i q ∙ e) ∙ sym (unless-not Refused (placeFault text at) _ h)
 
--- the calls, by the edition
-module _ {A : Type 0} (refuse : Refusal → A) (ed : ℕ) (text : List ℕ) (at : ℕ) (a : A) where
-  pub too-long-in : textLimit < length text → refuse (refusal 1 0 0) ≡ admittedIn refuse ed text at a
-  unfolding admittedIn
-  too-long-in h = too-long refuse text at _ h
-
-  pub past-end-in : length text ≤ textLimit → length text < at → refuse (refusal 2 0 0) ≡ admittedIn refuse ed text at a
-  unfolding admittedIn
-  past-end-in h g = past-end refuse text at _ h g
-
-  pub no-edition-in : length text ≤ textLimit → at ≤ length text → noEdition ed ≡ true → refuse (refusal 19 0 0) ≡ admittedIn refuse ed text at a
-  unfolding admittedIn
-  no-edition-in h g e = rw e (admits refuse text at (refuse (refusal 19 0 0)) h g)
-
-  pub admits-in : length text ≤ textLimit → at ≤ length text → noEdition ed ≡ false → a ≡ admittedIn refuse ed text at a
-  unfolding admittedIn
-  admits-in h g e = rw e (admits refuse text at a h g)
-
+-- the calls, by their faults
 module _ (ed : ℕ) (text : List ℕ) (at : ℕ) where
+  pub next-faulty : (r : Refusal) → placeFault text at ≡ Faulty r → Refused r ≡ nextToken ed text at
+  unfolding nextToken
+  next-faulty r e = sym (unless-faulty Refused (placeFault text at) _ r e)
+
   -- a call whose edition is none, by the number of its refusal
-  pub call-refused : noEdition ed ≡ true → (m : ℕ) → m ≡ editionRefusal text at → flagged (Refused (refusal m 0 0)) false ≡ tokenCall ed text at
-  unfolding editionRefusal flagged tokenCall admittedIn admitted
+  pub call-refused : noEdition ed ≡ true → (m : ℕ) → m ≡ editionRefusal text at → refusedCall (refusal m 0 0) ≡ tokenCall ed text at
+  unfolding editionRefusal tokenCall callFault placeFault _orElse_ unless
   call-refused e m h = rw (h, e) (go (ltb textLimit (length text)) (ltb (length text) at))
     where
-      go : (v w : Bool) → refusedCall (refusal (cond v 1 (cond w 2 19)) 0 0) ≡ cond v (refusedCall (refusal 1 0 0)) (cond w (refusedCall (refusal 2 0 0)) (refusedCall (refusal 19 0 0)))
+      go : (v w : Bool) → refusedCall (refusal (cond v 1 (cond w 2 19)) 0 0) ≡ unless refusedCall ((faultIf v 1 orElse faultIf w 2) orElse faultIf true 19) (advanced ed text at)
       go true w = refl
       go false true = refl
       go false false = refl
 
   -- a call in an edition: 1 and 2 are what the next token says too
-  pub call-known : noEdition ed ≡ false → tokenCall ed text at ≡ advanced ed text at
-  unfolding tokenCall admittedIn admitted advanced nextToken lineFeedBefore
-  call-known e = rw e (go (ltb textLimit (length text)) (ltb (length text) at))
+  pub call-known : noEdition ed ≡ false → advanced ed text at ≡ tokenCall ed text at
+  unfolding tokenCall callFault _orElse_ advanced nextToken lineFeedBefore unless
+  call-known e = rw e (go (placeFault text at))
     where
-      found : Bool → Bool → Lexed
-      found v w = cond v (Refused (refusal 1 0 0)) (cond w (Refused (refusal 2 0 0)) (lexed (lex ed at (drop at text))))
+      token : Fault → Lexed
+      token f = unless Refused f (lexed (lex ed at (drop at text)))
 
-      go : (v w : Bool) → cond v (refusedCall (refusal 1 0 0)) (cond w (refusedCall (refusal 2 0 0)) (record { lexed = found v w; feed = lineFeedBefore text at (found v w) })) ≡ record { lexed = found v w; feed = lineFeedBefore text at (found v w) }
-      go true w = refl
-      go false true = refl
-      go false false = refl
+      go : (f : Fault) → record { lexed = token f; feed = lineFeedBefore text at (token f) } ≡ unless refusedCall (f orElse faultIf false 19) (record { lexed = token f; feed = lineFeedBefore text at (token f) })
+      go Faultless = refl
+      go (Faulty r) = refl
 
-  module _ (h : length text ≤ textLimit) (g : at ≤ length text) (q : noEdition ed ≡ false) where
-    pub comment-of : (d : FirstDoc) → docOf (gap 0 at (drop at text)) ≡ d → commentOf d ≡ nextComment ed text at
-    unfolding nextComment
-    comment-of d e = rw e (admits-in CommentBroken ed text at (commentOf d) h g q)
+  pub comment-faulty : (r : Refusal) → callFault ed text at ≡ Faulty r → CommentBroken r ≡ nextComment ed text at
+  unfolding nextComment
+  comment-faulty r e = sym (unless-faulty CommentBroken (callFault ed text at) _ r e)
+
+  pub comment-faultless : callFault ed text at ≡ Faultless → commentOf (docOf (gap 0 at (drop at text))) ≡ nextComment ed text at
+  unfolding nextComment
+  comment-faultless e = sym (unless-not CommentBroken (callFault ed text at) _ e)

@@ -28,7 +28,8 @@ use Rattle.tokens.specs.Raise.{raiseLexed}
 use Rattle.tokens.specs.declared.Token.{Token}
 use Rattle.tokens.specs.declared.Lexed.{Lexed}
 use Rattle.tokens.specs.declared.Lexed.the-variants.{Found, Refused}
-use Rattle.tokens.proofs.Again.{admitted-in, found-fits}
+use Rattle.tokens.proofs.Faults.{admits}
+use Rattle.tokens.proofs.Again.{found-fits}
 use Rattle.tokens.proofs.Lexing.{Sound, lex-sound}
 use Rattle.tokens.proofs.Shift.{token-from}
 
@@ -265,7 +266,7 @@ unfolding nextToken lex
 tokens-hold-no-line-feed ed text at t h =
     let f = found-fits ed text at t h in
     whole-by text at t (lex ed at (drop at text)) (lex-sound ed text at (f .1)) (behind-whole ed (gap 0 at (drop at text) .last))
-    (sym (admitted-in Refused text at (lexed (lex ed at (drop at text))) (f .0) (f .1)) ∙ h)
+    (sym (admits text at Refused (lexed (lex ed at (drop at text))) (f .0) (f .1)) ∙ h)
 
 -- reading from an offset is reading the text from there on: the flag too
 flag-up : (text : List ℕ) (at : ℕ) (l : Lexed) → lineFeedBefore text at (raiseLexed at l) ≡ lineFeedBefore (drop at text) 0 l

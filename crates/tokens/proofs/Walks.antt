@@ -5,21 +5,23 @@ use mathlib.Core.List.{List, []}
 use Prim.Native.Nat.{ℕ, zero, suc, _+_, _-_, _<_, _≤_}
 use native.Mathlib.Omega.{arith}
 use native.Mathlib.Nat.{add-zero}
-use borrow.Author.Tests.{eq-eqb, ne-eqb, eqb-true, eqb-false, ltb-false}
-use lib.Dec.{eqb, ltb}
+use borrow.Author.Tests.{eq-eqb, ne-eqb, eqb-true, eqb-false}
+use lib.Dec.{eqb}
 use lib.ListN.{length, drop, drop-of-length-le, length-drop}
 use Rattle.gap.specs.Gap.{gap}
 use Rattle.words.specs.Kinds.{EOF}
 use Rattle.tokens.specs.Answers.{refusal, token}
 use Rattle.tokens.specs.Token.{findToken, Scanned, tok, bad, placed, behindGap, lex}
-use Rattle.tokens.specs.Calls.{textLimit, admitted, lexed, nextToken}
+use Rattle.tokens.specs.Calls.{textLimit, placeFault, unless, lexed, nextToken}
 use Rattle.tokens.specs.Walk.{Listed, eof, refused, next, listed, walk, tokensFrom, tokensAt, tokensOf, entries, Ends}
 use Rattle.tokens.specs.declared.Refusal.{Refusal}
 use Rattle.tokens.specs.declared.Token.{Token}
-use Rattle.tokens.specs.declared.Lexed.{Lexed}
+use Rattle.tokens.specs.declared.Fault.{Fault}
+use Rattle.tokens.specs.declared.Fault.the-variants.{Faultless, Faulty}
 use Rattle.tokens.specs.declared.Lexed.the-variants.{Found, Refused}
 use Rattle.tokens.proofs.Lexing.{Sound, lex-sound}
-use Rattle.tokens.proofs.Again.{admitted-in}
+use Rattle.tokens.proofs.Faults.{each-any, unless-sure, in-place, admits}
+use Rattle.tokens.proofs.Again.{found-fits}
 
 injective : {a b : Refusal} → Refused a ≡ Refused b → a ≡ b
 injective p = cc
@@ -65,21 +67,13 @@ module _ (ed : ℕ) (text : List ℕ) where
 
 -- the list from an offset on, by the token call's answer there
 module _ (ed : ℕ) (text : List ℕ) (at : ℕ) (h : at ≤ length text) where
-  short : (a : Lexed) → nextToken ed text at ≡ a → (a ≡ Refused (refusal 1 0 0) → ⊥) → length text ≤ textLimit
-  unfolding nextToken admitted
-  short a e n = go (ltb textLimit (length text)) refl
-    where
-      go : (b : Bool) → ltb textLimit (length text) ≡ b → length text ≤ textLimit
-      go true q = absurd (n (sym e ∙ rw q))
-      go false q = ltb-false textLimit (length text) q
-
   scanned : length text ≤ textLimit → nextToken ed text at ≡ lexed (lex ed at (drop at text))
   unfolding nextToken
-  scanned g = admitted-in Refused text at _ g h
+  scanned g = admits text at Refused _ g h
 
   admitted-list : length text ≤ textLimit → tokensAt ed text at ≡ tokensFrom ed at (drop at text)
   unfolding tokensAt
-  admitted-list g = admitted-in refused text at _ g h
+  admitted-list g = admits text at refused _ g h
 
   listing : length text ≤ textLimit → tokensAt ed text at ≡ walk ed (suc (length text)) (lex ed at (drop at text))
   listing g = admitted-list g ∙ sym (walk-ends ed text (suc (length text)) at h (omega arith))
@@ -90,19 +84,17 @@ module _ (ed : ℕ) (text : List ℕ) (at : ℕ) (h : at ≤ length text) where
   refused-by r (bad u) n q = let v : u ≡ r = cc in ap refused v
 
   pub at-refused : (r : Refusal) → nextToken ed text at ≡ Refused r → tokensAt ed text at ≡ refused r
-  unfolding tokensAt nextToken admitted
-  at-refused r e = go (ltb textLimit (length text)) refl
+  unfolding tokensAt nextToken unless
+  at-refused r e = go (placeFault text at) refl e
     where
-      go : (b : Bool) → ltb textLimit (length text) ≡ b → tokensAt ed text at ≡ refused r
-      go true q =
-          let v : refusal 1 0 0 ≡ r = injective (rw q at e) in
-          rw q (ap refused v)
-      go false q =
-          let g : length text ≤ textLimit = ltb-false textLimit (length text) q in
-          listing g ∙ refused-by r (lex ed at (drop at text)) (length text) (sym (scanned g) ∙ e)
+      go : (f : Fault) → placeFault text at ≡ f → unless Refused f (lexed (lex ed at (drop at text))) ≡ Refused r → unless refused f (tokensFrom ed at (drop at text)) ≡ refused r
+      go (Faulty q) i e = ap refused (injective e)
+      go Faultless i e =
+          let g = in-place text at i .0 in
+          sym (admitted-list g) ∙ listing g ∙ refused-by r (lex ed at (drop at text)) (length text) e
 
   found-short : (t : Token) → nextToken ed text at ≡ Found t → length text ≤ textLimit
-  found-short t e = short (Found t) e (λ q. let z : _≡_ {A = ℕ} 0 1 = cc in omega arith)
+  found-short t e = found-fits ed text at t e .0
 
   eof-by : (t : Token) (l : Scanned) (n : ℕ) → lexed l ≡ Found t → t .kind ≡ 0 → walk ed (suc n) l ≡ eof t
   unfolding lexed walk
@@ -169,17 +161,10 @@ module _ (ed : ℕ) (text : List ℕ) where
 
   -- n bytes end within n + 1 steps: from any offset on, and for the whole text
   pub tokens-end : (at : ℕ) → (entries (tokensAt ed text at) ≤ suc (length text - at)) × Ends (length text) (tokensAt ed text at)
-  unfolding tokensAt admitted entries Ends
-  tokens-end at = over (ltb textLimit (length text)) refl
-    where
-      from : (b : Bool) → ltb (length text) at ≡ b → Ended text at (cond b (refused (refusal 2 0 0)) (tokensFrom ed at (drop at text)))
-      from true q = (omega arith, tt)
-      from false q = rw (← walk-ends ed text (length text) at (ltb-false (length text) at q) (omega arith)) (walk-ended (length text) at (ltb-false (length text) at q) (omega arith))
-
-      over : (b : Bool) → ltb textLimit (length text) ≡ b
-          → Ended text at (cond b (refused (refusal 1 0 0)) (cond (ltb (length text) at) (refused (refusal 2 0 0)) (tokensFrom ed at (drop at text))))
-      over true q = (omega arith, tt)
-      over false q = from (ltb (length text) at) refl
+  unfolding tokensAt entries Ends
+  tokens-end at =
+      unless-sure refused (Ended text at) (placeFault text at) _ (each-any _ (placeFault text at) (λ _. (omega arith, tt)))
+      (λ f. let h = in-place text at f .1 in rw (← walk-ends ed text (length text) at h (omega arith)) (walk-ended (length text) at h (omega arith)))
 
 module _ (text : List ℕ) where
   pub text-ends : (entries (tokensOf text) ≤ suc (length text)) × Ends (length text) (tokensOf text)

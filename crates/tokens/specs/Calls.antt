@@ -12,6 +12,8 @@ use Rattle.gap.specs.declared.FirstDoc.the-variants.{Found as DocFound, Nothing
 use Rattle.tokens.specs.Answers.{refusal, token}
 use Rattle.tokens.specs.Token.{Scanned, tok, bad, lex}
 use Rattle.tokens.specs.declared.Refusal.{Refusal}
+use Rattle.tokens.specs.declared.Fault.{Fault}
+use Rattle.tokens.specs.declared.Fault.the-variants.{Faultless, Faulty}
 use Rattle.tokens.specs.declared.Lexed.{Lexed}
 use Rattle.tokens.specs.declared.Lexed.the-variants.{Found, Refused}
 use Rattle.tokens.specs.declared.Advanced.{Advanced}
@@ -22,11 +24,36 @@ use Rattle.tokens.specs.declared.DocComment.the-variants.{Doc, Nothing, 
 abbrev pub textLimit : ℕ
 textLimit = 1048575
 
--- refusals 1 and 2, and otherwise what the text has
-unfoldable pub admitted : {A : Type 0} → (Refusal → A) → List ℕ → ℕ → A → A
-admitted refuse text at a =
-    cond (ltb textLimit (length text)) (refuse (refusal TextTooLong 0 0))
-    (cond (ltb (length text) at) (refuse (refusal StartPastEnd 0 0)) a)
+-- a number that is no edition
+abbrev pub noEdition : ℕ → Bool
+noEdition ed = eqb ed 0 || ltb 2 ed
+
+-- the faults of a call are looked for before the text is: a refusal without a place, where b is so
+abbrev pub faultIf : Bool → ℕ → Fault
+faultIf b number = cond b (Faulty (refusal number 0 0)) Faultless
+
+-- the first of two faults
+infixr 5 _orElse_
+unfoldable pub _orElse_ : Fault → Fault → Fault
+_orElse_ Faultless g = g
+_orElse_ (Faulty r) g = Faulty r
+
+-- refusals 1 and 2, in this order
+unfoldable pub placeFault : List ℕ → ℕ → Fault
+placeFault text at = faultIf (ltb textLimit (length text)) TextTooLong orElse faultIf (ltb (length text) at) StartPastEnd
+
+-- refusal 19
+abbrev pub editionFault : ℕ → Fault
+editionFault ed = faultIf (noEdition ed) NoSuchEdition
+
+-- of a token call or a comment call
+unfoldable pub callFault : ℕ → List ℕ → ℕ → Fault
+callFault ed text at = placeFault text at orElse editionFault ed
+
+-- the refusal of a fault, and otherwise what the text has
+unfoldable pub unless : {A : Type 0} → (Refusal → A) → Fault → A → A
+unless refuse Faultless a = a
+unless refuse (Faulty r) a = refuse r
 
 unfoldable pub lexed : Scanned → Lexed
 lexed (tok k s e w r) = Found (token k s e)
@@ -34,7 +61,7 @@ lexed (bad r) = Refused r
 
 -- the next token in an edition, as the readers ask for it: they have tested the edition
 unfoldable pub nextToken : ℕ → List ℕ → ℕ → Lexed
-nextToken ed text at = admitted Refused text at (lexed (lex ed at (drop at text)))
+nextToken ed text at = unless Refused (placeFault text at) (lexed (lex ed at (drop at text)))
 
 -- LF stands between `at` and the token, in comments too; a refusal has none
 unfoldable pub lineFeedBefore : List ℕ → ℕ → Lexed → Bool
@@ -45,20 +72,12 @@ lineFeedBefore text at (Refused r) = false
 unfoldable pub advanced : ℕ → List ℕ → ℕ → Advanced
 advanced ed text at = record { lexed = nextToken ed text at; feed = lineFeedBefore text at (nextToken ed text at) }
 
--- a number that is no edition
-abbrev pub noEdition : ℕ → Bool
-noEdition ed = eqb ed 0 || ltb 2 ed
-
--- refusals 1, 2 and 19, in this order, and otherwise what the text has
-unfoldable pub admittedIn : {A : Type 0} → (Refusal → A) → ℕ → List ℕ → ℕ → A → A
-admittedIn refuse ed text at a = admitted refuse text at (cond (noEdition ed) (refuse (refusal NoSuchEdition 0 0)) a)
-
 -- the token call; a refusal has no flag
 abbrev pub refusedCall : Refusal → Advanced
 refusedCall r = record { lexed = Refused r; feed = false }
 
 unfoldable pub tokenCall : ℕ → List ℕ → ℕ → Advanced
-tokenCall ed text at = admittedIn refusedCall ed text at (advanced ed text at)
+tokenCall ed text at = unless refusedCall (callFault ed text at) (advanced ed text at)
 
 unfoldable pub commentOf : FirstDoc → DocComment
 commentOf (DocFound c) = Doc c
@@ -67,4 +86,4 @@ commentOf (BrokenFirst o q) = Broken (refusal CommentNotClosed o q)
 
 -- the comment call
 unfoldable pub nextComment : ℕ → List ℕ → ℕ → DocComment
-nextComment ed text at = admittedIn Broken ed text at (commentOf (docOf (gap 0 at (drop at text))))
+nextComment ed text at = unless Broken (callFault ed text at) (commentOf (docOf (gap 0 at (drop at text))))

@@ -8,7 +8,7 @@ use lib.ListN.{length, drop}
 use Rattle.words.specs.Kinds.{EOF}
 use Rattle.tokens.specs.Answers.{token}
 use Rattle.tokens.specs.Token.{Scanned, tok, bad, lex}
-use Rattle.tokens.specs.Calls.{admitted}
+use Rattle.tokens.specs.Calls.{placeFault, unless}
 use Rattle.tokens.specs.declared.Refusal.{Refusal}
 use Rattle.tokens.specs.declared.Token.{Token}
 
@@ -34,7 +34,7 @@ tokensFrom ed p s = walk ed (length s) (lex ed p s)
 
 -- the tokens of a text from an offset on, with refusals 1 and 2; and those of edition 1 from its first byte on
 unfoldable pub tokensAt : ℕ → List ℕ → ℕ → Listed
-tokensAt ed text at = admitted refused text at (tokensFrom ed at (drop at text))
+tokensAt ed text at = unless refused (placeFault text at) (tokensFrom ed at (drop at text))
 
 unfoldable pub tokensOf : List ℕ → Listed
 tokensOf text = tokensAt 1 text 0

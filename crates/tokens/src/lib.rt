@@ -10,9 +10,8 @@ ghost use Rattle.gap.specs.Gap.{gap, gapEndOf};
 ghost use Rattle.gap.specs.LineFeed.{lineFeed, gapFeed};
 ghost use Rattle.tokens.specs.Answers.{refusal};
 ghost use Rattle.tokens.specs.Token.{opensString, stringRefusal, findToken, decimal, hexNumber, number, string, word, name, mark};
-ghost use Rattle.tokens.specs.Calls.{nextToken, advanced, noEdition, tokenCall, nextComment};
-ghost use Rattle.tokens.specs.declared.Lexed.the-variants.{Refused};
-ghost use Rattle.tokens.specs.code.Found.{digitsClass, hexClass, begun, digitsEnd, editionRefusal, lexedAt, typedAt, flagged};
+ghost use Rattle.tokens.specs.Calls.{noEdition, placeFault, editionFault, callFault, nextToken, advanced, refusedCall, tokenCall, commentOf, nextComment};
+ghost use Rattle.tokens.specs.code.Found.{digitsClass, hexClass, begun, digitsEnd, lexedAt, typedAt, editionRefusal, flagged};
 ghost use Rattle.words.specs.Search.{markOf};
 use classes::ASCII;
 use classes::DIGIT;
@@ -80,6 +79,12 @@ pub struct Advanced {
 struct Blanks {
     pub end: usize,
     pub feed: bool,
+}
+
+// What is wrong with a call, looked for before the text is: nothing, or what it is refused with.
+pub enum Fault {
+    Faultless,
+    Faulty(Refusal),
 }
 
 // The first doc comment of a gap; none; or the refusal that comes before any.
@@ -380,11 +385,55 @@ fn with_flag(l: Lexed, feed: bool) -> Advanced
 
 // A refusal as the token call's answer.
 fn refused_answer(number: u32, start: usize, end: usize) -> Advanced
-    ensures { λ r. ⌜ r ≡ flagged (Refused (refusal number start end)) false ⌝ }
+    ensures { λ r. ⌜ r ≡ refusedCall (refusal number start end) ⌝ }
 {
     Advanced {
         lexed: Lexed::Refused(refuse(number, start, end)),
         feed: false,
+    }
+}
+
+// Refusals 1 and 2, in this order.
+pub fn place_fault(text: &[u8], at: usize) -> Fault
+    ensures { λ r. ⌜ r ≡ placeFault (now (text .entry)) at ⌝ }
+{
+    if TEXT_LIMIT < text.len() {
+        return Fault::Faulty(refuse(TEXT_TOO_LONG, 0, 0));
+    }
+    if text.len() < at {
+        return Fault::Faulty(refuse(START_PAST_END, 0, 0));
+    }
+    Fault::Faultless
+}
+
+// Whether the number is no edition.
+fn no_edition(edition: u64) -> bool
+    ensures { λ r. ⌜ r ≡ noEdition edition ⌝ }
+{
+    if edition == 0 {
+        return true;
+    }
+    LATER < edition
+}
+
+// Refusal 19.
+pub fn edition_fault(edition: u64) -> Fault
+    ensures { λ r. ⌜ r ≡ editionFault edition ⌝ }
+{
+    if no_edition(edition) {
+        return Fault::Faulty(refuse(NO_SUCH_EDITION, 0, 0));
+    }
+    Fault::Faultless
+}
+
+// The faults of a call: refusals 1, 2 and 19, in this order.
+fn call_fault(edition: u64, text: &[u8], at: usize) -> Fault
+    ensures { λ r. ⌜ r ≡ callFault edition (now (text .entry)) at ⌝ }
+{
+    let f = place_fault(text, at);
+    match f {
+        Fault::Faulty(r) => Fault::Faulty(r),
+        Fault::Faultless => edition_fault(edition),
     }
 }
 
@@ -419,16 +468,6 @@ pub fn next_token(edition: u64, text: &[u8], at: usize) -> Lexed
     a.lexed
 }
 
-// Whether the number is no edition.
-pub fn no_edition(edition: u64) -> bool
-    ensures { λ r. ⌜ r ≡ noEdition edition ⌝ }
-{
-    if edition == 0 {
-        return true;
-    }
-    LATER < edition
-}
-
 // The refusal of a call whose edition is none: 1 and 2 come first.
 fn edition_refusal(text: &[u8], at: usize) -> u32
     ensures { λ r. ⌜ r ≡ editionRefusal (now (text .entry)) at ⌝ }
@@ -452,23 +491,27 @@ pub fn token_call(edition: u64, text: &[u8], at: usize) -> Advanced
     advance(edition, text, at)
 }
 
-// The comment call: the first doc comment in the gap from `at` on.
-pub fn next_comment(edition: u64, text: &[u8], at: usize) -> DocComment
-    ensures { λ r. ⌜ r ≡ nextComment edition (now (text .entry)) at ⌝ }
+// The first doc comment that a gap has, as the comment call answers it.
+fn comment_of(d: FirstDoc) -> DocComment
+    ensures { λ r. ⌜ r ≡ commentOf d ⌝ }
 {
-    if TEXT_LIMIT < text.len() {
-        return DocComment::Broken(refuse(TEXT_TOO_LONG, 0, 0));
-    }
-    if text.len() < at {
-        return DocComment::Broken(refuse(START_PAST_END, 0, 0));
-    }
-    if no_edition(edition) {
-        return DocComment::Broken(refuse(NO_SUCH_EDITION, 0, 0));
-    }
-    let d = gap::first_doc(text, at);
     match d {
         FirstDoc::Found(c) => DocComment::Doc(c),
         FirstDoc::Nothing => DocComment::Nothing,
         FirstDoc::BrokenFirst(o, q) => DocComment::Broken(refuse(COMMENT_NOT_CLOSED, o, q)),
+    }
+}
+
+// The comment call: the first doc comment in the gap from `at` on.
+pub fn next_comment(edition: u64, text: &[u8], at: usize) -> DocComment
+    ensures { λ r. ⌜ r ≡ nextComment edition (now (text .entry)) at ⌝ }
+{
+    let f = call_fault(edition, text, at);
+    match f {
+        Fault::Faulty(r) => DocComment::Broken(r),
+        Fault::Faultless => {
+            let d = gap::first_doc(text, at);
+            comment_of(d)
+        }
     }
 }

@@ -40,6 +40,7 @@ use denote.Triple.Table.{entered, cited}
 use denote.Triple.Walked.{Stays, stay-none, stay-none-slice, gave-slice, walkOf, goes-none, goes-none-slice, goes-gave-slice, Walks, ends-at, walked, walk-meets}
 use denote.Exit.{yes}
 use denote.Triple.Clauses.{ensured, lasts}
+use Rattle.grammar.specs.Items.{asked}
 use Rattle.calls.specs.Calls.{displayed, displayBuffer}
 use Rattle.calls.specs.Calls as calls
 use Rattle.calls.specs.declared.Reader.{Reader}
@@ -106,10 +107,10 @@ module _ {M : Type 1} (𝓤 : URA M) (H : Heap 𝓤) (A : Atoms 𝓤) (W : Given
 
   -- the answer and the final line
   abbrev answer : Displayed
-  answer = displayed (calls.display k ed (now t) n (length ys))
+  answer = displayed (calls.display (asked k ed (now t) n) (length ys))
 
   abbrev buffer : List ℕ
-  buffer = displayBuffer k ed (now t) n ys
+  buffer = displayBuffer (asked k ed (now t) n) ys
 
   abbrev Post : Val → SProp 𝓤
   Post = walkOf 𝓤 H A display.ended stayed (display.clauses 𝓤 H A mem run) .post ((κs, (q, (q′, tt)), tt, a, vals), tt)

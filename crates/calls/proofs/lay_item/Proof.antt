@@ -1,7 +1,9 @@
 use mathlib.Core.Path.{_≡_}
 use mathlib.Core.List.{List}
 use Prim.Native.Nat.{ℕ}
+use denote.Ref.{now}
 use Rattle.tokens.specs.declared.Token.{Token}
+use Rattle.grammar.specs.Items.{Asked, asked}
 use Rattle.calls.specs.declared.Answer.{Answer}
 use Rattle.calls.specs.declared.Made.{Made}
 use Rattle.calls.specs.code.Given.{Lays, answerOf, bufferOf}
@@ -10,18 +12,18 @@ use Rattle.calls.proofs.lay_item.Statement.{statement}
 use Rattle.calls.proofs.lay_item.Tie as tie
 
 -- what was laid down and copied
-lays : (form kind ed : ℕ) (text : List ℕ) (a : Token) (l made m : List ℕ) (d : Made) (r : Answer) (m₂ : List ℕ) → Lays form kind ed text a l (answerOf d) (bufferOf d made m)
-    → r ≡ answerOf d → m₂ ≡ bufferOf d made m → Lays form kind ed text a l r m₂
-lays form kind ed text a l made m d r m₂ h e f = rw (e, f) h
+lays : (form : ℕ) (q : Asked) (a : Token) (l made m : List ℕ) (d : Made) (r : Answer) (m₂ : List ℕ) → Lays form q a l (answerOf d) (bufferOf d made m)
+    → r ≡ answerOf d → m₂ ≡ bufferOf d made m → Lays form q a l r m₂
+lays form q a l made m d r m₂ h e f = rw (e, f) h
 
 returns : tie.Need-returns
-returns c = lays (c .before .before .before .before .before .before .before .before .before .before .before .before .before .before .before .args .form) _ _ _ _ _ _ _ _ _ _ (c .before .before .before .before .before .before .before .before .lay-over .ensures) (c .before .before .copied .ensures .0) (c .before .before .copied .ensures .1)
+returns c = let x = c .before .before .before .before .before .before .before .before .before .before .before .before .before .before .before .args in lays (x .form) (asked (x .kind) (x .edition) (now (x .text)) (x .a .start)) (x .a) _ _ _ _ _ _ (c .before .before .before .before .before .before .before .before .lay-over .ensures) (c .before .before .copied .ensures .0) (c .before .before .copied .ensures .1)
 
 returns-2 : tie.Need-returns-2
-returns-2 c = lays (c .before .before .before .before .before .before .before .before .before .before .before .before .before .before .before .before .args .form) _ _ _ _ _ _ _ _ _ _ (c .before .before .before .before .before .before .before .before .lay-over2 .ensures) (c .before .before .copied2 .ensures .0) (c .before .before .copied2 .ensures .1)
+returns-2 c = let x = c .before .before .before .before .before .before .before .before .before .before .before .before .before .before .before .before .args in lays (x .form) (asked (x .kind) (x .edition) (now (x .text)) (x .a .start)) (x .a) _ _ _ _ _ _ (c .before .before .before .before .before .before .before .before .lay-over2 .ensures) (c .before .before .copied2 .ensures .0) (c .before .before .copied2 .ensures .1)
 
 returns-3 : tie.Need-returns-3
-returns-3 c = lays (c .before .before .before .before .before .before .before .before .before .before .before .before .before .before .before .before .args .form) _ _ _ _ _ _ _ _ _ _ (c .before .before .before .before .before .before .before .before .lay-over3 .ensures) (c .before .before .copied3 .ensures .0) (c .before .before .copied3 .ensures .1)
+returns-3 c = let x = c .before .before .before .before .before .before .before .before .before .before .before .before .before .before .before .before .args in lays (x .form) (asked (x .kind) (x .edition) (now (x .text)) (x .a .start)) (x .a) _ _ _ _ _ _ (c .before .before .before .before .before .before .before .before .lay-over3 .ensures) (c .before .before .copied3 .ensures .0) (c .before .before .copied3 .ensures .1)
 
 pub lay-item-spec : {M : Type 1} → statement M
 lay-item-spec =

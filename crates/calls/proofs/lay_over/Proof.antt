@@ -1,5 +1,6 @@
 use denote.Ref.{now}
 use mathlib.Core.Path.{refl}
+use Rattle.grammar.specs.Items.{asked}
 use Rattle.calls.specs.code.Given.{answerOf, bufferOf}
 use Rattle.calls.proofs.Answers.{lay-refused, lay-longer, lay-long, lay-done}
 use borrow.Author.Needs.{needs}
@@ -12,7 +13,7 @@ returns c =
     let given = c .before .before .before .before .before .before .before .before .before in
     let laid = given .before .before .before .before .lay-down in
     let x = given .before .before .before .before .before .before .before .before .before .args in
-    lay-longer (x .form) (x .kind) (x .edition) (now (x .text)) (x .a) (now (x .made)) _ (now (x .out)) _ _ (laid .ensures) (given .d2 .given .1) _ _ (c .before .before .lay-longer .ensures)
+    lay-longer (x .form) (asked (x .kind) (x .edition) (now (x .text)) (x .a .start)) (x .a) (now (x .made)) _ (now (x .out)) _ _ (laid .ensures) (given .d2 .given .1) _ _ (c .before .before .lay-longer .ensures)
 
 returns-2 : tie.Need-returns-2
 unfolding answerOf bufferOf
@@ -21,7 +22,7 @@ returns-2 c =
     let laid = given .before .before .before .before .lay-down in
     let start = given .before .before .before .before .before .before .before .before .before in
     let x = start .args in
-    lay-long (x .form) (x .kind) (x .edition) (now (x .text)) (x .a) (now (x .made)) _ (now (x .out)) _ _ (laid .ensures) (given .d2 .given .1) (start .pre) (laid .kept .1 .1 .1 .1 .1 .0)
+    lay-long (x .form) (asked (x .kind) (x .edition) (now (x .text)) (x .a .start)) (x .a) (now (x .made)) _ (now (x .out)) _ _ (laid .ensures) (given .d2 .given .1) (start .pre) (laid .kept .1 .1 .1 .1 .1 .0)
     (c .before .before .before .if1 .left) _ (c .before .if2 .taken) (c .refused .ensures)
 
 returns-3 : tie.Need-returns-3
@@ -29,7 +30,7 @@ unfolding answerOf bufferOf
 returns-3 c =
     let laid = c .before .before .before .before .before .lay-down in
     let x = c .before .before .before .before .before .before .before .before .before .before .args in
-    lay-refused (x .form) (x .kind) (x .edition) (now (x .text)) (x .a) (now (x .made)) _ (now (x .out)) _ _ (laid .ensures) (c .before .d .given .1)
+    lay-refused (x .form) (asked (x .kind) (x .edition) (now (x .text)) (x .a .start)) (x .a) (now (x .made)) _ (now (x .out)) _ _ (laid .ensures) (c .before .d .given .1)
 
 returns-4 : tie.Need-returns-4
 unfolding answerOf bufferOf
@@ -38,7 +39,7 @@ returns-4 c =
     let laid = given .before .before .before .before .lay-down in
     let start = given .before .before .before .before .before .before .before .before .before in
     let x = start .args in
-    lay-done (x .form) (x .kind) (x .edition) (now (x .text)) (x .a) (now (x .made)) _ (now (x .out)) _ _ (laid .ensures) (given .d2 .given .1) (start .pre) (laid .kept .1 .1 .1 .1 .1 .0)
+    lay-done (x .form) (asked (x .kind) (x .edition) (now (x .text)) (x .a .start)) (x .a) (now (x .made)) _ (now (x .out)) _ _ (laid .ensures) (given .d2 .given .1) (start .pre) (laid .kept .1 .1 .1 .1 .1 .0)
     (c .before .before .if1 .left) _ (c .if2 .left) refl
 
 pub lay-over-spec : {M : Type 1} → statement M

@@ -46,6 +46,7 @@ use denote.Exit.{yes}
 use denote.Triple.Clauses.{ensured, lasts}
 use Rattle.tokens.specs.Calls.{nextToken}
 use Rattle.tokens.specs.declared.Lexed.{Lexed}
+use Rattle.grammar.specs.Items.{asked}
 use Rattle.calls.specs.Calls.{displayed, displayBuffer}
 use Rattle.calls.specs.code.Given.{Displays}
 use Rattle.calls.specs.Calls as calls
@@ -122,10 +123,10 @@ module _ {M : Type 1} (𝓤 : URA M) (H : Heap 𝓤) (A : Atoms 𝓤) (W : Given
 
   -- the answer and the final line
   abbrev answer : Displayed
-  answer = displayed (calls.display k ed (now (d .text)) (d .at) (length ys))
+  answer = displayed (calls.display (asked k ed (now (d .text)) (d .at)) (length ys))
 
   abbrev buffer : List ℕ
-  buffer = displayBuffer k ed (now (d .text)) (d .at) ys
+  buffer = displayBuffer (asked k ed (now (d .text)) (d .at)) ys
 
   abbrev Post : Val → SProp 𝓤
   Post = walkOf 𝓤 H A show.ended stayed (show.clauses 𝓤 H A mem run) .post ((κs, (q, (q′, tt)), tt, a, vals), tt)
@@ -203,7 +204,7 @@ module _ {M : Type 1} (𝓤 : URA M) (H : Heap 𝓤) (A : Atoms 𝓤) (W : Given
       move ! (1 ∷ []) $ frame ! $ nothing ! $ move ! (2 ∷ 0 ∷ []) $ fjoin ! $ owned ! u64 (Is u64) (uint-makes 𝓤 H A W w64) ed _ (refl, ed-fits) $ fjoin ! $ owned ! u64 (Is u64) (uint-makes 𝓤 H A W w64) k _ (refl, k-fits) $ fjoin ! $ move ! (2 ∷ 0 ∷ []) $ fjoin ! $ frame ! $ done !
 
   abbrev Displayed-so : Lexed → Displayed → List ℕ → Type 0
-  Displayed-so f r zs = Displays k ed (now (d .text)) (d .at) f ys r zs
+  Displayed-so f r zs = Displays (asked k ed (now (d .text)) (d .at)) f ys r zs
 
   module _ (C : Calls 𝓤 H) (Λ : Loops 𝓤 H) (fm : FmC 𝓤 H (W .laws) C) (known-next : Triple 𝓤 (C #calls·next) (Next 𝓤 H A mem run)) (known : Triple 𝓤 (C #calls·display-from) (DisplayFrom 𝓤 H A mem run)) where
     walk : Holds (hasTy (T′.mir (named 0)) mach) × WT mach → Holds (hasTy (T′.mir erased) mach) × WT mach → Room u8 (length ys) → ent 𝓤 (onEntry 𝓤 H A show.signature κs (q, (q′, tt)) a vals) (WpFn 𝓤 H C Λ code.function (mach ∷ vint w64 k ∷ vint w64 ed ∷ s ∷ []) Post)

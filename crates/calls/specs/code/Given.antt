@@ -19,7 +19,8 @@ use Rattle.tokens.specs.declared.Lexed.the-variants.{Found, Refused as Bad}
 use Rattle.records.specs.Tree.{Tree}
 use Rattle.records.specs.Stored.{records}
 use Rattle.sources.specs.Source.{Token, tokenOf}
-use Rattle.grammar.specs.Items.{Item, item, refused, readKind, finished, readItem}
+use Rattle.answers.specs.Reading.{Ans}
+use Rattle.grammar.specs.Items.{Item, item, refused, readKind, finished, Asked, readItem}
 use Rattle.forms.specs.Forms.{FormNarrow, FormWide, isLine, front, written, narrowLimit}
 use Rattle.forms.specs.code.Spots.{last, cap, Placed}
 use Rattle.forms.specs.declared.Spot.{Spot}
@@ -40,9 +41,12 @@ refusedWith number = Refused (refusal number 0 0)
 abbrev pub atStart : Spot
 atStart = record { pos = 0; low = 0 }
 
--- the item of a kind whose first token is a
-abbrev pub itemFrom : ℕ → ℕ → List ℕ → First → Item
-itemFrom kind ed text a = finished (readKind kind (held ed text a))
+-- what is read from the token a on, and the item that this is: what is asked, whatever the offset
+abbrev pub readFrom : Asked → First → Ans Tree
+readFrom q a = readKind (q .kind) (held (q .edition) (q .text) a)
+
+abbrev pub itemFrom : Asked → First → Item
+itemFrom q a = finished (readFrom q a)
 
 -- a tree of n bytes in the form is too long for it, so that it becomes wide
 abbrev pub outgrown : ℕ → ℕ → Bool
@@ -63,12 +67,12 @@ abbrev pub widened : ℕ → ℕ
 widened n = cap (4 + 14 * (n / 8))
 
 -- the item of a first token is laid down at the front of a buffer l, which becomes m, behind what stands in front in the form
-pub record LaidDown (form kind ed : ℕ) (text : List ℕ) (a : First) (l : List ℕ) (r : Parsed) (m : List ℕ) : Type 0 where
+pub record LaidDown (form : ℕ) (q : Asked) (a : First) (l : List ℕ) (r : Parsed) (m : List ℕ) : Type 0 where
   pub from : Spot
   pub fronted : List ℕ
   pub short : length l ≤ last
   pub inFront : Placed l atStart (front form) from fronted
-  pub reads : Reads form ed text (Fits text a) (readKind kind (held ed text a)) (a .end) from fronted r m
+  pub reads : Reads form (q .edition) (q .text) (Fits (q .text) a) (readFrom q a) (a .end) from fronted r m
 
 -- the answer for an item i in a form and a room, over a buffer l that becomes m
 pub record Gives (form : Tree → ℕ) (room : ℕ) (i : Item) (l : List ℕ) (r : Answer) (m : List ℕ) : Type 0 where
@@ -76,19 +80,19 @@ pub record Gives (form : Tree → ℕ) (room : ℕ) (i : Item) (l : List ℕ) (r
   pub buffer : m ≡ filled form (roomed form room i) l
 
 -- for an item that has n bytes in the narrow form and is written wide
-abbrev pub Widens : ℕ → ℕ → List ℕ → First → ℕ → First → List ℕ → Answer → List ℕ → Type 0
-Widens kind ed text a n next l r m =
-    Fits text a → (x : Tree) (t : Token) → itemFrom kind ed text a ≡ item x t → tokenOf t ≡ next → n ≡ cap (8 * records x) → Gives (λ _. FormWide) (length l) (item x t) l r m
+abbrev pub Widens : Asked → First → ℕ → First → List ℕ → Answer → List ℕ → Type 0
+Widens q a n next l r m =
+    Fits (q .text) a → (x : Tree) (t : Token) → itemFrom q a ≡ item x t → tokenOf t ≡ next → n ≡ cap (8 * records x) → Gives (λ _. FormWide) (length l) (item x t) l r m
 
 -- for an item that has n bytes in the form in which it is laid down first
-abbrev pub Longer : ℕ → ℕ → ℕ → List ℕ → First → ℕ → First → List ℕ → Answer → List ℕ → Type 0
-Longer form kind ed text a n next l r m =
-    Fits text a → (x : Tree) (t : Token) → itemFrom kind ed text a ≡ item x t → tokenOf t ≡ next → n ≡ cap (length (written form x))
+abbrev pub Longer : ℕ → Asked → First → ℕ → First → List ℕ → Answer → List ℕ → Type 0
+Longer form q a n next l r m =
+    Fits (q .text) a → (x : Tree) (t : Token) → itemFrom q a ≡ item x t → tokenOf t ≡ next → n ≡ cap (length (written form x))
     → Gives (lastForm form) (roomIn form (length l)) (item x t) l r m
 
 -- for the item of a first token, where that fits; and for the item at an offset, where the token is the one found there
-abbrev pub Lays : ℕ → ℕ → ℕ → List ℕ → First → List ℕ → Answer → List ℕ → Type 0
-Lays form kind ed text a l r m = Fits text a → Gives (lastForm form) (roomIn form (length l)) (itemFrom kind ed text a) l r m
+abbrev pub Lays : ℕ → Asked → First → List ℕ → Answer → List ℕ → Type 0
+Lays form q a l r m = Fits (q .text) a → Gives (lastForm form) (roomIn form (length l)) (itemFrom q a) l r m
 
 -- what an item that was laid down in a buffer of the call's own answers, and what it leaves in the lent buffer
 unfoldable pub answerOf : Made → Answer
@@ -99,8 +103,12 @@ unfoldable pub bufferOf : Made → List ℕ → List ℕ → List ℕ
 bufferOf (Whole n t) made l = sets l 0 (take n made)
 bufferOf (Answered r) made l = l
 
-abbrev pub Calls : ℕ → ℕ → ℕ → List ℕ → ℕ → Lexed → List ℕ → Answer → List ℕ → Type 0
-Calls form kind ed text at first l r m = first ≡ nextToken ed text at → Gives (lastForm form) (roomIn form (length l)) (readItem kind ed text at) l r m
+-- the token that is found where an item is asked for
+abbrev pub firstOf : Asked → Lexed
+firstOf q = nextToken (q .edition) (q .text) (q .at)
+
+abbrev pub Calls : ℕ → Asked → Lexed → List ℕ → Answer → List ℕ → Type 0
+Calls form q first l r m = first ≡ firstOf q → Gives (lastForm form) (roomIn form (length l)) (readItem q) l r m
 
 -- where the bytes of a token that a line can hold end
 abbrev pub shownEnd : List ℕ → First → ℕ
@@ -125,10 +133,10 @@ inPlace q (refused r) = refused r
 abbrev pub replacedBy : Refusal → Refusal → Displayed
 replacedBy q r = Undisplayed (cond (eqb (r .number) NoRoom) q r)
 
-abbrev pub SpoiledFrom : ℕ → ℕ → List ℕ → ℕ → Lexed → Refusal → Displayed → Type 0
-SpoiledFrom kind ed text at first q d = first ≡ nextToken ed text at → d ≡ displayed (inPlace q (readItem kind ed text at))
+abbrev pub SpoiledFrom : Asked → Lexed → Refusal → Displayed → Type 0
+SpoiledFrom q first r d = first ≡ firstOf q → d ≡ displayed (inPlace r (readItem q))
 
 -- the display with the token that is found at the offset
-pub record Displays (kind ed : ℕ) (text : List ℕ) (at : ℕ) (first : Lexed) (l : List ℕ) (r : Displayed) (m : List ℕ) : Type 0 where
-  pub answer : (first ≡ nextToken ed text at → r ≡ displayed (display kind ed text at (length l)))
-  pub buffer : (first ≡ nextToken ed text at → m ≡ displayBuffer kind ed text at l)
+pub record Displays (q : Asked) (first : Lexed) (l : List ℕ) (r : Displayed) (m : List ℕ) : Type 0 where
+  pub answer : (first ≡ firstOf q → r ≡ displayed (display q (length l)))
+  pub buffer : (first ≡ firstOf q → m ≡ displayBuffer q l)

@@ -1,20 +1,19 @@
 -- What holds of every item that is read, for every kind, text and offset.
-use mathlib.Core.Bool.{_||_}
 use mathlib.Core.List.{List}
 use Prim.Native.Nat.{ℕ, _+_, _*_, _<_, _≤_}
 use native.Mathlib.Omega.{arith}
-use borrow.Author.Tests.{ltb-false}
-use lib.Dec.{eqb, ltb}
 use lib.ListN.{length, length-drop}
-use Rattle.tokens.specs.Calls.{textLimit, noEdition}
+use Rattle.tokens.specs.Answers.{refusal}
+use Rattle.tokens.proofs.Faults.{unless-sure}
 use Rattle.records.specs.Tree.{Tree, startOf, endOf, Nested}
 use Rattle.records.specs.Stored.{stored}
 use Rattle.sources.specs.Source.{Source, opened, Token, start, end, Scanned, tok, bad, lex}
 use Rattle.sources.proofs.Standing.{Sound, lex-sound}
 use Rattle.answers.specs.Reading.{Ans, ok, no}
-use Rattle.answers.proofs.Sure.{Blamed, Read, Sure, standing-from, standing-tok, look-sure, when-sure}
-use Rattle.grammar.specs.Items.{Item, item, refused, readKind, followed, finished, readItem}
-use Rattle.grammar.proofs.Sure.{kind-sure}
+use Rattle.answers.proofs.Sure.{Blamed, Read, Sure, standing-from, standing-tok, look-sure}
+use Rattle.grammar.specs.Items.{Item, item, refused, readKind, followed, finished, Asked, faultOf, readItem}
+use Rattle.grammar.proofs.Asked.{fault-each, in-order}
+use Rattle.frames.proofs.Sure.{kind-sure}
 
 module _ (text : List ℕ) where
   -- an accepted item: its tree lies in the text from `at` on, its spans are nested, the token that follows stands behind it, and its
@@ -55,15 +54,13 @@ module _ (text : List ℕ) where
     answer-held s (ok x v) h d = read-held s x v h d
     answer-held s (no r) h d = d
 
-    nowhere : (n : ℕ) → Blamed (length text) (record { number = n; place = record { start = 0; end = 0 }; second = record { start = 0; end = 0 } })
-    nowhere n = ((omega arith, omega arith), (omega arith, omega arith))
+  nowhere : (n : ℕ) → Blamed (length text) (refusal n 0 0)
+  nowhere n = ((omega arith, omega arith), (omega arith, omega arith))
 
-    pub item-held : (kind ed : ℕ) → Held at (readItem kind ed text at)
-    unfolding readItem
-    item-held kind ed =
-        when-sure (Held at) (ltb textLimit (length text)) _ _ (λ _. nowhere 1)
-        (λ _. when-sure (Held at) (ltb (length text) at) _ _ (λ _. nowhere 2)
-        (λ b. when-sure (Held at) (eqb kind 0 || ltb 5 kind) _ _ (λ _. nowhere 3)
-        (λ _. when-sure (Held at) (noEdition ed) _ _ (λ _. nowhere 19)
-        (λ _. look-sure (length text) (λ a. Held at (finished a)) (opened ed text at) (readKind kind) (omega (arith, length-drop at text, ltb-false (length text) at b))
-        (λ r n. answer-held at (no r) (omega arith) n) λ t d i. answer-held (start t) (readKind kind t) i (kind-sure (length text) kind t d)))))
+pub item-held : (q : Asked) → Held (q .text) (q .at) (readItem q)
+unfolding readItem
+item-held q =
+    let n : ℕ = length (q .text) in
+    unless-sure refused (Held (q .text) (q .at)) (faultOf q) _ (fault-each q (Blamed n) (nowhere (q .text) 1) (nowhere (q .text) 2) (nowhere (q .text) 3) (nowhere (q .text) 19)) λ e.
+    look-sure n (λ a. Held (q .text) (q .at) (finished a)) (opened (q .edition) (q .text) (q .at)) (readKind (q .kind)) (omega (arith, length-drop (q .at) (q .text), in-order q e .inside))
+    (λ r h. answer-held (q .text) (q .at) (q .at) (no r) (omega arith) h) λ t d i. answer-held (q .text) (q .at) (start t) (readKind (q .kind) t) i (kind-sure n (q .kind) t d)

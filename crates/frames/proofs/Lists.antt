@@ -12,9 +12,9 @@ use Rattle.sources.specs.Source.{Source, Token, start, word, after, split, tok,
 use Rattle.sources.proofs.Standing.{Standing, Sound, lex-sound}
 use Rattle.answers.specs.Reading.{Reader, list, listBehind}
 use Rattle.answers.proofs.Further.{left, enough}
 use Rattle.grammar.specs.Types.{readType}
 use Rattle.grammar.specs.Binds.{readField, readBind}
-use Rattle.grammar.proofs.Sure.{type-frugal, field-frugal, bind-frugal}
+use Rattle.frames.proofs.Sure.{type-frugal, field-frugal, bind-frugal}
 
 -- any bound larger than the bytes left gives the same list
 abbrev pub Enough : Reader → Type 0
