@@ -40,7 +40,7 @@ const char *movesig_reason(uint32_t refusal)
         return "no value here";
     case MOVESIG_TOO_DEEP:
         return "more than 64 levels";
-    case MOVESIG_LINE_SPOILED:
+    case MOVESIG_LINE_UNPRINTABLE:
         return "the line would hold a control byte";
     case MOVESIG_NO_SUCH_EDITION:
         return "no such edition";

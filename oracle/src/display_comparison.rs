@@ -53,7 +53,7 @@ pub fn run(size: Size) -> Found {
     })
 }
 
-/// Strings with bytes that spoil a line, each with every room.
+/// Strings with unprintable bytes, each with every room.
 fn strings(displays: &mut Displays, size: &Size) {
     let longest = size.of(6, 5);
     let name = format!("every text up to {longest} bytes, strings");
@@ -246,7 +246,7 @@ impl Displays {
         );
         for (name, count) in [
             (ON_LONG, tally.on_long.into()),
-            ("  refused with 18", tally.spoiled.into()),
+            ("  refused with 18", tally.unprintable.into()),
             ("items accepted (displayed and read)", tally.accepted.into()),
             ("numbers that are no edition", tally.of_none.into()),
             ("different lines", self.properties.lines() as u128),

@@ -18,13 +18,13 @@ pub fn expected(read: &Expected, text: &Text, at: usize, show: Show) -> Expected
     let Some(item) = &read.item else {
         return read.clone();
     };
-    if let Some(byte) = spoiled(item, &text.bytes[at..]) {
+    if let Some(byte) = unprintable(item, &text.bytes[at..]) {
         return Expected {
             answer: Some(Answer::refused(18, at + byte, at + byte + 1)),
             written: vec![],
             longest: LONGEST_LINE,
             item: None,
-            cause: Some(Cause::SpoiledLine),
+            cause: Some(Cause::UnprintableLine),
         };
     }
     let line = show(item, &text.bytes[at..]);
@@ -39,7 +39,7 @@ pub fn expected(read: &Expected, text: &Text, at: usize, show: Show) -> Expected
 
 /// The first byte under 32, or of 127, of a string that the Rust read. The bytes are those of
 /// the Rust's own span.
-fn spoiled(item: &Item, text: &[u8]) -> Option<usize> {
+fn unprintable(item: &Item, text: &[u8]) -> Option<usize> {
     let Parsed::Value(value) = &item.parsed else {
         return None;
     };

@@ -181,7 +181,7 @@ const LISTS: [List; 23] = [
 ];
 
 /// Names, numbers and strings that fill a text of `length` bytes, in each place where one can stand:
-/// also strings that are not closed, hold a byte of 128 or more, or spoil a line, at their ends.
+/// also strings that are not closed, hold a byte of 128 or more, or an unprintable byte, at their ends.
 pub fn leaves(length: usize) -> impl Iterator<Item = Case> {
     LEAVES.iter().map(move |(kind, before, again, after)| Case {
         kind: *kind,

@@ -1,7 +1,7 @@
 //! Points: calls from 0 on short texts, each with the answer that the specification gives.
 //! P1 to P15 are those that are proved of the definitions (crates/roundtrip/specs/Examples.antt);
 //! behind them the dense points of the grammar, where a list is blamed, where `>>` splits, each
-//! edge of the levels, those of the display line and strings that spoil it. Every point is held to the Rust where
+//! edge of the levels, those of the display line and strings with unprintable bytes. Every point is held to the Rust where
 //! the Rust has an answer, and the port to both.
 
 use crate::{
@@ -285,7 +285,7 @@ const LINES: &[(u64, &str, &str)] = &[
     (5, "|x,y|", "|x, y|"),
 ];
 
-/// Strings that spoil a line, and some that do not: the text, the room lent, the result and the
+/// Strings with unprintable bytes, and some without: the text, the room lent, the result and the
 /// first four numbers. The byte 0x80 stands for one that is no UTF-8 alone.
 const STRINGS: &[(&[u8], usize, u32, [u64; 4])] = &[
     (b"b\"a\rb\"", ENOUGH, 18, [3, 4, 3, 4]),

@@ -25,7 +25,7 @@ pub enum Property {
     /// Every byte of a line is from 32 to 126.
     Printable,
     /// What is refused a line for a byte of a string can be read.
-    SpoiledButRead,
+    UnprintableButRead,
     /// So does the read: where it is refused, the display is refused alike.
     Read,
     /// The Rust reads the line to its last byte, as the same build.
@@ -43,7 +43,7 @@ impl Property {
         match self {
             Property::Displayed => "the display is another one",
             Property::Printable => "the line holds a byte under 32 or over 126",
-            Property::SpoiledButRead => "refused with 18, and its read is refused too",
+            Property::UnprintableButRead => "refused with 18, and its read is refused too",
             Property::Read => "the read is another one",
             Property::ReadByTheRust => "the Rust does not read the line as this build",
             Property::ReadByThePort => "the port does not read the line as the Rust does",
@@ -73,7 +73,7 @@ pub struct Tally {
     /// Answers on texts of 65,536 to 1,048,575 bytes.
     pub on_long: u64,
     /// Displays that are refused with 18.
-    pub spoiled: u64,
+    pub unprintable: u64,
     /// Answers to numbers that are no edition.
     pub of_none: u64,
     /// Items whose line has at most 65,535 bytes, which are those that are accepted.
@@ -154,7 +154,7 @@ impl Properties {
         at: usize,
     ) -> Option<Fault> {
         let read = reads::expected_in(edition, kind, text, at);
-        // A spoiled line too would need that much.
+        // A line with an unprintable byte too would need that much.
         let line = |item| (self.show)(item, &text.bytes[at..]);
         let needed = read.item.as_ref().map_or(0, |item| line(item).len());
         self.checked((kind, edition), text, at, |_, _| {
@@ -180,7 +180,7 @@ impl Properties {
             .display_broken(item, &due, &rooms)
             .or_else(|| self.none_broken(item, &due))
             .or_else(|| self.read_broken(item, &read))
-            .or_else(|| spoiled_broken(&read, &due))
+            .or_else(|| unprintable_broken(&read, &due))
             .or_else(|| self.line_broken((kind, edition), text, &read, &due));
         broken.map(|(property, told)| Fault {
             property,
@@ -200,7 +200,7 @@ impl Properties {
             self.tally.answers += 1;
             if let Some(cause) = lent.cause {
                 self.tally.listed[cause as usize] += 1;
-                self.tally.spoiled += u64::from(cause == Cause::SpoiledLine);
+                self.tally.unprintable += u64::from(cause == Cause::UnprintableLine);
             }
             if let Some(wrong) = self.buffer.wrong(ItemCall::Display, item, room, lent) {
                 return Some((Property::Displayed, told(room, lent, &wrong)));
@@ -330,9 +330,9 @@ fn is_wide(tree: &[u8]) -> bool {
 }
 
 /// What is refused with 18 was read.
-fn spoiled_broken(read: &Expected, due: &Expected) -> Option<Broken> {
+fn unprintable_broken(read: &Expected, due: &Expected) -> Option<Broken> {
     let accepted = read.answer.is_some_and(|answer| answer.result == 0);
-    (due.cause == Some(Cause::SpoiledLine) && !accepted).then(|| (Property::SpoiledButRead, vec![]))
+    (due.cause == Some(Cause::UnprintableLine) && !accepted).then(|| (Property::UnprintableButRead, vec![]))
 }
 
 fn told(room: usize, due: Lent, wrong: &Wrong) -> Vec<String> {
@@ -589,9 +589,9 @@ mod tests {
         assert_eq!(broken(tabs), Some(Property::Printable));
     }
 
-    /// A port that accepts a spoiled line, and one that refuses it at another place.
+    /// A port that accepts an unprintable byte, and one that refuses it at another place.
     #[test]
-    fn a_spoiled_line_that_is_shown_is_found() {
+    fn an_unprintable_byte_that_is_shown_is_found() {
         let shown: Ask = |call, kind, edition, text, at, room, answer| match call {
             ItemCall::Read => port(call, (kind, edition, text, at), room, answer, line_of),
             ItemCall::Display => {

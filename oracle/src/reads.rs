@@ -24,7 +24,7 @@ pub enum Cause {
     HighByteInString,
     LastCarriageReturn,
     TooManyLevels,
-    SpoiledLine,
+    UnprintableLine,
     LineTooLong,
     RoomTooSmall,
 }
@@ -38,7 +38,7 @@ impl Cause {
         Cause::HighByteInString,
         Cause::LastCarriageReturn,
         Cause::TooManyLevels,
-        Cause::SpoiledLine,
+        Cause::UnprintableLine,
         Cause::LineTooLong,
         Cause::RoomTooSmall,
     ];
@@ -52,7 +52,7 @@ impl Cause {
             Cause::HighByteInString => expected::Cause::HighByteInString.words(),
             Cause::LastCarriageReturn => expected::Cause::LastCarriageReturn.words(),
             Cause::TooManyLevels => "more than 64 levels (here refusal 14)",
-            Cause::SpoiledLine => "a byte under 32 or 127 in a displayed string (refusal 18)",
+            Cause::UnprintableLine => "a byte under 32 or 127 in a displayed string (refusal 18)",
             Cause::LineTooLong => "line over 65,535 bytes (here refusal 4)",
             Cause::RoomTooSmall => "tree or line longer than the room lent (here refusal 4)",
         }

@@ -8,7 +8,7 @@ use lib.Dec.{eqb}
 use lib.ListN.{length, length-drop}
 use Rattle.words.specs.Kinds.{Comma, Greater, GreaterGreater}
 use Rattle.records.specs.Tree.{Trees, more}
-use Rattle.sources.specs.Source.{Source, past, Token, after, Scanned, tok, bad, lex}
+use Rattle.sources.specs.Source.{Source, past, Lexeme, after, LexResult, tok, bad, lex}
 use Rattle.sources.proofs.Standing.{Standing, Sound, lex-sound}
 use Rattle.answers.specs.Reading.{Ans, ok, no, then, look, when, closed, Reader, list, listBehind}
 
@@ -21,13 +21,13 @@ Further u (ok x v) = left v < left u
 Further u (no r) = Unit {0}
 
 abbrev pub Frugal : Reader → Type 0
-Frugal item = (u : Source) (t : Token) → Standing u t → Further u (item t)
+Frugal item = (u : Source) (t : Lexeme) → Standing u t → Further u (item t)
 
 -- behind a token
 past-left : (n : ℕ) (u : Source) → left (past n u) ≡ left u - n
 past-left n u = length-drop n (u .rest)
 
-module _ (u : Source) (t : Token) (d : Standing u t) where
+module _ (u : Source) (t : Lexeme) (d : Standing u t) where
   pub here-left : left (t .here) ≡ left u - d .gap
   here-left = ap left (d .here) ∙ past-left (d .gap) u
 
@@ -35,11 +35,11 @@ module _ (u : Source) (t : Token) (d : Standing u t) where
   after-left = omega (arith, past-left (t .len) (t .here), here-left)
 
 -- two answers are the same where what stands in them is
-look-same : {B : Type 0} (v : Source) (f g : Token → Ans B) → ((t : Token) → Standing v t → f t ≡ g t) → look (lex v) f ≡ look (lex v) g
+look-same : {B : Type 0} (v : Source) (f g : Lexeme → Ans B) → ((t : Lexeme) → Standing v t → f t ≡ g t) → look (lex v) f ≡ look (lex v) g
 unfolding look
 look-same v f g h = go (lex v) (lex-sound v)
   where
-    go : (l : Scanned) → Sound v l → look l f ≡ look l g
+    go : (l : LexResult) → Sound v l → look l f ≡ look l g
     go (tok t) d = h t d
     go (bad r) d = refl
 
@@ -53,11 +53,11 @@ unfolding then
 then-same v (ok x w) f g d h = h x w d
 then-same v (no r) f g d h = refl
 
-closed-same : {B : Type 0} (close : ℕ) (t : Token) (f : Source → Ans B) (g g₂ : Unit {0} → Ans B) → g tt ≡ g₂ tt → closed close t f g ≡ closed close t f g₂
+closed-same : {B : Type 0} (close : ℕ) (t : Lexeme) (f : Source → Ans B) (g g₂ : Unit {0} → Ans B) → g tt ≡ g₂ tt → closed close t f g ≡ closed close t f g₂
 unfolding closed
 closed-same close t f g g₂ h = when-same (eqb (t .kind) close) _ _ _ _ refl (when-same (eqb close Greater && eqb (t .kind) GreaterGreater) _ _ _ _ refl h)
 
-module _ (item : Reader) (frugal : Frugal item) (close : ℕ) (o : Token) where
+module _ (item : Reader) (frugal : Frugal item) (close : ℕ) (o : Lexeme) where
   list-enough : (f g : ℕ) (u : Source) → left u < f → left u < g → list item close o f (lex u) ≡ list item close o g (lex u)
   unfolding list
   list-enough zero g u h i = absurd (omega arith)

@@ -10,7 +10,7 @@ use Rattle.tokens.specs.declared.Place.{Place}
 use Rattle.tokens.specs.declared.Refusal.{Refusal}
 use Rattle.records.specs.Tree.{Tree, startOf, endOf, Nested}
 use Rattle.records.specs.Stored.{stored}
-use Rattle.sources.specs.Source.{Source, Token, start, end, after, split, Scanned, tok, bad, lex}
+use Rattle.sources.specs.Source.{Source, Lexeme, start, end, after, split, LexResult, tok, bad, lex}
 use Rattle.sources.proofs.Standing.{Standing, Sound, lex-sound}
 use Rattle.answers.specs.Reading.{Ans, ok, no, look, when, refusedAt, Reader}
 use Rattle.answers.proofs.Further.{left, Further, Frugal, here-left}
@@ -26,7 +26,7 @@ abbrev pub Blamed : ℕ → Refusal → Type 0
 Blamed e r = In e (r .place) × In e (r .second)
 
 -- a token of the text
-pub record Tok (e : ℕ) (t : Token) : Type 0 where
+pub record Tok (e : ℕ) (t : Lexeme) : Type 0 where
   pub stops : stop (t .here) ≡ e
   pub within : end t ≤ e
   pub takes : (0 < t .kind → start t < end t)
@@ -50,10 +50,10 @@ Sure e spare s (no r) = Blamed e r
 
 -- an item reader, from any token of the text on
 abbrev pub SureReader : ℕ → Reader → Type 0
-SureReader e item = (t : Token) → Tok e t → Sure e 0 (start t) (item t)
+SureReader e item = (t : Lexeme) → Tok e t → Sure e 0 (start t) (item t)
 
 -- a token that stands in a source
-module _ (u : Source) (t : Token) (d : Standing u t) where
+module _ (u : Source) (t : Lexeme) (d : Standing u t) where
   here-at : start t ≡ u .at + d .gap
   here-at = ap (λ (v : Source). v .at) (d .here)
 
@@ -64,7 +64,7 @@ module _ (u : Source) (t : Token) (d : Standing u t) where
   standing-tok e h = record { stops = omega (arith, here-at, here-left u t d, d .within); within = omega (arith, here-at, here-left u t d, d .within); takes = λ k. let z = d .takes k in omega arith }
 
 -- behind it
-module _ (e : ℕ) (t : Token) (d : Tok e t) where
+module _ (e : ℕ) (t : Lexeme) (d : Tok e t) where
   pub after-stop : stop (after t) ≡ e
   after-stop = omega (arith, length-drop (t .len) (t .here .rest), d .stops, d .within)
 
@@ -75,11 +75,11 @@ module _ (e : ℕ) (t : Token) (d : Tok e t) where
   token-blamed n = ((omega arith, d .within), (omega arith, d .within))
 
 -- the token at a source, and a test
-pub look-sure : {B : Type 0} (e : ℕ) (P : Ans B → Type 0) (v : Source) (f : Token → Ans B) → stop v ≡ e → ((r : Refusal) → Blamed e r → P (no r)) → ((t : Token) → Tok e t → v .at ≤ start t → P (f t)) → P (look (lex v) f)
+pub look-sure : {B : Type 0} (e : ℕ) (P : Ans B → Type 0) (v : Source) (f : Lexeme → Ans B) → stop v ≡ e → ((r : Refusal) → Blamed e r → P (no r)) → ((t : Lexeme) → Tok e t → v .at ≤ start t → P (f t)) → P (look (lex v) f)
 unfolding look
 look-sure e P v f h n g = go (lex v) (lex-sound v)
   where
-    go : (l : Scanned) → Sound v l → P (look l f)
+    go : (l : LexResult) → Sound v l → P (look l f)
     go (tok t) d = g t (standing-tok v t d e h) (standing-from v t d)
     go (bad r) d = n r ((d .0 .0, omega (arith, d .0 .1)), (d .1 .0, omega (arith, d .1 .1)))
 

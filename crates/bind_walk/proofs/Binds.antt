@@ -18,7 +18,7 @@ use Rattle.tokens.specs.declared.Token.{Token as Answer}
 use Rattle.tokens.specs.declared.Lexed.the-variants.{Found, Refused as Bad}
 use Rattle.records.specs.Kinds.{RecName, RecVariable, RecField}
 use Rattle.records.specs.Tree.{Tree, node, none, more}
-use Rattle.sources.specs.Source.{Source, Token, after, Scanned, tok, bad, lex}
+use Rattle.sources.specs.Source.{Source, Lexeme, after, LexResult, tok, bad, lex}
 use Rattle.answers.specs.Reading.{Ans, ok, no, then, look, when, leafOf, refusedAt, Reader}
 use Rattle.grammar.specs.Types.{readType}
 use Rattle.grammar.specs.Binds.{unpacked, bindOver, fieldOver, readField, readBind}
@@ -58,7 +58,7 @@ module _ (k n : ℕ) where
       go false d c e h f g = f (eqb-false k Identifier d)
 
 -- a field by what it binds
-when-then : (c : Bool) (l : Scanned) (f : Reader) (y : Tree) (v : Source) (k : Tree → Source → Ans Tree) → when c (λ _. look l (λ b. then (f b) k)) (λ _. k y v) ≡ then (when c (λ _. look l f) (λ _. ok y v)) k
+when-then : (c : Bool) (l : LexResult) (f : Reader) (y : Tree) (v : Source) (k : Tree → Source → Ans Tree) → when c (λ _. look l (λ b. then (f b) k)) (λ _. k y v) ≡ then (when c (λ _. look l f) (λ _. ok y v)) k
 unfolding when look then
 when-then true (tok t) f y v k = refl
 when-then true (bad r) f y v k = refl
@@ -86,7 +86,7 @@ module _ (f ed : ℕ) (text : List ℕ) (s : Spot) (l m : List ℕ) (a : Answer)
     bind-deep r h e = itself TooDeep bind r (λ _. rw h) e
 
     module _ (h : n ≡ 0 → ⊥) where
-      bind-level : (z : Token) → readBind n z ≡ bindOver (readType (n - 1)) (fieldAt (n - 1)) z
+      bind-level : (z : Lexeme) → readBind n z ≡ bindOver (readType (n - 1)) (fieldAt (n - 1)) z
       unfolding readBind
       bind-level z = let e : n ≡ suc (n - 1) = omega (arith, h) in ap (λ (k : ℕ). readBind k z) e
 
@@ -152,7 +152,7 @@ module _ (f ed : ℕ) (text : List ℕ) (s : Spot) (l m : List ℕ) (a : Answer)
     field-deep r h e = itself TooDeep field r (λ _. rw h) e
 
     module _ (h : n ≡ 0 → ⊥) where
-      field-level : (z : Token) → fieldAt n z ≡ fieldOver (readBind n) z
+      field-level : (z : Lexeme) → fieldAt n z ≡ fieldOver (readBind n) z
       unfolding readField
       field-level z = let e : n ≡ suc (n - 1) = omega (arith, h) in ap (λ (k : ℕ). readField k (readBind n) z) e
 

@@ -17,7 +17,7 @@ use Rattle.tokens.specs.declared.Token.{Token as Answer}
 use Rattle.tokens.specs.declared.Lexed.the-variants.{Found}
 use Rattle.records.specs.Kinds.{RecStruct, RecStructTyped}
 use Rattle.records.specs.Tree.{Tree, node, Trees, more, joined}
-use Rattle.sources.specs.Source.{Source, opened, Token, lex}
+use Rattle.sources.specs.Source.{Source, opened, Lexeme, lex}
 use Rattle.answers.specs.Reading.{Ans, ok, no, then, look, when, listBehind}
 use Rattle.grammar.specs.Names.{chain}
 use Rattle.grammar.specs.Types.{readType}
@@ -42,7 +42,7 @@ use Rattle.bind_walk.specs.code.Pieces.{fieldAt, angled, braced, partOf,
 use Rattle.bind_walk.proofs.Parted.{then-ok, had-by, had-not, goes-by, goes-from, list-part, front, marked, closed-by, by-as, by-refused}
 
 -- looking at the token that stands at a place
-look-at : {B : Type 0} (ed : ℕ) (text : List ℕ) (q : ℕ) (b : Answer) (g : Token → Ans B) → nextToken ed text q ≡ Found b → look (lex (opened ed text q)) g ≡ g (held ed text b)
+look-at : {B : Type 0} (ed : ℕ) (text : List ℕ) (q : ℕ) (b : Answer) (g : Lexeme → Ans B) → nextToken ed text q ≡ Found b → look (lex (opened ed text q)) g ≡ g (held ed text b)
 unfolding look
 look-at ed text q b g h = rw (next-found ed text q b h .is)
 

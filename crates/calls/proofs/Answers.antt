@@ -10,7 +10,7 @@ use lib.Dec.{eqb, ltb}
 use lib.ListN.{length, take, drop}
 use lib.Seq.{sets, take-append-le, take-all}
 use Rattle.classes.proofs.Bools.{false-true, and-left}
-use Rattle.tokens.specs.Refusals.{NoRoom, LineSpoiled, among}
+use Rattle.tokens.specs.Refusals.{NoRoom, LineUnprintable, among}
 use Rattle.tokens.specs.Answers.{refusal, token}
 use Rattle.tokens.specs.declared.Refusal.{Refusal}
 use Rattle.tokens.specs.declared.Fault.{Fault}
@@ -22,7 +22,7 @@ use Rattle.tokens.specs.declared.Lexed.the-variants.{Found, Refused as Bad}
 use Rattle.records.specs.Tree.{Tree}
 use Rattle.records.specs.Stored.{records}
 use Rattle.records.proofs.Runs.{sets-front}
-use Rattle.sources.specs.Source.{Token, Scanned, tokenOf}
+use Rattle.sources.specs.Source.{Lexeme, LexResult, tokenOf}
 use Rattle.answers.specs.Reading.{Ans, ok, no, look, when}
 use Rattle.grammar.specs.Names.{chain}
 use Rattle.grammar.specs.Values.{value}
@@ -46,12 +46,12 @@ use Rattle.calls.specs.declared.Answer.{Answer}
 use Rattle.calls.specs.declared.Answer.the-variants.{Item as Accepted, Refused as Rejected}
 use Rattle.calls.specs.declared.Displayed.{Displayed}
 use Rattle.calls.specs.declared.Displayed.the-variants.{Line, Refused as Undisplayed}
-use Rattle.calls.specs.Calls.{lineLimit, roomed, filled, unspoiled, answeredIn, read, readBuffer, answered, asLine, display, displayBuffer, displayed}
-use Rattle.calls.specs.code.Given.{refusedWith, atStart, readFrom, itemFrom, firstOf, outgrown, firstForm, lastForm, roomIn, widened, spoiledAt, replacedBy, inPlace, SpoiledFrom, LaidDown, Gives, Widens, Longer, Lays, Calls, Displays}
-use Rattle.calls.proofs.Spoiling.{item-only, not-item, read-clean, read-spoiled}
+use Rattle.calls.specs.Calls.{lineLimit, roomed, filled, ifPrintable, answeredIn, read, readBuffer, answered, asLine, display, displayBuffer, displayed}
+use Rattle.calls.specs.code.Given.{refusedWith, atStart, readFrom, itemFrom, firstOf, outgrown, firstForm, lastForm, roomIn, widened, unprintableAt, replacedBy, inPlace, UnprintableFrom, LaidDown, Gives, Widens, Longer, Lays, Calls, Displays}
+use Rattle.calls.proofs.Unprintables.{item-only, not-item, read-clean, read-unprintable}
 
 -- an item by its kind: which reader reads it
-module _ (kind : ℕ) (a : Token) where
+module _ (kind : ℕ) (a : Lexeme) where
   pub kind-name : kind ≡ 1 → readKind kind a ≡ chain a
   unfolding readKind when
   kind-name k = rw (eq-eqb kind 1 k)
@@ -126,7 +126,7 @@ made-in xs z made n w e f h =
 
 -- writing an item that is accepted
 module _ (form : ℕ) (ask : Asked) (a : First) (l m : List ℕ) where
-  again : (r : Parsed) → LaidDown form ask a l r m → Fits (ask .text) a → (x : Tree) (t : Token) → itemFrom ask a ≡ item x t → m ≡ sets l 0 (written form x)
+  again : (r : Parsed) → LaidDown form ask a l r m → Fits (ask .text) a → (x : Tree) (t : Lexeme) → itemFrom ask a ≡ item x t → m ≡ sets l 0 (written form x)
   again (Read p) d f x t i =
       let v = item-laid form ask a l m f p d in
       v .bytes .holds ∙ ap (λ (z : Tree). sets l 0 (written form z)) (item-only (v .what) x (held (ask .edition) (ask .text) (p .next)) t (sym (v .is) ∙ i))
@@ -141,7 +141,7 @@ module _ (form : Tree → ℕ) (room : ℕ) (i : Item) (l : List ℕ) where
   unfolding roomed filled answeredIn
   gives-refused a r e f = gives-by (refused r) a l (ap (roomed form room) e) f refl
 
-  module _ (x : Tree) (t : Token) (e : i ≡ item x t) where
+  module _ (x : Tree) (t : Lexeme) (e : i ≡ item x t) where
     gives-long : (a : Answer) → room < length (written (form x) x) → a ≡ Rejected (refusal 4 0 0) → Gives form room i l a l
     unfolding roomed filled answeredIn when
     gives-long a h f = gives-by (refused (refusal 4 0 0)) a l (ap (roomed form room) e ∙ rw (lt-ltb room (length (written (form x) x)) h)) f refl
@@ -156,7 +156,7 @@ module _ (form form₂ : Tree → ℕ) (room : ℕ) (l : List ℕ) where
   abbrev Alike : Item → Type 0
   Alike i = (answeredIn form (roomed form room i) ≡ answeredIn form₂ (roomed form₂ room i)) × (filled form (roomed form room i) l ≡ filled form₂ (roomed form₂ room i) l)
 
-  alike : (x : Tree) (t : Token) → form x ≡ form₂ x → Alike (item x t)
+  alike : (x : Tree) (t : Lexeme) → form x ≡ form₂ x → Alike (item x t)
   unfolding roomed filled answeredIn when
   alike x t e = rw e (go (ltb room (length (written (form₂ x) x))))
     where
@@ -165,7 +165,7 @@ module _ (form form₂ : Tree → ℕ) (room : ℕ) (l : List ℕ) where
       go true = (refl, refl)
       go false = rw e (refl, refl)
 
-  gives-as : (i : Item) (r : Answer) (m : List ℕ) → ((x : Tree) (t : Token) → i ≡ item x t → form x ≡ form₂ x) → Gives form room i l r m → Gives form₂ room i l r m
+  gives-as : (i : Item) (r : Answer) (m : List ℕ) → ((x : Tree) (t : Lexeme) → i ≡ item x t → form x ≡ form₂ x) → Gives form room i l r m → Gives form₂ room i l r m
   unfolding roomed filled answeredIn
   gives-as (item x t) r m h w = let q = alike x t (h x t refl) in record { answer = w .answer ∙ q .0; buffer = w .buffer ∙ q .1 }
   gives-as (refused q) r m h w = record { answer = w .answer; buffer = w .buffer }
@@ -306,13 +306,13 @@ module _ (form : ℕ) (ask : Asked) (first : Lexed) (l : List ℕ) (fault : Faul
     call-bad r b f =
         let d = in-order ask (sym e ∙ h) in
         gives-refused (lastForm form) (roomIn form (length l)) (readItem ask) l (Rejected r) r
-        (item-goes ∙ ap (λ (y : Scanned). finished (look y (readKind (ask .kind)))) (next-refused (ask .edition) (ask .text) (ask .at) (d .short) (d .inside) r (sym f ∙ b))) refl
+        (item-goes ∙ ap (λ (y : LexResult). finished (look y (readKind (ask .kind)))) (next-refused (ask .edition) (ask .text) (ask .at) (d .short) (d .inside) r (sym f ∙ b))) refl
 
     pub call-found : (a : First) (r : Answer) (m : List ℕ) → first ≡ Found a → Lays form ask a l r m → Calls form ask first l r m
     unfolding look
     call-found a r m b u f =
         let n = next-found (ask .edition) (ask .text) (ask .at) a (sym f ∙ b) in
-        let i : readItem ask ≡ itemFrom ask a = item-goes ∙ ap (λ (y : Scanned). finished (look y (readKind (ask .kind)))) (n .is) in
+        let i : readItem ask ≡ itemFrom ask a = item-goes ∙ ap (λ (y : LexResult). finished (look y (readKind (ask .kind)))) (n .is) in
         subst (λ (j : Item). Gives (lastForm form) (roomIn form (length l)) j l r m) (sym i) (u (n .fits))
 
 -- the line's length alone
@@ -350,11 +350,11 @@ module _ (ask : Asked) (first : Lexed) (l m : List ℕ) where
   line-displayed (item x t) = refl
   line-displayed (refused r) = refl
 
-  -- where nothing spoils the line, the display is the call
-  pub display-given : (b : ℕ) → b ≡ spoiledAt (ask .kind) (ask .text) first → length (ask .text) ≤ b → (d : Answer) (r : Displayed) → Calls FormLine ask first l d m → r ≡ lineOf d → Displays ask first l r m
+  -- where no byte is unprintable, the display is the call
+  pub display-given : (b : ℕ) → b ≡ unprintableAt (ask .kind) (ask .text) first → length (ask .text) ≤ b → (d : Answer) (r : Displayed) → Calls FormLine ask first l d m → r ≡ lineOf d → Displays ask first l r m
   unfolding display displayBuffer
   display-given b g h d r w e =
-      let z : first ≡ firstOf ask → readItem ask ≡ unspoiled (readItem ask) = λ f. sym (read-clean ask first f b g h) in
+      let z : first ≡ firstOf ask → readItem ask ≡ ifPrintable (readItem ask) = λ f. sym (read-clean ask first f b g h) in
       let k : ℕ = min (length l) lineLimit in
       record {
         answer = λ f. e ∙ ap lineOf (w f .answer) ∙ line-displayed (roomed asLine k (readItem ask)) ∙ ap (λ (i : Item). displayed (roomed asLine k i)) (z f);
@@ -380,15 +380,15 @@ module _ (ask : Asked) (first : Lexed) (q : Refusal) (l m : List ℕ) where
       go true h = false-true _ (subst (λ (n : ℕ). among readRefusals n ≡ true) (eqb-true (r .number) NoRoom h) (item-refusals ask r e))
       go false h = refl
 
-  pub spoiled-given : (d : Answer) (r : Displayed) → Calls FormLine ask first l d m → r ≡ saidOf q d → SpoiledFrom ask first q r
-  spoiled-given d r w e f = e ∙ ap (saidOf q) (w f .answer) ∙ said (readItem ask) refl
+  pub unprintable-given : (d : Answer) (r : Displayed) → Calls FormLine ask first l d m → r ≡ saidOf q d → UnprintableFrom ask first q r
+  unprintable-given d r w e f = e ∙ ap (saidOf q) (w f .answer) ∙ said (readItem ask) refl
 
--- where a byte spoils the line, it is refused there
-pub display-spoiled : (ask : Asked) (first : Lexed) (l : List ℕ) (b : ℕ) → b ≡ spoiledAt (ask .kind) (ask .text) first → b < length (ask .text)
-    → (q : Refusal) → q ≡ refusal LineSpoiled b (b + 1) → (r : Displayed) → SpoiledFrom ask first q r → Displays ask first l r l
+-- where a byte is unprintable, it is refused there
+pub display-unprintable : (ask : Asked) (first : Lexed) (l : List ℕ) (b : ℕ) → b ≡ unprintableAt (ask .kind) (ask .text) first → b < length (ask .text)
+    → (q : Refusal) → q ≡ refusal LineUnprintable b (b + 1) → (r : Displayed) → UnprintableFrom ask first q r → Displays ask first l r l
 unfolding display displayBuffer roomed filled inPlace
-display-spoiled ask first l b g h q e r w =
-    let z : first ≡ firstOf ask → unspoiled (readItem ask) ≡ inPlace q (readItem ask) = λ f. read-spoiled ask first f b g h q e in
+display-unprintable ask first l b g h q e r w =
+    let z : first ≡ firstOf ask → ifPrintable (readItem ask) ≡ inPlace q (readItem ask) = λ f. read-unprintable ask first f b g h q e in
     let y : (i : Item) → roomed asLine (min (length l) lineLimit) (inPlace q i) ≡ inPlace q i = roomed-in-place q in
     let x : (i : Item) → filled asLine (inPlace q i) l ≡ l = filled-in-place q in
     record {

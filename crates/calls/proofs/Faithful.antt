@@ -8,7 +8,7 @@ use native.Mathlib.Omega.{arith}
 use lib.ListN.{length, take, drop}
 use Rattle.records.specs.Tree.{Tree}
 use Rattle.records.specs.Stored.{stored, unspelled, records}
-use Rattle.sources.specs.Source.{Token}
+use Rattle.sources.specs.Source.{Lexeme}
 use Rattle.grammar.specs.Items.{item, Asked, readItem}
 use Rattle.forms.specs.Forms.{FormNarrow, FormWide, front, written, narrowLimit, formOf, treeRoom, Fitting}
 use Rattle.forms.proofs.Constructs.{written-stored}
@@ -17,7 +17,7 @@ use Rattle.frames.proofs.Faithful.{item-room, item-fitting, item-faithful}
 use Rattle.calls.specs.Calls.{roomed, filled, read, readBuffer}
 use Rattle.calls.proofs.Room.{roomed-fits, room-for}
 
-module _ (q : Asked) (x : Tree) (t : Token) where
+module _ (q : Asked) (x : Tree) (t : Lexeme) where
   -- the item of an accepted read
   pub read-item : (room : ℕ) → read q room ≡ item x t → readItem q ≡ item x t
   unfolding read
@@ -53,6 +53,6 @@ module _ (q : Asked) (x : Tree) (t : Token) where
   room-enough room e h = ap (roomed (formOf (q .text)) room) e ∙ room-for (formOf (q .text)) room x t (omega (arith, item-room q x t e, h))
 
 -- reads of any texts, offsets, kinds and editions that write the same bytes have the same form and the same records
-pub read-faithful : (q q₂ : Asked) (room room₂ : ℕ) (x x₂ : Tree) (t t₂ : Token) → read q room ≡ item x t → read q₂ room₂ ≡ item x₂ t₂
+pub read-faithful : (q q₂ : Asked) (room room₂ : ℕ) (x x₂ : Tree) (t t₂ : Lexeme) → read q room ≡ item x t → read q₂ room₂ ≡ item x₂ t₂
     → written (formOf (q .text) x) x ≡ written (formOf (q₂ .text) x₂) x₂ → (formOf (q .text) x ≡ formOf (q₂ .text) x₂) × (unspelled x ≡ unspelled x₂)
 read-faithful q q₂ room room₂ x x₂ t t₂ e e₂ p = item-faithful q q₂ x x₂ t t₂ (read-item q x t room e) (read-item q₂ x₂ t₂ room₂ e₂) p

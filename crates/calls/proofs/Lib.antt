@@ -1,4 +1,4 @@
-pub mod Spoiling
+pub mod Unprintables
 pub mod Room
 pub mod RefusalSets
 pub mod Faithful

@@ -2,7 +2,7 @@
 use mathlib.Core.Path.{_≡_, refl, subst}
 use mathlib.Core.Bool.{true}
 use mathlib.Core.List.{List}
-use mathlib.Core.Option.{Option, some, none as clean}
+use Rattle.forms.specs.Unprintable.{FirstByte, clean, foundAt}
 use Prim.Native.Nat.{ℕ, min}
 use lib.Dec.{ltb}
 use lib.ListN.{length}
@@ -13,9 +13,9 @@ use Rattle.records.specs.Tree.{Tree}
 use Rattle.answers.proofs.Sure.{when-sure}
 use Rattle.grammar.specs.Items.{Item, item, refused, Asked, readItem}
 use Rattle.forms.specs.Forms.{written, formOf}
-use Rattle.forms.specs.Spoiled.{spoiled}
+use Rattle.forms.specs.Unprintable.{unprintable}
 use Rattle.frames.proofs.Faithful.{readRefusals, Told, item-told}
-use Rattle.calls.specs.Calls.{itemRefusals, displayRefusals, lineLimit, roomed, unlessSpoiled, unspoiled, read, asLine, display}
+use Rattle.calls.specs.Calls.{itemRefusals, displayRefusals, lineLimit, roomed, unlessUnprintable, ifPrintable, read, asLine, display}
 
 abbrev Met : List ℕ → Item → Type 0
 Met set (item x t) = Unit {0}
@@ -31,14 +31,14 @@ told-met : (set : List ℕ) → subset readRefusals set ≡ true → (text : Lis
 told-met set g text (item x t) h = tt
 told-met set g text (refused r) h = among-subset readRefusals set g (r .number) h
 
-unspoiled-met : (i : Item) → Met displayRefusals i → Met displayRefusals (unspoiled i)
-unfolding unspoiled unlessSpoiled among
-unspoiled-met (item x t) h = go (spoiled x)
+if-printable-met : (i : Item) → Met displayRefusals i → Met displayRefusals (ifPrintable i)
+unfolding ifPrintable unlessUnprintable among
+if-printable-met (item x t) h = go (unprintable x)
   where
-    go : (o : Option ℕ) → Met displayRefusals (unlessSpoiled o (item x t))
+    go : (o : FirstByte) → Met displayRefusals (unlessUnprintable o (item x t))
     go clean = tt
-    go (some b) = refl
-unspoiled-met (refused r) h = h
+    go (foundAt b) = refl
+if-printable-met (refused r) h = h
 
 pub read-refusals : (q : Asked) (room : ℕ) (r : Refusal) → read q room ≡ refused r → among itemRefusals (r .number) ≡ true
 unfolding read subset among
@@ -49,4 +49,4 @@ pub display-refusals : (q : Asked) (room : ℕ) (r : Refusal) → display q room
 unfolding display subset among
 display-refusals q room r e =
     subst (Met displayRefusals) e
-    (roomed-met displayRefusals asLine (min room lineLimit) (unspoiled (readItem q)) refl (unspoiled-met (readItem q) (told-met displayRefusals refl (q .text) (readItem q) (item-told q))))
+    (roomed-met displayRefusals asLine (min room lineLimit) (ifPrintable (readItem q)) refl (if-printable-met (readItem q) (told-met displayRefusals refl (q .text) (readItem q) (item-told q))))

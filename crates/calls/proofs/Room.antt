@@ -10,7 +10,7 @@ use lib.ListN.{length}
 use Rattle.tokens.specs.Answers.{refusal}
 use Rattle.tokens.specs.declared.Refusal.{Refusal}
 use Rattle.records.specs.Tree.{Tree}
-use Rattle.sources.specs.Source.{Token}
+use Rattle.sources.specs.Source.{Lexeme}
 use Rattle.answers.specs.Reading.{when}
 use Rattle.grammar.specs.Items.{Item, item, refused}
 use Rattle.forms.specs.Forms.{written}
@@ -21,7 +21,7 @@ IsItem (item x t) = Unit {0}
 IsItem (refused r) = ⊥
 
 -- what a choice between a refusal and an item says where it is an item
-chosen : (b : Bool) (r : Refusal) (i : Item) (x : Tree) (t : Token) → when b (λ _. refused r) (λ _. i) ≡ item x t → (b ≡ false) × (i ≡ item x t)
+chosen : (b : Bool) (r : Refusal) (i : Item) (x : Tree) (t : Lexeme) → when b (λ _. refused r) (λ _. i) ≡ item x t → (b ≡ false) × (i ≡ item x t)
 unfolding when
 chosen true r i x t e = absurd (subst IsItem (sym e) tt)
 chosen false r i x t e = (refl, e)
@@ -32,7 +32,7 @@ module _ (form : Tree → ℕ) where
   of d (item x t) = written (form x) x
   of d (refused r) = d
 
-  pub roomed-fits : (room : ℕ) (i : Item) (x : Tree) (t : Token) → roomed form room i ≡ item x t → (i ≡ item x t) × (length (written (form x) x) ≤ room)
+  pub roomed-fits : (room : ℕ) (i : Item) (x : Tree) (t : Lexeme) → roomed form room i ≡ item x t → (i ≡ item x t) × (length (written (form x) x) ≤ room)
   unfolding roomed
   roomed-fits room (item y u) x t e =
       let n : ℕ = length (written (form y) y) in
@@ -40,11 +40,11 @@ module _ (form : Tree → ℕ) where
       (c .1, subst (λ (i : Item). length (of (written (form y) y) i) ≤ room) (c .1) (ltb-false room n (c .0)))
   roomed-fits room (refused r) x t e = absurd (subst IsItem (sym e) tt)
 
-  pub room-for : (room : ℕ) (x : Tree) (t : Token) → length (written (form x) x) ≤ room → roomed form room (item x t) ≡ item x t
+  pub room-for : (room : ℕ) (x : Tree) (t : Lexeme) → length (written (form x) x) ≤ room → roomed form room (item x t) ≡ item x t
   unfolding roomed when
   room-for room x t h = rw (le-ltb room (length (written (form x) x)) h)
 
-  pub more-room : (room room₂ : ℕ) (i : Item) (x : Tree) (t : Token) → room ≤ room₂ → roomed form room i ≡ item x t → roomed form room₂ i ≡ item x t
+  pub more-room : (room room₂ : ℕ) (i : Item) (x : Tree) (t : Lexeme) → room ≤ room₂ → roomed form room i ≡ item x t → roomed form room₂ i ≡ item x t
   unfolding roomed when
   more-room room room₂ i x t h e =
       let f = roomed-fits room i x t e in

@@ -1,19 +1,19 @@
 -- The read call and the display call, for every text, offset, kind number, edition number and buffer, over the form in which the tree of
 -- an item is written, which for a read the text and the tree decide. What is left of a call is its form, its room and its answer, and of a
--- display that nothing spoils the line.
+-- display that no byte of its line is unprintable.
 use Prim.Native.Nat.{ℕ, _+_, min}
 use mathlib.Core.List.{List, [], _∷_, _++_}
-use mathlib.Core.Option.{Option, some, none as clean}
+use Rattle.forms.specs.Unprintable.{FirstByte, clean, foundAt}
 use lib.Dec.{ltb}
 use lib.ListN.{length, drop}
-use Rattle.tokens.specs.Refusals.{NoRoom, NoToken, CommentNotClosed, HexStringNotClosed, ByteStringNotClosed, StringNotAscii, UnexpectedToken, CommaForItem, ListNotClosed, NoValue, TooDeep, LineSpoiled}
+use Rattle.tokens.specs.Refusals.{NoRoom, NoToken, CommentNotClosed, HexStringNotClosed, ByteStringNotClosed, StringNotAscii, UnexpectedToken, CommaForItem, ListNotClosed, NoValue, TooDeep, LineUnprintable}
 use Rattle.tokens.specs.Answers.{refusal, places}
 use Rattle.records.specs.Tree.{Tree}
 use Rattle.sources.specs.Source.{tokenOf}
 use Rattle.answers.specs.Reading.{when}
 use Rattle.grammar.specs.Items.{Item, item, refused, Asked, faultRefusals, readItem}
 use Rattle.forms.specs.Forms.{FormLine, written, formOf}
-use Rattle.forms.specs.Spoiled.{spoiled}
+use Rattle.forms.specs.Unprintable.{unprintable}
 use Rattle.calls.specs.declared.Answer.{Answer}
 use Rattle.calls.specs.declared.Answer.the-variants.{Item as Accepted, Refused as Rejected}
 use Rattle.calls.specs.declared.Displayed.{Displayed}
@@ -27,7 +27,7 @@ itemRefusals =
     ∷ UnexpectedToken ∷ CommaForItem ∷ ListNotClosed ∷ NoValue ∷ TooDeep ∷ [])
 
 abbrev pub displayRefusals : List ℕ
-displayRefusals = LineSpoiled ∷ itemRefusals
+displayRefusals = LineUnprintable ∷ itemRefusals
 
 -- the longest line
 abbrev pub lineLimit : ℕ
@@ -43,14 +43,14 @@ unfoldable pub filled : (Tree → ℕ) → Item → List ℕ → List ℕ
 filled form (item x t) out = written (form x) x ++ drop (length (written (form x) x)) out
 filled form (refused r) out = out
 
--- refusal 18, of an item that was read: at the first byte that spoils its line
-unfoldable pub unlessSpoiled : Option ℕ → Item → Item
-unlessSpoiled clean i = i
-unlessSpoiled (some b) i = refused (refusal LineSpoiled b (b + 1))
+-- refusal 18, of an item that was read: at its first unprintable byte
+unfoldable pub unlessUnprintable : FirstByte → Item → Item
+unlessUnprintable clean i = i
+unlessUnprintable (foundAt b) i = refused (refusal LineUnprintable b (b + 1))
 
-unfoldable pub unspoiled : Item → Item
-unspoiled (item x t) = unlessSpoiled (spoiled x) (item x t)
-unspoiled (refused r) = refused r
+unfoldable pub ifPrintable : Item → Item
+ifPrintable (item x t) = unlessUnprintable (unprintable x) (item x t)
+ifPrintable (refused r) = refused r
 
 -- the length in its form and the token that follows, or the refusal
 unfoldable pub answeredIn : (Tree → ℕ) → Item → Answer
@@ -81,7 +81,7 @@ abbrev pub asLine : Tree → ℕ
 asLine t = FormLine
 
 unfoldable pub display : Asked → ℕ → Item
-display q room = roomed asLine (min room lineLimit) (unspoiled (readItem q))
+display q room = roomed asLine (min room lineLimit) (ifPrintable (readItem q))
 
 unfoldable pub displayBuffer : Asked → List ℕ → List ℕ
 displayBuffer q out = filled asLine (display q (length out)) out

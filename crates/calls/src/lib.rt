@@ -8,7 +8,7 @@ ghost use Rattle.grammar.specs.Items.{readKind, asked, noKind, faultOf};
 ghost use Rattle.forms.specs.Forms.{narrowLimit};
 ghost use Rattle.parts.specs.code.Meets.{Fits, held, Reads};
 ghost use Rattle.calls.specs.Calls.{answered, readBuffer, displayed, displayBuffer};
-ghost use Rattle.calls.specs.code.Given.{refusedWith, atStart, firstForm, roomIn, shownEnd, spoiledValue, spoiledAt, replacedBy, SpoiledFrom, LaidDown, Widens, Longer, Lays, answerOf, bufferOf, Calls, Displays};
+ghost use Rattle.calls.specs.code.Given.{refusedWith, atStart, firstForm, roomIn, shownEnd, unprintableValue, unprintableAt, replacedBy, UnprintableFrom, LaidDown, Widens, Longer, Lays, answerOf, bufferOf, Calls, Displays};
 use classes::SHOWN;
 use forms::FORM_LINE;
 use forms::FORM_NARROW;
@@ -21,7 +21,7 @@ use tokens::Fault;
 use tokens::Lexed;
 use tokens::Refusal;
 use tokens::Token;
-use tokens::refusals::LINE_SPOILED;
+use tokens::refusals::LINE_UNPRINTABLE;
 use tokens::refusals::NO_ROOM;
 use tokens::refusals::NO_SUCH_KIND;
 use words::kinds::BYTE_STRING_VALUE;
@@ -355,10 +355,10 @@ fn shown_end(text: &[u8], a: Token) -> usize
     classes::run_end(SHOWN, text, a.start)
 }
 
-// Where the first byte stands that spoils the line of the value whose first token is a: of a string, which is
+// Where the first unprintable byte stands of the value whose first token is a: of a string, which is
 // that token. The text's length where none does.
-fn spoiled_value(text: &[u8], a: Token) -> usize
-    ensures { λ r. ⌜ r ≡ spoiledValue (now (text .entry)) a ⌝ }
+fn unprintable_value(text: &[u8], a: Token) -> usize
+    ensures { λ r. ⌜ r ≡ unprintableValue (now (text .entry)) a ⌝ }
 {
     if a.kind != BYTE_STRING_VALUE {
         return text.len();
@@ -371,15 +371,15 @@ fn spoiled_value(text: &[u8], a: Token) -> usize
 }
 
 // The same of an item of any kind, with the token that was found where it begins: values alone have strings.
-fn spoiled_at(kind: u64, text: &[u8], first: Lexed) -> usize
-    ensures { λ r. ⌜ r ≡ spoiledAt kind (now (text .entry)) first ⌝ }
+fn unprintable_at(kind: u64, text: &[u8], first: Lexed) -> usize
+    ensures { λ r. ⌜ r ≡ unprintableAt kind (now (text .entry)) first ⌝ }
 {
     if kind != VALUE {
         return text.len();
     }
     match first {
         Lexed::Refused(_) => text.len(),
-        Lexed::Found(a) => spoiled_value(text, a),
+        Lexed::Found(a) => unprintable_value(text, a),
     }
 }
 
@@ -394,7 +394,7 @@ fn replaced(q: Refusal, r: Refusal) -> Displayed
 }
 
 // The display of an item that has no line: refused with q where it is read. It is read without room.
-fn spoiled_from(
+fn unprintable_from(
     kind: u64,
     edition: u64,
     text: &[u8],
@@ -402,7 +402,7 @@ fn spoiled_from(
     first: Lexed,
     q: Refusal,
 ) -> Displayed
-    ensures { λ d. ⌜ SpoiledFrom (asked kind edition (now (text .entry)) at) first q d ⌝ }
+    ensures { λ d. ⌜ UnprintableFrom (asked kind edition (now (text .entry)) at) first q d ⌝ }
 {
     let mut none = [0u8; 1];
     let d = call(FORM_LINE, kind, edition, text, at, first, &mut none);
@@ -423,15 +423,15 @@ fn display_from(
 ) -> Displayed
     ensures { λ r. ⌜ Displays (asked kind edition (now (text .entry)) at) first (now (line .entry)) r (now (line .exit)) ⌝ }
 {
-    let b = spoiled_at(kind, text, first);
+    let b = unprintable_at(kind, text, first);
     if b < text.len() {
-        return spoiled_from(
+        return unprintable_from(
             kind,
             edition,
             text,
             at,
             first,
-            tokens::refuse(LINE_SPOILED, b, b + 1),
+            tokens::refuse(LINE_UNPRINTABLE, b, b + 1),
         );
     }
     let d = call(FORM_LINE, kind, edition, text, at, first, line);

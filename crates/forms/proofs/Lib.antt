@@ -1,7 +1,7 @@
 pub mod Placing
 pub mod Copying
 pub mod Constructs
-pub mod Spoils
+pub mod Unprintables
 pub mod Sizes
 pub mod Injective
 pub mod Apart

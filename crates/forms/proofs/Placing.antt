@@ -10,7 +10,7 @@ use lib.Dec.{ltb}
 use lib.ListN.{length, length-append}
 use lib.Seq.{sets, length-sets}
 use Rattle.buffer.proofs.Sets.{sets-append, sets-out}
-use Rattle.records.specs.Stored.{two, span, header, number, headOf}
+use Rattle.records.specs.Stored.{two, span, header, littleEndian, headOf}
 use Rattle.records.proofs.Numbers.{number-turns, head-long as long-head}
 use Rattle.records.proofs.Runs.{sets-below}
 use Rattle.forms.specs.Forms.{FormNarrow, FormLine, isLine, isNarrow, head, headSize, width, markIn, headed}
@@ -48,18 +48,18 @@ low-narrow : (n c k s e : ℕ) → headOf 2 (n % wide + c) k s e ≡ headOf 2 (n
 unfolding headOf
 low-narrow n c k s e =
     let d : n + c ≡ n % wide + c + 65536 * (65536 * (n / wide)) = omega arith in
-    ap (λ (x : List ℕ). x ++ (number 2 k ++ (number 2 s ++ number 2 e))) (sym (number-turns 2 (n % wide + c) (65536 * (n / wide))) ∙ ap (number 2) (sym d))
+    ap (λ (x : List ℕ). x ++ (littleEndian 2 k ++ (littleEndian 2 s ++ littleEndian 2 e))) (sym (number-turns 2 (n % wide + c) (65536 * (n / wide))) ∙ ap (littleEndian 2) (sym d))
 
 low-wide : (n c k s e : ℕ) → headOf 4 (n % wide + c) k s e ≡ headOf 4 (n + c) k s e
 unfolding headOf
 low-wide n c k s e =
     let d : n + c ≡ n % wide + c + wide * (n / wide) = omega arith in
-    ap (λ (x : List ℕ). x ++ (number 2 k ++ (number 4 s ++ number 4 e))) (sym (number-turns 4 (n % wide + c) (n / wide)) ∙ ap (number 4) (sym d))
+    ap (λ (x : List ℕ). x ++ (littleEndian 2 k ++ (littleEndian 4 s ++ littleEndian 4 e))) (sym (number-turns 4 (n % wide + c) (n / wide)) ∙ ap (littleEndian 4) (sym d))
 
 -- as the code writes it
 module _ (f n k s e : ℕ) where
   pub head-as-narrow : f ≡ FormNarrow → header (n % wide + 8) k s e ≡ head f n k s e
-  unfolding head headSize width header span two headOf number
+  unfolding head headSize width header span two headOf littleEndian
   head-as-narrow h = rw h (low-narrow n 8 k s e)
 
   pub head-none : f ≡ FormLine → [] ≡ head f n k s e

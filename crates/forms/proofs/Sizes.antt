@@ -8,7 +8,7 @@ use native.Mathlib.Nat.{mul-zero, mul-one, mul-suc, mul-add}
 use lib.ListN.{length, take, length-append}
 use lib.Seq.{take-append-seam}
 use Rattle.records.specs.Tree.{Tree, leaf, node, Trees, none, more, build, builds}
-use Rattle.records.specs.Stored.{number, headOf, stored, counted, countedAll, records}
+use Rattle.records.specs.Stored.{littleEndian, headOf, stored, counted, countedAll, records}
 use Rattle.records.proofs.Numbers.{number-long}
 use Rattle.forms.specs.Forms.{FormNarrow, FormWide, isLine, front, headSize, width, head, recorded, recordedAll, laid, written}
 use Rattle.forms.proofs.Placing.{head-long}
@@ -42,21 +42,21 @@ module _ (f : ℕ) where
     unfolding head
     head-is n k s e = rw h
 
-    first : (n k s e : ℕ) (xs : List ℕ) → take (width f) (head f n k s e ++ xs) ≡ number (width f) (n + headSize f)
+    first : (n k s e : ℕ) (xs : List ℕ) → take (width f) (head f n k s e ++ xs) ≡ littleEndian (width f) (n + headSize f)
     unfolding headOf
     first n k s e xs =
         let w : ℕ = width f in
-        let a : List ℕ = number w (n + headSize f) in
-        let b : List ℕ = number 2 k ++ (number w s ++ number w e) in
+        let a : List ℕ = littleEndian w (n + headSize f) in
+        let b : List ℕ = littleEndian 2 k ++ (littleEndian w s ++ littleEndian w e) in
         ap (λ (x : List ℕ). take w (x ++ xs)) (head-is n k s e) ∙ ap (take w) (append-assoc a b xs) ∙ rw (number-long w (n + headSize f)) at (take-append-seam a (b ++ xs))
 
     -- the first bytes of a record are the length of its bytes
-    pub record-length : (t : Tree) → take (width f) (recorded f t) ≡ number (width f) (length (recorded f t))
+    pub record-length : (t : Tree) → take (width f) (recorded f t) ≡ littleEndian (width f) (length (recorded f t))
     unfolding recorded
-    record-length (leaf k s e w) = ap (take (width f)) (sym (append-nil (head f 0 k s e))) ∙ first 0 k s e [] ∙ ap (number (width f)) (omega (arith, head-long f 0 k s e))
+    record-length (leaf k s e w) = ap (take (width f)) (sym (append-nil (head f 0 k s e))) ∙ first 0 k s e [] ∙ ap (littleEndian (width f)) (omega (arith, head-long f 0 k s e))
     record-length (node k s e ts) =
         let n : ℕ = length (recordedAll f ts) in
-        first n k s e (recordedAll f ts) ∙ ap (number (width f)) (omega (arith, head-long f n k s e, length-append (head f n k s e) (recordedAll f ts)))
+        first n k s e (recordedAll f ts) ∙ ap (littleEndian (width f)) (omega (arith, head-long f n k s e, length-append (head f n k s e) (recordedAll f ts)))
 
 pub narrow-size : (t : Tree) → length (stored t) ≡ 8 * records t
 unfolding front headSize

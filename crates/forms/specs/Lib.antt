@@ -1,4 +1,4 @@
 pub mod Line
-pub mod Spoiled
+pub mod Unprintable
 pub mod Forms
 pub mod code

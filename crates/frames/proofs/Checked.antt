@@ -6,11 +6,11 @@ use mathlib.Core.List.{List, [], _∷_, _++_}
 use Prim.Native.Nat.{ℕ, zero, suc, _+_, _-_, _<_, _≤_}
 use native.Mathlib.Omega.{arith}
 use Rattle.tokens.specs.Refusals.{UnexpectedToken, CommaForItem, ListNotClosed, NoValue, TooDeep, among, lexRefusals}
-use Rattle.tokens.specs.Token.{Scanned as Lexing, tok as found, bad as faulty, lex as lexFrom}
+use Rattle.tokens.specs.Token.{Scanned, tok as found, bad as faulty, scan}
 use Rattle.tokens.proofs.RefusalSets.{subset, among-subset, LexMet, lex-met}
 use Rattle.records.specs.Tree.{Tree, Trees}
 use Rattle.records.specs.Stored.{Kinds, KindsAll}
-use Rattle.sources.specs.Source.{Source, Token, Scanned, tok, bad, scanned, lex}
+use Rattle.sources.specs.Source.{Source, Lexeme, LexResult, tok, bad, scanned, lex}
 use Rattle.answers.specs.Reading.{Ans, ok, no, Reader}
 use Rattle.frames.specs.Related.{Step, Met, toks, bads, Rel, oks, nos, quit}
 use Rattle.frames.specs.Shape.{Shape, Alike, leaves, nodes, AllAlike, nones, mores, framed, Shapely, Strings}
@@ -23,23 +23,23 @@ textRefusals = lexRefusals ++ (UnexpectedToken ∷ CommaForItem ∷ ListNotClose
 abbrev frame : Shape
 frame = record { starts = λ a b. Unit {0}; ends = λ a b. Unit {0}; source = λ u v. u ≡ v; kind = λ c. c < 65536; word = λ k w s s₂. Unit {0}; number = λ n. among textRefusals n ≡ true; quits = λ _. ⊥ }
 
-abbrev pub TokenMet : Scanned → Type 0
+abbrev pub TokenMet : LexResult → Type 0
 TokenMet (tok t) = Unit {0}
 TokenMet (bad r) = among textRefusals (r .number) ≡ true
 
-scanned-met : (u : Source) (l : Lexing) → LexMet l → TokenMet (scanned u l)
+scanned-met : (u : Source) (l : Scanned) → LexMet l → TokenMet (scanned u l)
 unfolding scanned subset among
 scanned-met u (found k s e w r) h = tt
 scanned-met u (faulty r) h = among-subset lexRefusals textRefusals refl (r .number) h
 
 pub token-met : (u : Source) → TokenMet (lex u)
 unfolding lex
-token-met u = scanned-met u (lexFrom (u .edition) (u .at) (u .rest)) (lex-met (u .edition) (u .at) (u .rest))
+token-met u = scanned-met u (scan (u .edition) (u .at) (u .rest)) (lex-met (u .edition) (u .at) (u .rest))
 
-token-itself : (t : Token) → Step (framed frame) t t
+token-itself : (t : Lexeme) → Step (framed frame) t t
 token-itself t = record { kind = refl; spelled = refl; good = record { good = tt; from = tt; to = tt }; on = λ _. refl; half = λ _. refl }
 
-itself : (l : Scanned) → TokenMet l → Met (framed frame) l l
+itself : (l : LexResult) → TokenMet l → Met (framed frame) l l
 itself (tok t) h = toks (token-itself t)
 itself (bad r) h = bads (record { same = refl; good = h; from = tt; to = tt; from₂ = tt; to₂ = tt })
 
@@ -89,5 +89,5 @@ checked (oks x n) = tree-kinds x
 checked (nos d) = d .good
 checked (quit d) = absurd d
 
-pub checked-reader : (item : Reader) → Obeys item → (t : Token) → Checked (item t)
+pub checked-reader : (item : Reader) → Obeys item → (t : Lexeme) → Checked (item t)
 checked-reader item obeys t = checked (obeys frame law strings t t (token-itself t))

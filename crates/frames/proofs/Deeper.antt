@@ -6,7 +6,7 @@ use native.Mathlib.Omega.{arith}
 use Rattle.tokens.specs.Refusals.{TooDeep}
 use Rattle.tokens.specs.declared.Refusal.{Refusal}
 use Rattle.records.specs.Tree.{Tree, Trees}
-use Rattle.sources.specs.Source.{Source, Token, Scanned, tok, bad, lex}
+use Rattle.sources.specs.Source.{Source, Lexeme, LexResult, tok, bad, lex}
 use Rattle.answers.specs.Reading.{Ans, ok, no}
 use Rattle.grammar.specs.Types.{typeOver, brackets, readType}
 use Rattle.grammar.specs.Binds.{readField, readBind}
@@ -24,10 +24,10 @@ pub data Deeper {A : Type 0} : (a b : Ans A) → Type 0 where
 abbrev frame : Shape
 frame = record { starts = λ a b. a ≡ b; ends = λ a b. a ≡ b; source = λ u v. u ≡ v; kind = λ c. Unit {0}; word = λ k w s s₂. Unit {0}; number = λ n. Unit {0}; quits = λ r. r .number ≡ TooDeep }
 
-token-itself : (t : Token) → Step (framed frame) t t
+token-itself : (t : Lexeme) → Step (framed frame) t t
 token-itself t = record { kind = refl; spelled = refl; good = record { good = tt; from = refl; to = refl }; on = λ _. refl; half = λ _. refl }
 
-itself : (l : Scanned) → Met (framed frame) l l
+itself : (l : LexResult) → Met (framed frame) l l
 itself (tok t) = toks (token-itself t)
 itself (bad r) = bads (record { same = refl; good = tt; from = refl; to = refl; from₂ = refl; to₂ = refl })
 
@@ -78,8 +78,8 @@ bind-more (suc n) zero h i j a a₂ x = absurd (omega arith)
 bind-more (suc n) (suc m) h i j a a₂ x =
     bind-over-rel (framed frame) (law-of frame law) n (readType n) (readType m) (readField n (readBind n)) (readField m (readBind m)) (type-more n m (omega arith)) (field-more n m (omega arith) (bind-more n m (omega arith))) i j a a₂ x
 
-pub type-deeper : (n m : ℕ) → n ≤ m → (a : Token) → Deeper (readType n a) (readType m a)
+pub type-deeper : (n m : ℕ) → n ≤ m → (a : Lexeme) → Deeper (readType n a) (readType m a)
 type-deeper n m h a = deeper (type-more n m h _ _ a a (near (token-itself a)))
 
-pub bind-deeper : (n m : ℕ) → n ≤ m → (a : Token) → Deeper (readBind n a) (readBind m a)
+pub bind-deeper : (n m : ℕ) → n ≤ m → (a : Lexeme) → Deeper (readBind n a) (readBind m a)
 bind-deeper n m h a = deeper (bind-more n m h _ _ a a (near (token-itself a)))

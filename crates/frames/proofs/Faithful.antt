@@ -14,7 +14,7 @@ use Rattle.tokens.proofs.Faults.{unless-sure}
 use Rattle.tokens.proofs.RefusalSets.{subset, among-subset}
 use Rattle.records.specs.Tree.{Tree}
 use Rattle.records.specs.Stored.{unspelled, records, Kinds}
-use Rattle.sources.specs.Source.{opened, Token, Scanned, tok, bad, lex}
+use Rattle.sources.specs.Source.{opened, Lexeme, LexResult, tok, bad, lex}
 use Rattle.answers.specs.Reading.{Ans, ok, no, look}
 use Rattle.grammar.specs.Items.{Item, item, refused, readKind, followed, finished, Asked, faultOf, faultRefusals, reading, readItem}
 use Rattle.grammar.proofs.Asked.{fault-each, in-order}
@@ -39,13 +39,13 @@ of-text : (n : ℕ) → among textRefusals n ≡ true → among readRefusals n �
 unfolding subset among
 of-text n h = among-subset textRefusals readRefusals refl n h
 
-looked-checked : (kind : ℕ) (l : Scanned) → TokenMet l → Checked (look l (readKind kind))
+looked-checked : (kind : ℕ) (l : LexResult) → TokenMet l → Checked (look l (readKind kind))
 unfolding look
 looked-checked kind (tok t) h = checked-reader (readKind kind) (kind-obeys kind) t
 looked-checked kind (bad r) h = h
 
 module _ (text : List ℕ) (h : length text ≤ textLimit) where
-  followed-told : (x : Tree) (l : Scanned) → Kinds x → TokenMet l → Told text (followed x l)
+  followed-told : (x : Tree) (l : LexResult) → Kinds x → TokenMet l → Told text (followed x l)
   unfolding followed
   followed-told x (tok t) g m = (g, h)
   followed-told x (bad r) g m = of-text (r .number) m
@@ -65,7 +65,7 @@ item-told q =
 pub item-refusals : (q : Asked) (r : Refusal) → readItem q ≡ refused r → among readRefusals (r .number) ≡ true
 item-refusals q r e = subst (Told (q .text)) e (item-told q)
 
-module _ (q : Asked) (x : Tree) (t : Token) (e : readItem q ≡ item x t) where
+module _ (q : Asked) (x : Tree) (t : Lexeme) (e : readItem q ≡ item x t) where
   held : HeldItem (q .text) (q .at) x t
   held = subst (Held (q .text) (q .at)) e (item-held q)
 
@@ -96,7 +96,7 @@ module _ (q : Asked) (x : Tree) (t : Token) (e : readItem q ≡ item x t) where
           fitting-tree FormNarrow x (told .0) (held .nested) (omega (arith, held .follows, held .within, g .0)) (omega (arith, recorded-size FormNarrow x, g .1))
 
 -- items of any texts, offsets, kinds and editions that are written as the same bytes have the same form and the same records
-pub item-faithful : (q q₂ : Asked) (x x₂ : Tree) (t t₂ : Token) → readItem q ≡ item x t → readItem q₂ ≡ item x₂ t₂
+pub item-faithful : (q q₂ : Asked) (x x₂ : Tree) (t t₂ : Lexeme) → readItem q ≡ item x t → readItem q₂ ≡ item x₂ t₂
     → written (formOf (q .text) x) x ≡ written (formOf (q₂ .text) x₂) x₂ → (formOf (q .text) x ≡ formOf (q₂ .text) x₂) × (unspelled x ≡ unspelled x₂)
 item-faithful q q₂ x x₂ t t₂ e e₂ p =
     let s = same-form (q .text) (q₂ .text) x x₂ p in

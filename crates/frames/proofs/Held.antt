@@ -7,7 +7,7 @@ use Rattle.tokens.specs.Answers.{refusal}
 use Rattle.tokens.proofs.Faults.{unless-sure}
 use Rattle.records.specs.Tree.{Tree, startOf, endOf, Nested}
 use Rattle.records.specs.Stored.{stored}
-use Rattle.sources.specs.Source.{Source, opened, Token, start, end, Scanned, tok, bad, lex}
+use Rattle.sources.specs.Source.{Source, opened, Lexeme, start, end, LexResult, tok, bad, lex}
 use Rattle.sources.proofs.Standing.{Sound, lex-sound}
 use Rattle.answers.specs.Reading.{Ans, ok, no}
 use Rattle.answers.proofs.Sure.{Blamed, Read, Sure, standing-from, standing-tok, look-sure}
@@ -18,7 +18,7 @@ use Rattle.frames.proofs.Sure.{kind-sure}
 module _ (text : List ℕ) where
   -- an accepted item: its tree lies in the text from `at` on, its spans are nested, the token that follows stands behind it, and its
   -- stored form is no longer than 24 bytes a byte that was read; a refusal's places are in the text
-  pub record HeldItem (at : ℕ) (x : Tree) (n : Token) : Type 0 where
+  pub record HeldItem (at : ℕ) (x : Tree) (n : Lexeme) : Type 0 where
     pub from : at ≤ startOf x
     pub some : startOf x < endOf x
     pub follows : endOf x ≤ start n
@@ -35,7 +35,7 @@ module _ (text : List ℕ) where
     unfolding finished followed
     read-held s x v h d = go (lex v) (lex-sound v)
       where
-        go : (l : Scanned) → Sound v l → Held at (followed x l)
+        go : (l : LexResult) → Sound v l → Held at (followed x l)
         go (tok t) g =
             let k = standing-tok v t g (length text) (d .on .stops) in
             let f = standing-from v t g in

@@ -8,7 +8,7 @@ use lib.ListN.{length, take, drop}
 use Rattle.words.specs.Kinds.{GreaterGreater}
 use Rattle.words.specs.Tables.{longMarks, doubleMarks, singleMarks, marks}
 use Rattle.tokens.proofs.Spelled.{markKind, spelling}
-use Rattle.sources.specs.Source.{Source, Token, start, word, after, split, tok, lex}
+use Rattle.sources.specs.Source.{Source, Lexeme, start, word, after, split, tok, lex}
 use Rattle.sources.proofs.Standing.{Standing, Sound, lex-sound}
 use Rattle.answers.specs.Reading.{Reader, list, listBehind}
 use Rattle.answers.proofs.Further.{left, enough}
@@ -18,7 +18,7 @@ use Rattle.frames.proofs.Sure.{type-frugal, field-frugal, bind-frugal}
 
 -- any bound larger than the bytes left gives the same list
 abbrev pub Enough : Reader → Type 0
-Enough item = (close : ℕ) (o : Token) (f : ℕ) → left (after o) < f → listBehind item close o ≡ list item close o f (lex (after o))
+Enough item = (close : ℕ) (o : Lexeme) (f : ℕ) → left (after o) < f → listBehind item close o ≡ list item close o f (lex (after o))
 
 pub types-enough : (n : ℕ) → Enough (readType n)
 types-enough n close o f h = enough (readType n) (type-frugal n) close o f h
@@ -42,14 +42,14 @@ first-byte : (a n : ℕ) (w r : List ℕ) → take (suc n) r ≡ a ∷ w → r �
 first-byte a n w [] h = let z = ap length h in absurd (omega arith)
 first-byte a n w (b ∷ r) h = ap (λ (c : ℕ). c ∷ r) cc
 
-pub record Split (t : Token) : Type 0 where
+pub record Split (t : Lexeme) : Type 0 where
   pub both : word t ≡ 62 ∷ 62 ∷ []
   pub first : t .here .rest ≡ 62 ∷ split t .rest
   pub second : split t .rest ≡ 62 ∷ after t .rest
   pub here : split t .at ≡ start t + 1
   pub behind : after t .at ≡ split t .at + 1
 
-pub shift-split : (u : Source) (t : Token) → lex u ≡ tok t → t .kind ≡ GreaterGreater → Split t
+pub shift-split : (u : Source) (t : Lexeme) → lex u ≡ tok t → t .kind ≡ GreaterGreater → Split t
 shift-split u t l k =
     let d : Standing u t = subst (Sound u) l (lex-sound u) in
     let w : word t ≡ 62 ∷ 62 ∷ [] = d .marked (ap markKind k ∙ shift-mark) ∙ ap spelling k ∙ shift-word in

@@ -12,7 +12,7 @@ use Rattle.tokens.specs.declared.Fault.the-variants.{Faultless}
 use Rattle.tokens.proofs.Faults.{unless-not}
 use Rattle.records.specs.Tree.{Tree, Trees}
 use Rattle.records.specs.Raise.{raiseTree, raiseTrees}
-use Rattle.sources.specs.Source.{Source, opened, moved, Token, Scanned, tok, bad, lex}
+use Rattle.sources.specs.Source.{Source, opened, moved, Lexeme, LexResult, tok, bad, lex}
 use Rattle.sources.specs.Raise.{raiseSource, raiseToken, raiseScanned}
 use Rattle.sources.proofs.Raised.{past-raised, lex-raised}
 use Rattle.answers.specs.Reading.{Ans, ok, no, look, Reader}
@@ -28,7 +28,7 @@ module _ (k : ℕ) where
   abbrev frame : Shape
   frame = record { starts = λ a b. a ≡ k + b; ends = λ a b. a ≡ k + b; source = λ u v. u ≡ raiseSource k v; kind = λ _. Unit {0}; word = λ k w s s₂. Unit {0}; number = λ _. Unit {0}; quits = λ _. ⊥ }
 
-  token-raised : (t : Token) → Step (framed frame) (raiseToken k t) t
+  token-raised : (t : Lexeme) → Step (framed frame) (raiseToken k t) t
   token-raised t =
       record {
         kind = refl;
@@ -38,7 +38,7 @@ module _ (k : ℕ) where
         half = λ _. past-raised k 1 (t .here);
       }
 
-  raised : (l : Scanned) → Met (framed frame) (raiseScanned k l) l
+  raised : (l : LexResult) → Met (framed frame) (raiseScanned k l) l
   raised (tok t) = toks (token-raised t)
   raised (bad r) = bads (record { same = refl; good = tt; from = refl; to = refl; from₂ = refl; to₂ = refl })
 
@@ -76,15 +76,15 @@ module _ (k : ℕ) where
   answer-is (nos {r = r} {r₂ = r₂} d) = ap no (refusal-is r r₂ d)
   answer-is (quit d) = absurd d
 
-  pub raised-reader : (item : Reader) → Obeys item → (t : Token) → item (raiseToken k t) ≡ raiseAns raiseTree k (item t)
+  pub raised-reader : (item : Reader) → Obeys item → (t : Lexeme) → item (raiseToken k t) ≡ raiseAns raiseTree k (item t)
   raised-reader item obeys t = answer-is (obeys frame law strings (raiseToken k t) t (token-raised t))
 
-  looked-raised : (kind : ℕ) (l : Scanned) → look (raiseScanned k l) (readKind kind) ≡ raiseAns raiseTree k (look l (readKind kind))
+  looked-raised : (kind : ℕ) (l : LexResult) → look (raiseScanned k l) (readKind kind) ≡ raiseAns raiseTree k (look l (readKind kind))
   unfolding look raiseAns
   looked-raised kind (tok t) = raised-reader (readKind kind) (kind-obeys kind) t
   looked-raised kind (bad r) = refl
 
-  followed-raised : (x : Tree) (l : Scanned) → followed (raiseTree k x) (raiseScanned k l) ≡ raiseItem k (followed x l)
+  followed-raised : (x : Tree) (l : LexResult) → followed (raiseTree k x) (raiseScanned k l) ≡ raiseItem k (followed x l)
   unfolding followed raiseItem
   followed-raised x (tok t) = refl
   followed-raised x (bad r) = refl
@@ -105,5 +105,5 @@ item-from q e =
     let d : faultOf (ofText behind q) ≡ Faultless = of-text q behind e (omega (arith, length-drop at (q .text), in-order q e .short)) in
     let l : lex (opened (q .edition) (q .text) at) ≡ raiseScanned at (lex u) = ap (λ (p : ℕ). lex (moved (opened (q .edition) (q .text) at) p behind)) (sym (add-zero at)) ∙ lex-raised at u in
     unless-not refused (faultOf q) _ e
-    ∙ ap (λ (x : Scanned). finished (look x (readKind (q .kind)))) l ∙ ap finished (looked-raised at (q .kind) (lex u)) ∙ finished-raised at (look (lex u) (readKind (q .kind)))
+    ∙ ap (λ (x : LexResult). finished (look x (readKind (q .kind)))) l ∙ ap finished (looked-raised at (q .kind) (lex u)) ∙ finished-raised at (look (lex u) (readKind (q .kind)))
     ∙ ap (raiseItem at) (sym (unless-not refused (faultOf (ofText behind q)) _ d))

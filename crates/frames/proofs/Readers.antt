@@ -11,7 +11,7 @@ use Rattle.classes.proofs.Bools.{false-true}
 use Rattle.words.specs.Kinds.{NumValue, NumTypedValue, ByteStringValue, Identifier, ColonColon, False, True, AtSign, Amp, AmpMut, LParen, RParen, Colon, Less, Greater, Pipe, LBrace, RBrace}
 use Rattle.tokens.specs.Refusals.{TooDeep}
 use Rattle.records.specs.Tree.{Tree, Trees, behind, joined}
-use Rattle.sources.specs.Source.{Source, Token, word, after}
+use Rattle.sources.specs.Source.{Source, Lexeme, word, after}
 use Rattle.answers.specs.Reading.{ok, no, then, refusedAt, Reader, listBehind}
 use Rattle.grammar.specs.Names.{isFirst, lastPart, thirdPart, secondPart, chain}
 use Rattle.grammar.specs.Values.{leafKind, valueKind, leafValue, addressValue, value}
@@ -22,7 +22,7 @@ use Rattle.frames.specs.Related.{Sort, aName, aPair, aValue, aType, aFie
 use Rattle.frames.proofs.Ways.{goes, is, begins, marks, on, past, look-rel, when-rel, by-kind, then-rel, at-rel, unexpected-rel, also, behind-rel}
 
 -- the kinds of tokens that begin a name or are a value by themselves
-first-goes : (t : Token) → isFirst t ≡ true → Goes (t .kind)
+first-goes : (t : Lexeme) → isFirst t ≡ true → Goes (t .kind)
 first-goes t h = go (eqb (t .kind) Identifier) refl (eqb (t .kind) NumValue) refl h
   where
     go : (a : Bool) → eqb (t .kind) Identifier ≡ a → (b : Bool) → eqb (t .kind) NumValue ≡ b → (a || b) ≡ true → Goes (t .kind)
@@ -43,14 +43,14 @@ leaf-goes k b h = go (eqb k True) refl (eqb k False) refl (eqb k NumValue) refl 
     go false x false z false z₂ false z₃ true z₄ h = goes k ByteStringValue z₄ refl
     go false x false z false z₂ false z₃ false z₄ h = false-true _ (sym h)
 
-pub fits-goes : (l : Role) (t : Token) → Fits l t → Goes (t .kind)
+pub fits-goes : (l : Role) (t : Lexeme) → Fits l t → Goes (t .kind)
 fits-goes name t h = goes (t .kind) Identifier h refl
 fits-goes first t h = first-goes t h
 fits-goes onePart t h = goes (t .kind) Identifier h refl
 fits-goes variable t h = goes (t .kind) Identifier h refl
 
 -- tests that come out alike
-module _ {F : Frame} {t t₂ : Token} where
+module _ {F : Frame} {t t₂ : Lexeme} where
   first-is : Step F t t₂ → isFirst t ≡ isFirst t₂
   first-is d = ap (λ (k : ℕ). eqb k Identifier || eqb k NumValue) (d .kind)
 
@@ -65,10 +65,10 @@ abbrev pub sortOf : ℕ → Sort
 sortOf kind = cond (eqb kind 1) aName (cond (eqb kind 2) aValue (cond (eqb kind 3) (aType levels) (cond (eqb kind 4) aBindList aLambdaList)))
 
 -- the readers on the right, which are those of the grammar but for what they make of brackets
-abbrev pub wrapped : (Token → Source → Trees → Tree) → Reader → Reader
+abbrev pub wrapped : (Lexeme → Source → Trees → Tree) → Reader → Reader
 wrapped wrap type a = then (listBehind type RParen a) λ xs u. ok (wrap a u xs) u
 
-module _ (wrap : Token → Source → Trees → Tree) where
+module _ (wrap : Lexeme → Source → Trees → Tree) where
   unfoldable pub typeBeside : ℕ → Reader
   typeBeside zero a = no (refusedAt TooDeep a)
   typeBeside (suc n) a = typeBy (typeBeside n) (wrapped wrap (typeBeside n)) a
@@ -124,7 +124,7 @@ module _ (F : Frame) (L : Lawful F) where
 
   -- types, over the readers of a type one level deeper
   module _ (n : ℕ) (item item₂ : Reader) (alike : RelReader F (aType n) item item₂) where
-    reference-rel : (k c : ℕ) → Rule (aType (suc n)) c (one (aType n) ∷ mark k ∷ []) → Goes k → {m m₂ : ℕ} (a a₂ : Token) → Near F m m₂ a a₂ → eqb (a .kind) k ≡ true
+    reference-rel : (k c : ℕ) → Rule (aType (suc n)) c (one (aType n) ∷ mark k ∷ []) → Goes k → {m m₂ : ℕ} (a a₂ : Lexeme) → Near F m m₂ a a₂ → eqb (a .kind) k ≡ true
         → Rel F m m₂ (F .tree (aType (suc n)) a a₂) (reference item c a) (reference item₂ c a₂)
     unfolding reference behind
     reference-rel k c r g {m = m} {m₂ = m₂} a a₂ x i =
@@ -154,7 +154,7 @@ module _ (F : Frame) (L : Lawful F) where
   -- bindings, over the readers of a type and of a field one level deeper
   module _ (n : ℕ) (type type₂ field field₂ : Reader) (types : RelReader F (aType n) type type₂) (alike : RelReader F (aField n) field field₂) where
     -- the fields in braces behind what was read of a struct
-    fields-rel : {m m₂ : ℕ} {r : List Part} (c : ℕ) → Rule (aBind (suc n)) c (many (aField n) RBrace ∷ mark LBrace ∷ r) → {a a₂ b b₂ : Token} {u u₂ : Source} {xs ys : Trees} → Step F a a₂ → Starts (many (aField n) RBrace ∷ mark LBrace ∷ r) a → F .row r a a₂ u u₂ xs ys
+    fields-rel : {m m₂ : ℕ} {r : List Part} (c : ℕ) → Rule (aBind (suc n)) c (many (aField n) RBrace ∷ mark LBrace ∷ r) → {a a₂ b b₂ : Lexeme} {u u₂ : Source} {xs ys : Trees} → Step F a a₂ → Starts (many (aField n) RBrace ∷ mark LBrace ∷ r) a → F .row r a a₂ u u₂ xs ys
         → At F u u₂ b b₂ → Near F m m₂ b b₂
         → Rel F m m₂ (F .tree (aBind (suc n)) a a₂) (then (fields type field b) λ fs v. ok (spanned c a v (joined xs fs)) v) (then (fields type₂ field₂ b₂) λ fs v. ok (spanned c a₂ v (joined ys fs)) v)
     unfolding fields
@@ -241,12 +241,12 @@ module _ (F : Frame) (L : Lawful F) where
 type-is : (n : ℕ) → typeBeside bracketed n ≡ readType n
 unfolding typeBeside readType typeOver brackets
 type-is zero = refl
-type-is (suc n) = ap (λ (item : Reader). λ (a : Token). typeBy item (wrapped bracketed item) a) (type-is n)
+type-is (suc n) = ap (λ (item : Reader). λ (a : Lexeme). typeBy item (wrapped bracketed item) a) (type-is n)
 
 bind-is : (n : ℕ) → bindBeside bracketed n ≡ readBind n
 unfolding bindBeside readBind
 bind-is zero = refl
-bind-is (suc n) = ap₂ (λ (type bind : Reader). λ (a : Token). bindOver type (readField n bind) a) (type-is n) (bind-is n)
+bind-is (suc n) = ap₂ (λ (type bind : Reader). λ (a : Lexeme). bindOver type (readField n bind) a) (type-is n) (bind-is n)
 
 module _ (F : Frame) (L : Lawful F) (h : F .wrap ≡ bracketed) where
   types-are : (n : ℕ) → typeBeside (F .wrap) n ≡ readType n

@@ -11,14 +11,14 @@ use Rattle.classes.proofs.Bools.{false-true}
 use Rattle.words.specs.Kinds.{EOF, NumValue, NumTypedValue, ByteStringValue, Identifier, False, True}
 use Rattle.records.specs.Kinds.{RecName, RecAddress, RecBrackets}
 use Rattle.records.specs.Tree.{Tree, Trees, behind, joined}
-use Rattle.sources.specs.Source.{Source, Token, start, word, after}
+use Rattle.sources.specs.Source.{Source, Lexeme, start, word, after}
 use Rattle.answers.specs.Reading.{leafOf, Reader}
 use Rattle.grammar.specs.Names.{isFirst, firstPart}
 use Rattle.grammar.specs.Values.{leafKind, valueKind}
 use Rattle.grammar.specs.Types.{spanned, bracketed}
 use Rattle.grammar.specs.Items.{readKind}
 use Rattle.forms.specs.Line.{isField, isType}
-use Rattle.forms.specs.Spoiled.{isString}
+use Rattle.forms.specs.Unprintable.{isString}
 use Rattle.frames.specs.Related.{Sort, aName, aPair, aValue, aType, aField, aBind, aBindList, aLambdaList, Part, Rule, pair, two, three, address, shared, mutable, function, plain, applied, struct, typed, field, several, alone, lambda, Role, name, first, onePart, variable, kindOf, Fits, Step, Rel, RelReader, Lawful, Literal, Short, left}
 use Rattle.frames.specs.Shape.{Shape, Alike, leaves, nodes, AllAlike, nones, mores, framed, Shapely, Strings}
 use Rattle.frames.proofs.Ways.{near}
@@ -61,7 +61,7 @@ kind-fits lambda = (omega arith, refl, refl, refl)
 no-string : (c k n : ℕ) → eqb k n ≡ true → eqb n ByteStringValue ≡ false → isString c ≡ false → isString c ≡ eqb k ByteStringValue
 no-string c k n h g f = f ∙ sym (ap (λ (m : ℕ). eqb m ByteStringValue) (eqb-true k n h) ∙ g)
 
-first-leaf : (t : Token) → isFirst t ≡ true → isString (cond (eqb (t .kind) Identifier) RecName RecAddress) ≡ eqb (t .kind) ByteStringValue
+first-leaf : (t : Lexeme) → isFirst t ≡ true → isString (cond (eqb (t .kind) Identifier) RecName RecAddress) ≡ eqb (t .kind) ByteStringValue
 first-leaf t h = go (eqb (t .kind) Identifier) refl (eqb (t .kind) NumValue) refl h
   where
     go : (a : Bool) → eqb (t .kind) Identifier ≡ a → (b : Bool) → eqb (t .kind) NumValue ≡ b → (a || b) ≡ true → isString (cond a RecName RecAddress) ≡ eqb (t .kind) ByteStringValue
@@ -88,13 +88,13 @@ either P true m n h g = h
 either P false m n h g = g
 
 module _ (S : Shape) (L : Shapely S) where
-  leaf-like : (c : ℕ) (t t₂ : Token) → S .kind c → isString c ≡ eqb (t .kind) ByteStringValue → Step (framed S) t t₂ → Alike S (leafOf c t) (leafOf c t₂)
+  leaf-like : (c : ℕ) (t t₂ : Lexeme) → S .kind c → isString c ≡ eqb (t .kind) ByteStringValue → Step (framed S) t t₂ → Alike S (leafOf c t) (leafOf c t₂)
   leaf-like c t t₂ k s d = leaves k s (d .good .good) (d .spelled) (d .good .from) (d .good .to)
 
-  name-like : (c : ℕ) (t t₂ : Token) → c < 256 → isString c ≡ false → eqb (t .kind) Identifier ≡ true → Step (framed S) t t₂ → Alike S (leafOf c t) (leafOf c t₂)
+  name-like : (c : ℕ) (t t₂ : Lexeme) → c < 256 → isString c ≡ false → eqb (t .kind) Identifier ≡ true → Step (framed S) t t₂ → Alike S (leafOf c t) (leafOf c t₂)
   name-like c t t₂ h s i d = leaf-like c t t₂ (L .kinds c h s) (no-string c (t .kind) Identifier i refl s) d
 
-  role-like : (l : Role) (t t₂ : Token) → Step (framed S) t t₂ → Fits l t → Alike S (leafOf (kindOf l t) t) (leafOf (kindOf l t₂) t₂)
+  role-like : (l : Role) (t t₂ : Lexeme) → Step (framed S) t t₂ → Fits l t → Alike S (leafOf (kindOf l t) t) (leafOf (kindOf l t₂) t₂)
   role-like name t t₂ d f = name-like 1 t t₂ (omega arith) refl f d
   role-like onePart t t₂ d f = name-like 3 t t₂ (omega arith) refl f d
   role-like variable t t₂ d f = name-like 20 t t₂ (omega arith) refl f d
@@ -112,10 +112,10 @@ module _ (S : Shape) (L : Shapely S) where
   joined-trees nones ys = ys
   joined-trees (mores x xs) ys = mores x (joined-trees xs ys)
 
-  span-like : (c : ℕ) (a a₂ : Token) (u u₂ : Source) {ts us : Trees} → c < 256 → isString c ≡ false → Step (framed S) a a₂ → S .source u u₂ → AllAlike S ts us → Alike S (spanned c a u ts) (spanned c a₂ u₂ us)
+  span-like : (c : ℕ) (a a₂ : Lexeme) (u u₂ : Source) {ts us : Trees} → c < 256 → isString c ≡ false → Step (framed S) a a₂ → S .source u u₂ → AllAlike S ts us → Alike S (spanned c a u ts) (spanned c a₂ u₂ us)
   span-like c a a₂ u u₂ h s x n xs = nodes (L .kinds c h s) (x .good .from) (L .ended u u₂ n) xs
 
-  bracketed-like : (a a₂ : Token) (u u₂ : Source) {ts us : Trees} → Step (framed S) a a₂ → S .source u u₂ → AllAlike S ts us → Alike S (bracketed a u ts) (bracketed a₂ u₂ us)
+  bracketed-like : (a a₂ : Lexeme) (u u₂ : Source) {ts us : Trees} → Step (framed S) a a₂ → S .source u u₂ → AllAlike S ts us → Alike S (bracketed a u ts) (bracketed a₂ u₂ us)
   unfolding bracketed
   bracketed-like a a₂ u u₂ x n nones = leaves {k = EOF} (L .kinds 14 (omega arith) refl) refl (L .wordless (start a) (start a₂)) refl (x .good .from) (L .ended u u₂ n)
   bracketed-like a a₂ u u₂ x n (mores y nones) = span-like 16 a a₂ u u₂ (omega arith) refl x n (mores y nones)
@@ -161,7 +161,7 @@ module _ (S : Shape) (L : Shapely S) where
 
 -- a reader that obeys the law: in every shape, alike first tokens give alike answers
 abbrev pub Obeys : Reader → Type 1
-Obeys item = (S : Shape) → Shapely S → Strings S → (t t₂ : Token) → Step (framed S) t t₂ → Rel (framed S) (left (t .here)) (left (t₂ .here)) (λ u u₂ x y. Alike S x y) (item t) (item t₂)
+Obeys item = (S : Shape) → Shapely S → Strings S → (t t₂ : Lexeme) → Step (framed S) t t₂ → Rel (framed S) (left (t .here)) (left (t₂ .here)) (λ u u₂ x y. Alike S x y) (item t) (item t₂)
 
 pub kind-obeys : (kind : ℕ) → Obeys (readKind kind)
 kind-obeys kind S L Q t t₂ d = kind-shaped S L kind (λ _. Q) _ _ t t₂ (near d)

@@ -12,7 +12,7 @@ use Rattle.records.specs.Tree.{Tree, node, Trees, none, more, behind, joined, s
 use Rattle.records.specs.Stored.{stored, storedAll}
 use Rattle.records.proofs.Nesting.{wider, nested-order}
 use Rattle.records.proofs.Sizes.{leaf-size, node-size, size-none, size-more}
-use Rattle.sources.specs.Source.{Source, Token, start, end, word, after, bad, lex}
+use Rattle.sources.specs.Source.{Source, Lexeme, start, end, word, after, bad, lex}
 use Rattle.sources.proofs.Standing.{Sound, lex-sound}
 use Rattle.answers.specs.Reading.{Ans, ok, no, leafOf, Reader}
 use Rattle.answers.proofs.Further.{Frugal}
@@ -112,18 +112,18 @@ module _ (e : ℕ) where
   made n m c s ts v g h d =
       record { on = record { stops = g; further = omega (arith, d .small) }; from = refl; to = refl; nested = (omega (arith, d .small), d .order); small = omega (arith, node-size c s (v .at) ts, d .small) }
 
-  leaf-read : (c : ℕ) (t : Token) → Tok e t → 0 < t .kind → Read e 16 (start t) (leafOf c t) (after t)
+  leaf-read : (c : ℕ) (t : Lexeme) → Tok e t → 0 < t .kind → Read e 16 (start t) (leafOf c t) (after t)
   unfolding startOf endOf Nested
   leaf-read c t d k = let h = d .takes k in record { on = record { stops = after-stop e t d; further = h }; from = refl; to = refl; nested = omega arith; small = omega (arith, leaf-size c (start t) (end t) (word t)) }
 
-  bracketed-read : (a : Token) (v : Source) (ts : Trees) → start a < end a → stop v ≡ e → Reads 0 (end a) ts (v .at) → Read e 0 (start a) (bracketed a v ts) v
+  bracketed-read : (a : Lexeme) (v : Source) (ts : Trees) → start a < end a → stop v ≡ e → Reads 0 (end a) ts (v .at) → Read e 0 (start a) (bracketed a v ts) v
   unfolding bracketed startOf endOf Nested joined
   bracketed-read a v none h g d = record { on = record { stops = g; further = omega (arith, d .small) }; from = refl; to = refl; nested = omega (arith, d .small); small = omega (arith, leaf-size RecUnit (start a) (v .at) [], d .small) }
   bracketed-read a v (more x none) h g d = made 24 0 16 (start a) (more x none) v g (omega arith) (join 24 (start a) (end a) (end a) (v .at) none (more x none) (loosen 0 24 (start a) (start a) (end a) none (nothing (start a)) (omega arith) (omega arith)) (omega arith) d)
   bracketed-read a v (more x (more y ts)) h g d = made 24 0 15 (start a) (more x (more y ts)) v g (omega arith) (join 24 (start a) (end a) (end a) (v .at) none (more x (more y ts)) (loosen 0 24 (start a) (start a) (end a) none (nothing (start a)) (omega arith) (omega arith)) (omega arith) d)
 
   -- a field's name binds itself
-  short-reads : (a : Token) → start a < end a → Reads 8 (start a) (more (leafOf RecName a) (more (leafOf RecVariable a) none)) (end a)
+  short-reads : (a : Lexeme) → start a < end a → Reads 8 (start a) (more (leafOf RecName a) (more (leafOf RecVariable a) none)) (end a)
   unfolding startOf endOf Nested Within
   short-reads a h =
       record {
@@ -145,13 +145,13 @@ module _ (e : ℕ) where
   abbrev F : Frame
   F = about facts
 
-  token-fact : (t : Token) → Tok e t → Fact facts t
+  token-fact : (t : Lexeme) → Tok e t → Fact facts t
   token-fact t d = record { good = d; on = after-stop e t d; half = λ k. split-stop e t d (omega (arith, d .takes (omega arith))) }
 
   fault : (u : Source) (r : Refusal) → stop u ≡ e → lex u ≡ bad r → Blamed e r
   fault u r h l = let d : Sound u (bad r) = subst (Sound u) l (lex-sound u) in ((d .0 .0, omega (arith, d .0 .1)), (d .1 .0, omega (arith, d .1 .1)))
 
-  lone-read : (s : Sort) (l : Role) → Lone s l → (a : Token) → Tok e a → Fits l a → Read e (spare s) (start a) (leafOf (kindOf l a) a) (after a)
+  lone-read : (s : Sort) (l : Role) → Lone s l → (a : Lexeme) → Tok e a → Fits l a → Read e (spare s) (start a) (leafOf (kindOf l a) a) (after a)
   lone-read s l aPart a d f = leaf-read (kindOf l a) a d (goes-some (a .kind) (fits-goes l a f))
   lone-read s l aVariable a d f = leaf-read (kindOf l a) a d (goes-some (a .kind) (fits-goes l a f))
 

@@ -5,7 +5,7 @@ use Prim.Native.Nat.{ℕ}
 use lib.Dec.{eqb}
 use Rattle.words.specs.Kinds.{Greater, LBrace, RBrace}
 use Rattle.records.specs.Tree.{Trees, none, more, build}
-use Rattle.sources.specs.Source.{Source, Token}
+use Rattle.sources.specs.Source.{Source, Lexeme}
 use Rattle.answers.specs.Reading.{Ans, ok, listBehind}
 use Rattle.answers.proofs.Sure.{when-sure}
 use Rattle.grammar.specs.Types.{bracketed, readType}
@@ -31,15 +31,15 @@ facts =
 abbrev F : Frame
 F = about facts
 
-token-itself : (t : Token) → Fact facts t
+token-itself : (t : Lexeme) → Fact facts t
 token-itself t = record { good = tt; on = tt; half = λ _. tt }
 
-lone-due : {s : Sort} {l : Role} → Lone s l → (t : Token) → due s (kindOf l t) ≡ true
+lone-due : {s : Sort} {l : Role} → Lone s l → (t : Lexeme) → due s (kindOf l t) ≡ true
 unfolding isType isField
 lone-due aPart t = refl
 lone-due aVariable t = refl
 
-bracketed-due : (a : Token) (u : Source) (ts : Trees) → isType (kindOfBuild (build (bracketed a u ts))) ≡ true
+bracketed-due : (a : Lexeme) (u : Source) (ts : Trees) → isType (kindOfBuild (build (bracketed a u ts))) ≡ true
 unfolding build kindOfBuild isType isField bracketed
 bracketed-due a u none = refl
 bracketed-due a u (more x none) = refl
@@ -71,10 +71,10 @@ unfolding build kindOfBuild isField
 short n a a₂ x k o = refl
 
 -- as the law of the record of kind 22 takes them
-pub types-behind : (n : ℕ) (o : Token) (ts : Trees) (u : Source) → listBehind (readType n) Greater o ≡ ok ts u → Every isType ts
+pub types-behind : (n : ℕ) (o : Lexeme) (ts : Trees) (u : Source) → listBehind (readType n) Greater o ≡ ok ts u → Every isType ts
 types-behind n o ts u h = subst (Of facts (λ v xs. Every isType xs)) h (list-of facts (aType n) law (readType n) (type-same F law refl n) Greater refl o (token-itself o)) .0
 
-pub fields-every : (n : ℕ) (o : Token) (fs : Trees) (u : Source) → fields (readType n) (readField n (readBind n)) o ≡ ok fs u → Every isField fs
+pub fields-every : (n : ℕ) (o : Lexeme) (fs : Trees) (u : Source) → fields (readType n) (readField n (readBind n)) o ≡ ok fs u → Every isField fs
 unfolding fields
 fields-every n o fs u h =
     subst Fields h (when-sure Fields (eqb (o .kind) LBrace) _ _ (λ _. list-of facts (aField n) law (readField n (readBind n)) (field-same F law refl short n) RBrace refl o (token-itself o)) (λ _. tt)) .0

@@ -6,7 +6,7 @@ use Rattle.tokens.specs.declared.Fault.{Fault}
 use Rattle.tokens.specs.declared.Fault.the-variants.{Faultless, Faulty}
 use Rattle.records.specs.Tree.{Tree, Trees, none, more, behind, joined}
 use Rattle.records.specs.Rust.{inPlace, unbracketed, unbracketedAll}
-use Rattle.sources.specs.Source.{Source, opened, Token, Scanned, tok, bad, lex}
+use Rattle.sources.specs.Source.{Source, opened, Lexeme, LexResult, tok, bad, lex}
 use Rattle.answers.specs.Reading.{Ans, ok, no, look, Reader}
 use Rattle.grammar.specs.Types.{levels, bracketed, typeBy}
 use Rattle.grammar.specs.Binds.{bindOver, readField}
@@ -22,13 +22,13 @@ unfoldable pub mapped : {A B : Type 0} → (A → B) → Ans A → Ans B
 mapped h (ok x u) = ok (h x) u
 mapped h (no r) = no r
 
-look-mapped : {A B : Type 0} (h : A → B) (l : Scanned) (f : Token → Ans A) (g : Token → Ans B) → ((t : Token) → mapped h (f t) ≡ g t) → mapped h (look l f) ≡ look l g
+look-mapped : {A B : Type 0} (h : A → B) (l : LexResult) (f : Lexeme → Ans A) (g : Lexeme → Ans B) → ((t : Lexeme) → mapped h (f t) ≡ g t) → mapped h (look l f) ≡ look l g
 unfolding look mapped
 look-mapped h (tok t) f g x = x t
 look-mapped h (bad r) f g x = refl
 
 -- trees put together
-bracketed-is : (a : Token) (u : Source) (ts : Trees) → unbracketed (bracketed a u ts) ≡ rustBracketed a u (unbracketedAll ts)
+bracketed-is : (a : Lexeme) (u : Source) (ts : Trees) → unbracketed (bracketed a u ts) ≡ rustBracketed a u (unbracketedAll ts)
 unfolding bracketed rustBracketed unbracketed unbracketedAll inPlace
 bracketed-is a u none = refl
 bracketed-is a u (more x none) = refl
@@ -57,10 +57,10 @@ F =
       items = λ s c u u₂ v v₂ xs ys. unbracketedAll xs ≡ ys;
     }
 
-token-itself : (t : Token) → Step F t t
+token-itself : (t : Lexeme) → Step F t t
 token-itself t = record { kind = refl; spelled = refl; good = refl; on = λ _. refl; half = λ _. refl }
 
-itself : (l : Scanned) → Met F l l
+itself : (l : LexResult) → Met F l l
 itself (tok t) = toks (token-itself t)
 itself (bad r) = bads refl
 
@@ -89,12 +89,12 @@ law =
 type-is : (n : ℕ) → typeBeside rustBracketed n ≡ rustType n
 unfolding typeBeside rustType rustOver rustBrackets
 type-is zero = refl
-type-is (suc n) = ap (λ (item : Reader). λ (a : Token). typeBy item (wrapped rustBracketed item) a) (type-is n)
+type-is (suc n) = ap (λ (item : Reader). λ (a : Lexeme). typeBy item (wrapped rustBracketed item) a) (type-is n)
 
 bind-is : (n : ℕ) → bindBeside rustBracketed n ≡ rustBind n
 unfolding bindBeside rustBind
 bind-is zero = refl
-bind-is (suc n) = ap₂ (λ (type bind : Reader). λ (a : Token). bindOver type (readField n bind) a) (type-is n) (bind-is n)
+bind-is (suc n) = ap₂ (λ (type bind : Reader). λ (a : Lexeme). bindOver type (readField n bind) a) (type-is n) (bind-is n)
 
 literal : Literal F
 unfolding unbracketed
@@ -111,11 +111,11 @@ answer-is (nos d) = rw d
 answer-is (quit d) = absurd d
 
 -- every kind of item
-pub kind-rusts : (kind : ℕ) (t : Token) → mapped unbracketed (readKind kind t) ≡ rustKind kind t
+pub kind-rusts : (kind : ℕ) (t : Lexeme) → mapped unbracketed (readKind kind t) ≡ rustKind kind t
 unfolding rustKind
 kind-rusts kind t = rw (← type-is levels, ← bind-is levels) (answer-is (kind-rel F law short kind (λ _. literal) _ _ t t (near (token-itself t))))
 
-followed-is : (x : Tree) (l : Scanned) → unbracketedItem (followed x l) ≡ followed (unbracketed x) l
+followed-is : (x : Tree) (l : LexResult) → unbracketedItem (followed x l) ≡ followed (unbracketed x) l
 unfolding unbracketedItem followed
 followed-is x (tok t) = refl
 followed-is x (bad r) = refl

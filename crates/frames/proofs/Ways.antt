@@ -9,7 +9,7 @@ use lib.ListN.{length-drop}
 use Rattle.classes.proofs.Bools.{false-true, and-right}
 use Rattle.words.specs.Kinds.{Comma, Greater, GreaterGreater}
 use Rattle.tokens.specs.Refusals.{UnexpectedToken, CommaForItem, ListNotClosed}
-use Rattle.sources.specs.Source.{Source, Token, start, after, split, Scanned, lex}
+use Rattle.sources.specs.Source.{Source, Lexeme, start, after, split, LexResult, lex}
 use Rattle.sources.proofs.Standing.{Standing, Sound, lex-sound}
 use Rattle.answers.specs.Reading.{Ans, no, then, look, when, closed, refusedAt, Reader, list, listBehind}
 use Rattle.answers.proofs.Further.{here-left}
@@ -25,10 +25,10 @@ goes-some zero g = false-true _ (sym g)
 goes-some (suc k) g = omega arith
 
 -- what is left behind a token that stands in a source
-behind-left : (u : Source) (t : Token) → Standing u t → Goes (t .kind) → left (after t) < left u
+behind-left : (u : Source) (t : Lexeme) → Standing u t → Goes (t .kind) → left (after t) < left u
 behind-left u t d g = omega (arith, length-drop (t .len) (t .here .rest), here-left u t d, d .within, d .takes (goes-some (t .kind) g))
 
-module _ {F : Frame} {t t₂ : Token} where
+module _ {F : Frame} {t t₂ : Lexeme} where
   -- the same test of two tokens comes out alike
   pub is : (c : ℕ) → Step F t t₂ → eqb (t .kind) c ≡ eqb (t₂ .kind) c
   is c d = ap (λ (k : ℕ). eqb k c) (d .kind)
@@ -63,17 +63,17 @@ also z (nos d) = nos d
 also z (quit d) = quit d
 
 module _ (F : Frame) (L : Lawful F) where
-  stand-rel : {m m₂ : ℕ} {A B : Type 0} {Y : Source → Source → A → B → Type 0} (u u₂ : Source) (f : Token → Ans A) (g : Token → Ans B) → On F m m₂ u u₂
-      → ((t t₂ : Token) → Standing u t → Standing u₂ t₂ → At F u u₂ t t₂ → Near F m m₂ t t₂ → Rel F m m₂ Y (f t) (g t₂)) → Rel F m m₂ Y (look (lex u) f) (look (lex u₂) g)
+  stand-rel : {m m₂ : ℕ} {A B : Type 0} {Y : Source → Source → A → B → Type 0} (u u₂ : Source) (f : Lexeme → Ans A) (g : Lexeme → Ans B) → On F m m₂ u u₂
+      → ((t t₂ : Lexeme) → Standing u t → Standing u₂ t₂ → At F u u₂ t t₂ → Near F m m₂ t t₂ → Rel F m m₂ Y (f t) (g t₂)) → Rel F m m₂ Y (look (lex u) f) (look (lex u₂) g)
   unfolding look
   stand-rel {m = m} {m₂ = m₂} {Y = Y} u u₂ f g n h = go (L .next u u₂ (n .good)) (lex-sound u) (lex-sound u₂)
     where
-      go : {l l₂ : Scanned} → Met F l l₂ → Sound u l → Sound u₂ l₂ → Rel F m m₂ Y (look l f) (look l₂ g)
+      go : {l l₂ : LexResult} → Met F l l₂ → Sound u l → Sound u₂ l₂ → Rel F m m₂ Y (look l f) (look l₂ g)
       go (toks {t = t} {t₂ = t₂} d) s s₂ = h t t₂ s s₂ (record { step = d; from = standing-from u t s; from₂ = standing-from u₂ t₂ s₂ }) (record { step = d; few = omega (arith, here-left u t s, n .few); few₂ = omega (arith, here-left u₂ t₂ s₂, n .few₂) })
       go (bads d) s s₂ = nos d
 
-  pub look-rel : {m m₂ : ℕ} {A B : Type 0} {Y : Source → Source → A → B → Type 0} (u u₂ : Source) (f : Token → Ans A) (g : Token → Ans B) → On F m m₂ u u₂
-      → ((t t₂ : Token) → At F u u₂ t t₂ → Near F m m₂ t t₂ → Rel F m m₂ Y (f t) (g t₂)) → Rel F m m₂ Y (look (lex u) f) (look (lex u₂) g)
+  pub look-rel : {m m₂ : ℕ} {A B : Type 0} {Y : Source → Source → A → B → Type 0} (u u₂ : Source) (f : Lexeme → Ans A) (g : Lexeme → Ans B) → On F m m₂ u u₂
+      → ((t t₂ : Lexeme) → At F u u₂ t t₂ → Near F m m₂ t t₂ → Rel F m m₂ Y (f t) (g t₂)) → Rel F m m₂ Y (look (lex u) f) (look (lex u₂) g)
   look-rel u u₂ f g n h = stand-rel u u₂ f g n (λ t t₂ s s₂ a d. h t t₂ a d)
 
   module _ {m m₂ : ℕ} {A B : Type 0} {Y : Source → Source → A → B → Type 0} where
@@ -86,7 +86,7 @@ module _ (F : Frame) (L : Lawful F) where
         go false x = i x
 
     -- by the kind of a token
-    pub by-kind : (c : ℕ) {t t₂ : Token} → Step F t t₂ → (f g : Unit {0} → Ans A) (f₂ g₂ : Unit {0} → Ans B) → (eqb (t .kind) c ≡ true → Rel F m m₂ Y (f tt) (f₂ tt)) → (eqb (t .kind) c ≡ false → Rel F m m₂ Y (g tt) (g₂ tt))
+    pub by-kind : (c : ℕ) {t t₂ : Lexeme} → Step F t t₂ → (f g : Unit {0} → Ans A) (f₂ g₂ : Unit {0} → Ans B) → (eqb (t .kind) c ≡ true → Rel F m m₂ Y (f tt) (f₂ tt)) → (eqb (t .kind) c ≡ false → Rel F m m₂ Y (g tt) (g₂ tt))
         → Rel F m m₂ Y (when (eqb (t .kind) c) f g) (when (eqb (t₂ .kind) c) f₂ g₂)
     by-kind c {t = t} {t₂ = t₂} d f g f₂ g₂ h i = when-rel (eqb (t .kind) c) (eqb (t₂ .kind) c) f g f₂ g₂ (is c d) h i
 
@@ -97,7 +97,7 @@ module _ (F : Frame) (L : Lawful F) where
     then-rel f g (nos d) h = nos d
     then-rel f g (quit d) h = quit d
 
-    closed-rel : (close : ℕ) → Goes close → (u : Source) (t t₂ : Token) (f : Source → Ans A) (g : Unit {0} → Ans A) (f₂ : Source → Ans B) (g₂ : Unit {0} → Ans B) → Standing u t → Near F m m₂ t t₂
+    closed-rel : (close : ℕ) → Goes close → (u : Source) (t t₂ : Lexeme) (f : Source → Ans A) (g : Unit {0} → Ans A) (f₂ : Source → Ans B) (g₂ : Unit {0} → Ans B) → Standing u t → Near F m m₂ t t₂
         → ((w w₂ : Source) → On F m m₂ w w₂ → start t < w .at → Rel F m m₂ Y (f w) (f₂ w₂)) → (eqb (t .kind) close ≡ false → Rel F m m₂ Y (g tt) (g₂ tt)) → Rel F m m₂ Y (closed close t f g) (closed close t₂ f₂ g₂)
     unfolding closed
     closed-rel close c u t t₂ f g f₂ g₂ a d h i =
@@ -110,14 +110,14 @@ module _ (F : Frame) (L : Lawful F) where
         (λ _. i n))
 
     -- a refusal at a token
-    pub at-rel : (n : ℕ) {t t₂ : Token} → 10 ≤ n → n ≤ 14 → Step F t t₂ → Rel F m m₂ Y (no (refusedAt n t)) (no (refusedAt n t₂))
+    pub at-rel : (n : ℕ) {t t₂ : Lexeme} → 10 ≤ n → n ≤ 14 → Step F t t₂ → Rel F m m₂ Y (no (refusedAt n t)) (no (refusedAt n t₂))
     at-rel n {t = t} {t₂ = t₂} h g d = nos (L .refusedAt n t t₂ h g d)
 
-    pub unexpected-rel : {t t₂ : Token} → Step F t t₂ → Rel F m m₂ Y (no (refusedAt UnexpectedToken t)) (no (refusedAt UnexpectedToken t₂))
+    pub unexpected-rel : {t t₂ : Lexeme} → Step F t t₂ → Rel F m m₂ Y (no (refusedAt UnexpectedToken t)) (no (refusedAt UnexpectedToken t₂))
     unexpected-rel d = at-rel 10 (omega arith) (omega arith) d
 
   -- a list, with any bounds that are larger than the bytes left
-  module _ (s : Sort) (item item₂ : Reader) (alike : RelReader F s item item₂) (close : ℕ) (c : Goes close) (o o₂ : Token) (opens : Step F o o₂) where
+  module _ (s : Sort) (item item₂ : Reader) (alike : RelReader F s item item₂) (close : ℕ) (c : Goes close) (o o₂ : Lexeme) (opens : Step F o o₂) where
     list-rel : (f f₂ : ℕ) (u u₂ : Source) → left u < f → left u₂ < f₂ → F .source u u₂ → Rel F (left u) (left u₂) (F .items s close u u₂) (list item close o f (lex u)) (list item₂ close o₂ f₂ (lex u₂))
     unfolding list
     list-rel zero f₂ u u₂ h h₂ n = absurd (omega arith)
@@ -138,7 +138,7 @@ module _ (F : Frame) (L : Lawful F) where
         oks (L .more s close a k z (record { here = b; is = p; goes = g }) zs) i)
         (λ _. nos (L .refusedBefore ListNotClosed q q₂ o o₂ (omega arith) (omega arith) (e .step) opens)))))
 
-  pub behind-rel : (s : Sort) (item item₂ : Reader) → RelReader F s item item₂ → (close : ℕ) → Goes close → {m m₂ : ℕ} (o o₂ : Token) → Step F o o₂ → On F m m₂ (after o) (after o₂)
+  pub behind-rel : (s : Sort) (item item₂ : Reader) → RelReader F s item item₂ → (close : ℕ) → Goes close → {m m₂ : ℕ} (o o₂ : Lexeme) → Step F o o₂ → On F m m₂ (after o) (after o₂)
       → Rel F m m₂ (F .items s close (after o) (after o₂)) (listBehind item close o) (listBehind item₂ close o₂)
   unfolding listBehind
   behind-rel s item item₂ alike close c o o₂ d i =

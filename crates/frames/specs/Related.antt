@@ -11,7 +11,7 @@ use Rattle.words.specs.Kinds.{EOF, Identifier, Comma, Colon, ColonColon, AtSign
 use Rattle.tokens.specs.declared.Refusal.{Refusal}
 use Rattle.records.specs.Kinds.{RecName, RecAddress, RecOnePart, RecTwoPart, RecThreePart, RecPair, RecType, RecRef, RecRefMut, RecFunction, RecVariable, RecStruct, RecStructTyped, RecField, RecBindList, RecLambdaBindList, RecAddressValue}
 use Rattle.records.specs.Tree.{Tree, Trees, none, more, behind, joined}
-use Rattle.sources.specs.Source.{Source, Token, start, word, after, split, Scanned, tok, bad, lex}
+use Rattle.sources.specs.Source.{Source, Lexeme, start, word, after, split, LexResult, tok, bad, lex}
 use Rattle.answers.specs.Reading.{Ans, ok, no, leafOf, refusedAt, refusedBefore, Reader}
 use Rattle.grammar.specs.Names.{isFirst, colonsDue}
 use Rattle.grammar.specs.Values.{valueKind}
@@ -35,13 +35,13 @@ pub data Role : Type 0 where
   onePart : Role
   variable : Role
 
-abbrev pub kindOf : Role → Token → ℕ
+abbrev pub kindOf : Role → Lexeme → ℕ
 kindOf name t = RecName
 kindOf first t = cond (eqb (t .kind) Identifier) RecName RecAddress
 kindOf onePart t = RecOnePart
 kindOf variable t = RecVariable
 
-abbrev pub Fits : Role → Token → Type 0
+abbrev pub Fits : Role → Lexeme → Type 0
 Fits name t = eqb (t .kind) Identifier ≡ true
 Fits first t = isFirst t ≡ true
 Fits onePart t = eqb (t .kind) Identifier ≡ true
@@ -83,12 +83,12 @@ pub data Rule : Sort → ℕ → List Part → Type 0 where
 -- right make of brackets. `quits`: a refusal on the left that is related to any answer on the right
 pub record Frame : Type 1 where
   pub source : Source → Source → Type 0
-  pub token : Token → Token → Type 0
+  pub token : Lexeme → Lexeme → Type 0
   pub refusal : Refusal → Refusal → Type 0
   pub quits : Refusal → Type 0
-  pub wrap : Token → Source → Trees → Tree
-  pub tree : Sort → (a a₂ : Token) (u u₂ : Source) → Tree → Tree → Type 0
-  pub row : List Part → (a a₂ : Token) (u u₂ : Source) → Trees → Trees → Type 0
+  pub wrap : Lexeme → Source → Trees → Tree
+  pub tree : Sort → (a a₂ : Lexeme) (u u₂ : Source) → Tree → Tree → Type 0
+  pub row : List Part → (a a₂ : Lexeme) (u u₂ : Source) → Trees → Trees → Type 0
   pub items : Sort → (close : ℕ) (u u₂ v v₂ : Source) → Trees → Trees → Type 0
 
 -- readers go on behind tokens of every kind but these three: EOF, `>=`, and `>>`, which is split
@@ -96,25 +96,25 @@ abbrev pub Goes : ℕ → Type 0
 Goes k = (eqb k EOF || eqb k GreaterEqual || eqb k GreaterGreater) ≡ false
 
 -- related tokens; that stand in two sources, or at their beginning; and are of a kind that a test named
-pub record Step (F : Frame) (t t₂ : Token) : Type 0 where
+pub record Step (F : Frame) (t t₂ : Lexeme) : Type 0 where
   pub kind : t .kind ≡ t₂ .kind
   pub spelled : word t ≡ word t₂
   pub good : F .token t t₂
   pub on : (Goes (t .kind) → F .source (after t) (after t₂))
   pub half : (t .kind ≡ GreaterGreater → F .source (split t) (split t₂))
 
-pub record At (F : Frame) (u u₂ : Source) (t t₂ : Token) : Type 0 where
+pub record At (F : Frame) (u u₂ : Source) (t t₂ : Lexeme) : Type 0 where
   pub step : Step F t t₂
   pub from : u .at ≤ start t
   pub from₂ : u₂ .at ≤ start t₂
 
-pub record Mark (F : Frame) (k : ℕ) (u u₂ : Source) (t t₂ : Token) : Type 0 where
+pub record Mark (F : Frame) (k : ℕ) (u u₂ : Source) (t t₂ : Lexeme) : Type 0 where
   pub here : At F u u₂ t t₂
   pub is : eqb (t .kind) k ≡ true
   pub goes : Goes (t .kind)
 
-pub data Met (F : Frame) : Scanned → Scanned → Type 0 where
-  toks : {t t₂ : Token} → Step F t t₂ → Met F (tok t) (tok t₂)
+pub data Met (F : Frame) : LexResult → LexResult → Type 0 where
+  toks : {t t₂ : Lexeme} → Step F t t₂ → Met F (tok t) (tok t₂)
   bads : {r r₂ : Refusal} → F .refusal r r₂ → Met F (bad r) (bad r₂)
 
 -- answers: sources with at most so many bytes left on either side, since reading never goes back
@@ -131,16 +131,16 @@ pub data Rel (F : Frame) (m m₂ : ℕ) {A B : Type 0} (Y : Source → Source �
   nos : {r r₂ : Refusal} → F .refusal r r₂ → Rel F m m₂ Y (no r) (no r₂)
   quit : {r : Refusal} {b : Ans B} → F .quits r → Rel F m m₂ Y (no r) b
 
-pub record Near (F : Frame) (m m₂ : ℕ) (t t₂ : Token) : Type 0 where
+pub record Near (F : Frame) (m m₂ : ℕ) (t t₂ : Lexeme) : Type 0 where
   pub step : Step F t t₂
   pub few : left (t .here) ≤ m
   pub few₂ : left (t₂ .here) ≤ m₂
 
 abbrev pub RelReader : Frame → Sort → (item item₂ : Reader) → Type 0
-RelReader F s item item₂ = (m m₂ : ℕ) (t t₂ : Token) → Near F m m₂ t t₂ → Rel F m m₂ (F .tree s t t₂) (item t) (item₂ t₂)
+RelReader F s item item₂ = (m m₂ : ℕ) (t t₂ : Lexeme) → Near F m m₂ t t₂ → Rel F m m₂ (F .tree s t t₂) (item t) (item₂ t₂)
 
 -- what the first token of a record is, by its first part
-abbrev pub Starts : List Part → Token → Type 0
+abbrev pub Starts : List Part → Lexeme → Type 0
 Starts [] a = Unit {0}
 Starts (p ∷ q ∷ r) a = Starts (q ∷ r) a
 Starts (mark k ∷ []) a = eqb (a .kind) k ≡ true
@@ -153,33 +153,33 @@ Starts (many s c ∷ []) a = Unit {0}
 -- first byte of it; and of what is read: a leaf that is all of it, a record over its parts, and brackets, which are one of three records
 pub record Lawful (F : Frame) : Type 0 where
   pub next : (u u₂ : Source) → F .source u u₂ → Met F (lex u) (lex u₂)
-  pub refusedAt : (n : ℕ) (t t₂ : Token) → 10 ≤ n → n ≤ 14 → Step F t t₂ → F .refusal (refusedAt n t) (refusedAt n t₂)
-  pub refusedBefore : (n : ℕ) (t t₂ o o₂ : Token) → 10 ≤ n → n ≤ 14 → Step F t t₂ → Step F o o₂ → F .refusal (refusedBefore n t o) (refusedBefore n t₂ o₂)
-  pub colonsDue : (t t₂ a a₂ : Token) → Step F t t₂ → Step F a a₂ → F .refusal (colonsDue t a) (colonsDue t₂ a₂)
-  pub begin : {a a₂ : Token} → Step F a a₂ → F .row [] a a₂ (a .here) (a₂ .here) none none
-  pub mark : {r : List Part} {a a₂ t t₂ : Token} {u u₂ : Source} {xs ys : Trees} (k : ℕ) → F .row r a a₂ u u₂ xs ys → Mark F k u u₂ t t₂ → F .row (mark k ∷ r) a a₂ (after t) (after t₂) xs ys
-  pub leaf : {r : List Part} {a a₂ t t₂ : Token} {u u₂ : Source} {xs ys : Trees} (l : Role) → F .row r a a₂ u u₂ xs ys → At F u u₂ t t₂ → Fits l t
+  pub refusedAt : (n : ℕ) (t t₂ : Lexeme) → 10 ≤ n → n ≤ 14 → Step F t t₂ → F .refusal (refusedAt n t) (refusedAt n t₂)
+  pub refusedBefore : (n : ℕ) (t t₂ o o₂ : Lexeme) → 10 ≤ n → n ≤ 14 → Step F t t₂ → Step F o o₂ → F .refusal (refusedBefore n t o) (refusedBefore n t₂ o₂)
+  pub colonsDue : (t t₂ a a₂ : Lexeme) → Step F t t₂ → Step F a a₂ → F .refusal (colonsDue t a) (colonsDue t₂ a₂)
+  pub begin : {a a₂ : Lexeme} → Step F a a₂ → F .row [] a a₂ (a .here) (a₂ .here) none none
+  pub mark : {r : List Part} {a a₂ t t₂ : Lexeme} {u u₂ : Source} {xs ys : Trees} (k : ℕ) → F .row r a a₂ u u₂ xs ys → Mark F k u u₂ t t₂ → F .row (mark k ∷ r) a a₂ (after t) (after t₂) xs ys
+  pub leaf : {r : List Part} {a a₂ t t₂ : Lexeme} {u u₂ : Source} {xs ys : Trees} (l : Role) → F .row r a a₂ u u₂ xs ys → At F u u₂ t t₂ → Fits l t
       → F .row (leaf l ∷ r) a a₂ (after t) (after t₂) (behind xs (leafOf (kindOf l t) t)) (behind ys (leafOf (kindOf l t₂) t₂))
-  pub one : {r : List Part} {a a₂ t t₂ : Token} {u u₂ v v₂ : Source} {xs ys : Trees} {x y : Tree} (s : Sort) → F .row r a a₂ u u₂ xs ys → At F u u₂ t t₂ → F .tree s t t₂ v v₂ x y
+  pub one : {r : List Part} {a a₂ t t₂ : Lexeme} {u u₂ v v₂ : Source} {xs ys : Trees} {x y : Tree} (s : Sort) → F .row r a a₂ u u₂ xs ys → At F u u₂ t t₂ → F .tree s t t₂ v v₂ x y
       → F .row (one s ∷ r) a a₂ v v₂ (behind xs x) (behind ys y)
-  pub many : {r : List Part} {a a₂ : Token} {u u₂ v v₂ : Source} {xs ys ts us : Trees} (s : Sort) (close : ℕ) → F .row r a a₂ u u₂ xs ys → F .items s close u u₂ v v₂ ts us
+  pub many : {r : List Part} {a a₂ : Lexeme} {u u₂ v v₂ : Source} {xs ys ts us : Trees} (s : Sort) (close : ℕ) → F .row r a a₂ u u₂ xs ys → F .items s close u u₂ v v₂ ts us
       → F .row (many s close ∷ r) a a₂ v v₂ (joined xs ts) (joined ys us)
-  pub empty : {u u₂ w w₂ : Source} {t t₂ : Token} (s : Sort) (close : ℕ) → At F u u₂ t t₂ → F .source w w₂ → start t < w .at → F .items s close u u₂ w w₂ none none
-  pub last : {u u₂ v v₂ w w₂ : Source} {t t₂ c c₂ : Token} {x y : Tree} (s : Sort) (close : ℕ) → At F u u₂ t t₂ → eqb (t .kind) close ≡ false → F .tree s t t₂ v v₂ x y → At F v v₂ c c₂ → F .source w w₂ → start c < w .at
+  pub empty : {u u₂ w w₂ : Source} {t t₂ : Lexeme} (s : Sort) (close : ℕ) → At F u u₂ t t₂ → F .source w w₂ → start t < w .at → F .items s close u u₂ w w₂ none none
+  pub last : {u u₂ v v₂ w w₂ : Source} {t t₂ c c₂ : Lexeme} {x y : Tree} (s : Sort) (close : ℕ) → At F u u₂ t t₂ → eqb (t .kind) close ≡ false → F .tree s t t₂ v v₂ x y → At F v v₂ c c₂ → F .source w w₂ → start c < w .at
       → F .items s close u u₂ w w₂ (more x none) (more y none)
-  pub more : {u u₂ v v₂ w w₂ : Source} {t t₂ c c₂ : Token} {x y : Tree} {xs ys : Trees} (s : Sort) (close : ℕ) → At F u u₂ t t₂ → eqb (t .kind) close ≡ false → F .tree s t t₂ v v₂ x y → Mark F Comma v v₂ c c₂
+  pub more : {u u₂ v v₂ w w₂ : Source} {t t₂ c c₂ : Lexeme} {x y : Tree} {xs ys : Trees} (s : Sort) (close : ℕ) → At F u u₂ t t₂ → eqb (t .kind) close ≡ false → F .tree s t t₂ v v₂ x y → Mark F Comma v v₂ c c₂
       → F .items s close (after c) (after c₂) w w₂ xs ys → F .items s close u u₂ w w₂ (more x xs) (more y ys)
-  pub lone : {a a₂ : Token} (s : Sort) (l : Role) → Lone s l → Step F a a₂ → Fits l a → F .source (after a) (after a₂) → F .tree s a a₂ (after a) (after a₂) (leafOf (kindOf l a) a) (leafOf (kindOf l a₂) a₂)
-  pub made : {a a₂ : Token} {u u₂ : Source} {xs ys : Trees} (s : Sort) (c : ℕ) (r : List Part) → Rule s c r → Step F a a₂ → Starts r a → F .row r a a₂ u u₂ xs ys → F .source u u₂
+  pub lone : {a a₂ : Lexeme} (s : Sort) (l : Role) → Lone s l → Step F a a₂ → Fits l a → F .source (after a) (after a₂) → F .tree s a a₂ (after a) (after a₂) (leafOf (kindOf l a) a) (leafOf (kindOf l a₂) a₂)
+  pub made : {a a₂ : Lexeme} {u u₂ : Source} {xs ys : Trees} (s : Sort) (c : ℕ) (r : List Part) → Rule s c r → Step F a a₂ → Starts r a → F .row r a a₂ u u₂ xs ys → F .source u u₂
       → F .tree s a a₂ u u₂ (spanned c a u xs) (spanned c a₂ u₂ ys)
-  pub brackets : {a a₂ : Token} {u u₂ : Source} {xs ys : Trees} (n : ℕ) → Step F a a₂ → eqb (a .kind) LParen ≡ true → F .items (aType n) RParen (after a) (after a₂) u u₂ xs ys → F .source u u₂
+  pub brackets : {a a₂ : Lexeme} {u u₂ : Source} {xs ys : Trees} (n : ℕ) → Step F a a₂ → eqb (a .kind) LParen ≡ true → F .items (aType n) RParen (after a) (after a₂) u u₂ xs ys → F .source u u₂
       → F .tree (aType (suc n)) a a₂ u u₂ (bracketed a u xs) (F .wrap a₂ u₂ ys)
 
 -- where values are read, of those that are one token; and where bindings are, of a field that binds its own name
 abbrev pub Literal : Frame → Type 0
-Literal F = (a a₂ : Token) → Step F a a₂ → eqb (valueKind a) 0 ≡ false → F .source (after a) (after a₂) → F .tree aValue a a₂ (after a) (after a₂) (leafOf (valueKind a) a) (leafOf (valueKind a₂) a₂)
+Literal F = (a a₂ : Lexeme) → Step F a a₂ → eqb (valueKind a) 0 ≡ false → F .source (after a) (after a₂) → F .tree aValue a a₂ (after a) (after a₂) (leafOf (valueKind a) a) (leafOf (valueKind a₂) a₂)
 
 abbrev pub Short : Frame → Type 0
 Short F =
-    (n : ℕ) (a a₂ : Token) → Step F a a₂ → eqb (a .kind) Identifier ≡ true → F .source (after a) (after a₂)
+    (n : ℕ) (a a₂ : Lexeme) → Step F a a₂ → eqb (a .kind) Identifier ≡ true → F .source (after a) (after a₂)
     → F .tree (aField (suc n)) a a₂ (after a) (after a₂) (spanned RecField a (after a) (more (leafOf RecName a) (more (leafOf RecVariable a) none))) (spanned RecField a₂ (after a₂) (more (leafOf RecName a₂) (more (leafOf RecVariable a₂) none)))

@@ -9,9 +9,9 @@ use Rattle.words.specs.Kinds.{EOF, ByteStringValue}
 use Rattle.tokens.specs.declared.Refusal.{Refusal}
 use Rattle.records.specs.Kinds.{RecHexString, RecByteString}
 use Rattle.records.specs.Tree.{Tree, leaf, node, Trees, none, more}
-use Rattle.sources.specs.Source.{Source, Token, start, end, word, lex}
+use Rattle.sources.specs.Source.{Source, Lexeme, start, end, word, lex}
 use Rattle.grammar.specs.Types.{bracketed}
-use Rattle.forms.specs.Spoiled.{isString}
+use Rattle.forms.specs.Unprintable.{isString}
 use Rattle.frames.specs.Related.{Frame, Met}
 
 -- what is chosen: where tokens start, where they end, sources, and what is asked of the kinds of records, of a token's kind and word with
@@ -43,7 +43,7 @@ pub record Refused (S : Shape) (r r₂ : Refusal) : Type 0 where
   pub from₂ : S .starts (r .second .start) (r₂ .second .start)
   pub to₂ : S .ends (r .second .end) (r₂ .second .end)
 
-pub record Placed (S : Shape) (t t₂ : Token) : Type 0 where
+pub record Placed (S : Shape) (t t₂ : Lexeme) : Type 0 where
   pub good : S .word (t .kind) (word t) (start t) (start t₂)
   pub from : S .starts (start t) (start t₂)
   pub to : S .ends (end t) (end t₂)

@@ -6,22 +6,22 @@ use Rattle.words.specs.Kinds.{Identifier, LParen, RParen, Colon, ColonColon, Le
 use Rattle.tokens.specs.Refusals.{TooDeep}
 use Rattle.records.specs.Kinds.{RecName, RecVariable, RecStruct, RecStructTyped, RecField, RecBindList, RecLambdaBindList}
 use Rattle.records.specs.Tree.{Tree, Trees, none, more, joined}
-use Rattle.sources.specs.Source.{Source, Token, after, lex}
+use Rattle.sources.specs.Source.{Source, Lexeme, after, lex}
 use Rattle.answers.specs.Reading.{Ans, ok, no, then, look, when, leafOf, refusedAt, unexpected, Reader, listBehind}
 use Rattle.grammar.specs.Names.{chain}
 use Rattle.grammar.specs.Types.{levels, spanned, readType}
 
 -- the token behind an identifier: the binding is no variable
-abbrev pub isStruct : Token → Bool
+abbrev pub isStruct : Lexeme → Bool
 isStruct t = eqb (t .kind) LBrace || eqb (t .kind) Less || eqb (t .kind) ColonColon
 
 -- over the readers of a type and of a field one level deeper
 module _ (type field : Reader) where
-  unfoldable pub fields : Token → Ans Trees
+  unfoldable pub fields : Lexeme → Ans Trees
   fields t = when (eqb (t .kind) LBrace) (λ _. listBehind field RBrace t) λ _. unexpected t
 
   -- behind the name c: types in `<`, or none, and fields
-  unfoldable pub structOver : Token → Tree → Source → Ans Tree
+  unfoldable pub structOver : Lexeme → Tree → Source → Ans Tree
   structOver a c u =
       look (lex u) λ o.
       when (eqb (o .kind) Less)

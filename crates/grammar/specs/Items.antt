@@ -8,7 +8,7 @@ use Rattle.tokens.specs.Calls.{faultIf, _orElse_, placeFault, editionFault, unl
 use Rattle.tokens.specs.declared.Fault.{Fault}
 use Rattle.tokens.specs.declared.Refusal.{Refusal}
 use Rattle.records.specs.Tree.{Tree}
-use Rattle.sources.specs.Source.{opened, Token, Scanned, tok, bad, lex}
+use Rattle.sources.specs.Source.{opened, Lexeme, LexResult, tok, bad, lex}
 use Rattle.answers.specs.Reading.{Ans, ok, no, look, when, Reader}
 use Rattle.grammar.specs.Names.{chain}
 use Rattle.grammar.specs.Values.{value}
@@ -17,7 +17,7 @@ use Rattle.grammar.specs.Binds.{readBindList, readLambdaList}
 
 -- an item's tree and the token that follows it, already read; or a refusal
 pub data Item : Type 0 where
-  item : Tree → Token → Item
+  item : Tree → Lexeme → Item
   refused : Refusal → Item
 
 -- 1 name, 2 value, 3 type, 4 binding list, 5 lambda binding list; over the readers of the last three
@@ -32,7 +32,7 @@ kindOver type binds lambdaBinds kind a =
 unfoldable pub readKind : ℕ → Reader
 readKind kind a = kindOver (readType levels) readBindList readLambdaList kind a
 
-unfoldable pub followed : Tree → Scanned → Item
+unfoldable pub followed : Tree → LexResult → Item
 followed x (tok t) = item x t
 followed x (bad r) = refused r
 

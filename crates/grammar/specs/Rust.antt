@@ -6,14 +6,14 @@ use Rattle.tokens.specs.Refusals.{TooDeep}
 use Rattle.tokens.specs.Calls.{unless}
 use Rattle.records.specs.Tree.{Tree, Trees, none, more}
 use Rattle.records.specs.Rust.{respan, unbracketed}
-use Rattle.sources.specs.Source.{Source, Token, start}
+use Rattle.sources.specs.Source.{Source, Lexeme, start}
 use Rattle.answers.specs.Reading.{ok, no, then, refusedAt, Reader, listBehind}
 use Rattle.grammar.specs.Types.{levels, bracketed, typeBy}
 use Rattle.grammar.specs.Binds.{bindOver, readField, bindListOver, lambdaListOver}
 use Rattle.grammar.specs.Items.{Item, item, refused, kindOver, finished, Asked, faultOf, readingOver}
 
 -- brackets round one; round none or more they are what they were
-unfoldable pub rustBracketed : Token → Source → Trees → Tree
+unfoldable pub rustBracketed : Lexeme → Source → Trees → Tree
 rustBracketed a u none = bracketed a u none
 rustBracketed a u (more x none) = respan (start a) (u .at) x
 rustBracketed a u (more x (more y xs)) = bracketed a u (more x (more y xs))

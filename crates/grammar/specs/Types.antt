@@ -6,7 +6,7 @@ use Rattle.words.specs.Kinds.{Amp, AmpMut, LParen, RParen, Less, Greater, Pipe}
 use Rattle.tokens.specs.Refusals.{TooDeep}
 use Rattle.records.specs.Kinds.{RecType, RecRef, RecRefMut, RecFunction, RecUnit, RecTuple, RecBrackets}
 use Rattle.records.specs.Tree.{Tree, leaf, node, Trees, none, more, behind}
-use Rattle.sources.specs.Source.{Source, Token, start, after, lex}
+use Rattle.sources.specs.Source.{Source, Lexeme, start, after, lex}
 use Rattle.answers.specs.Reading.{Ans, ok, no, then, look, when, refusedAt, Reader, listBehind}
 use Rattle.grammar.specs.Names.{chain}
 
@@ -15,11 +15,11 @@ abbrev pub levels : ℕ
 levels = 64
 
 -- a record of kind c from the token a to where reading goes on
-abbrev pub spanned : ℕ → Token → Source → Trees → Tree
+abbrev pub spanned : ℕ → Lexeme → Source → Trees → Tree
 spanned c a u ts = node c (start a) (u .at) ts
 
 -- brackets round none, one or more
-unfoldable pub bracketed : Token → Source → Trees → Tree
+unfoldable pub bracketed : Lexeme → Source → Trees → Tree
 bracketed a u none = leaf RecUnit (start a) (u .at) []
 bracketed a u (more x none) = spanned RecBrackets a u (more x none)
 bracketed a u (more x (more y xs)) = spanned RecTuple a u (more x (more y xs))
@@ -41,7 +41,7 @@ module _ (item : Reader) where
       ok (spanned RecFunction a v (behind xs x)) v
 
   -- behind the name c
-  unfoldable pub withArguments : Token → Tree → Source → Ans Tree
+  unfoldable pub withArguments : Lexeme → Tree → Source → Ans Tree
   withArguments a c u =
       look (lex u) λ o.
       when (eqb (o .kind) Less) (λ _. then (listBehind item Greater o) λ xs v. ok (spanned RecType a v (more c xs)) v) λ _.

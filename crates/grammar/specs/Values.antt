@@ -7,7 +7,7 @@ use Rattle.words.specs.Kinds.{NumValue, NumTypedValue, ByteStringValue, ColonCo
 use Rattle.tokens.specs.Refusals.{NoValue}
 use Rattle.records.specs.Kinds.{RecAddressValue, RecNumber, RecTrue, RecFalse, RecHexString, RecByteString}
 use Rattle.records.specs.Tree.{node, none, more}
-use Rattle.sources.specs.Source.{Token, start, end, word, after, lex}
+use Rattle.sources.specs.Source.{Lexeme, start, end, word, after, lex}
 use Rattle.answers.specs.Reading.{ok, no, look, when, leafOf, refusedAt, unexpected, Reader}
 use Rattle.grammar.specs.Names.{isFirst, firstPart}
 
@@ -19,7 +19,7 @@ leafKind k b =
     (cond (eqb k NumValue || eqb k NumTypedValue) RecNumber
     (cond (eqb k ByteStringValue) (cond (eqb b 120) RecHexString RecByteString) 0)))
 
-abbrev pub valueKind : Token → ℕ
+abbrev pub valueKind : Lexeme → ℕ
 valueKind t = leafKind (t .kind) (getD (word t) 0 0)
 
 -- such a value; a number before `::` is none

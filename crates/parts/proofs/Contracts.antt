@@ -10,7 +10,7 @@ use Rattle.tokens.specs.declared.Token.{Token as Answer}
 use Rattle.tokens.specs.declared.Lexed.{Lexed}
 use Rattle.tokens.specs.declared.Lexed.the-variants.{Found, Refused as Bad}
 use Rattle.records.specs.Tree.{Tree}
-use Rattle.sources.specs.Source.{Source, opened, Token, lex}
+use Rattle.sources.specs.Source.{Source, opened, Lexeme, lex}
 use Rattle.answers.specs.Reading.{Ans, ok, no, then, look}
 use Rattle.forms.specs.Forms.{laid}
 use Rattle.forms.specs.code.Spots.{Placed}
@@ -87,7 +87,7 @@ unfolding Refuses then
 refuses-ok (ok y u) r g h = h
 refuses-ok (no q) r g h = h
 
-pub refuses-look : {A B : Type 0} (x : Ans A) (r : Refusal) (g : A → Source → Token → Ans B) → Refuses x r → then x (λ y u. look (lex u) (g y u)) ≡ no r
+pub refuses-look : {A B : Type 0} (x : Ans A) (r : Refusal) (g : A → Source → Lexeme → Ans B) → Refuses x r → then x (λ y u. look (lex u) (g y u)) ≡ no r
 unfolding Refuses then look
 refuses-look (ok y u) r g h = rw h
 refuses-look (no q) r g h = ap no h

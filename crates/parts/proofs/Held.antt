@@ -12,7 +12,7 @@ use Rattle.tokens.specs.declared.Lexed.the-variants.{Found, Refused as Bad}
 use Rattle.tokens.proofs.Faults.{admits}
 use Rattle.tokens.proofs.Again.{found-fits}
 use Rattle.records.specs.Tree.{leaf}
-use Rattle.sources.specs.Source.{Source, opened, past, Token, start, end, after, Scanned, tok, bad, lex, tokenOf, answerOf}
+use Rattle.sources.specs.Source.{Source, opened, past, Lexeme, start, end, after, LexResult, tok, bad, lex, tokenOf, answerOf}
 use Rattle.sources.proofs.Standing.{Standing, Sound, lex-sound, next-token-same}
 use Rattle.answers.specs.Reading.{Ans, no, look, leafOf}
 use Rattle.forms.specs.code.Spots.{wordOf}
@@ -47,7 +47,7 @@ module _ (ed : ℕ) (text : List ℕ) where
   takes-some (suc k) s n f = let g = f (omega arith) in omega arith
 
   module _ (at : ℕ) (short : length text ≤ textLimit) (inside : at ≤ length text) where
-    token-next : (t : Token) → Standing (opened ed text at) t → lex (opened ed text at) ≡ tok t → Next at (tokenOf t)
+    token-next : (t : Lexeme) → Standing (opened ed text at) t → lex (opened ed text at) ≡ tok t → Next at (tokenOf t)
     token-next t d l =
         let h : start t ≡ at + d .gap = ap (λ (u : Source). u .at) (d .here) in
         let w : d .gap + t .len ≤ length text - at = rw length-drop at (d .within) in
@@ -59,12 +59,12 @@ module _ (ed : ℕ) (text : List ℕ) where
           is = l ∙ ap tok (λ i. record { kind = t .kind; here = y i; len = z i });
         }
 
-    scanned-next : (l : Scanned) → lex (opened ed text at) ≡ l → Sound (opened ed text at) l → (b : Answer) → answerOf l ≡ Found b → Next at b
+    scanned-next : (l : LexResult) → lex (opened ed text at) ≡ l → Sound (opened ed text at) l → (b : Answer) → answerOf l ≡ Found b → Next at b
     unfolding answerOf
     scanned-next (tok t) l d b h = let y : tokenOf t ≡ b = cc in subst (Next at) y (token-next t d l)
     scanned-next (bad r) l d b h = let z : _≡_ {A = ℕ} 0 1 = cc in absurd (omega arith)
 
-    scanned-bad : (l : Scanned) → (r : Refusal) → answerOf l ≡ Bad r → l ≡ bad r
+    scanned-bad : (l : LexResult) → (r : Refusal) → answerOf l ≡ Bad r → l ≡ bad r
     unfolding answerOf
     scanned-bad (tok t) r h = let z : _≡_ {A = ℕ} 0 1 = cc in absurd (omega arith)
     scanned-bad (bad r₂) r h = let y : r₂ ≡ r = cc in ap bad y
@@ -81,7 +81,7 @@ module _ (ed : ℕ) (text : List ℕ) where
       scanned-next at (f .0) (f .1) (lex (opened ed text at)) refl (lex-sound (opened ed text at)) b (answer at (f .0) (f .1) ∙ h)
 
   -- looking behind a token
-  module _ {A : Type 0} (d : Answer) (f : Fits text d) (g : Token → Ans A) where
+  module _ {A : Type 0} (d : Answer) (f : Fits text d) (g : Lexeme → Ans A) where
     pub look-found : (b : Answer) → nextToken ed text (d .end) ≡ Found b → look (lex (after (held ed text d))) g ≡ g (held ed text b)
     unfolding look
     look-found b h = rw (held-after d f, next-found (d .end) b h .is)

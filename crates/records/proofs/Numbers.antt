@@ -5,16 +5,16 @@ use Prim.Native.Nat.{ℕ, zero, suc, _+_, _*_, _/_, _%_, _^_, _<_}
 use native.Mathlib.Omega.{arith}
 use native.Mathlib.Nat.{pow-succ', mul-assoc}
 use lib.ListN.{length, getD, drop, length-append}
-use Rattle.records.specs.Stored.{number, headOf}
+use Rattle.records.specs.Stored.{littleEndian, headOf}
 
-pub number-long : (w v : ℕ) → length (number w v) ≡ w
-unfolding number
+pub number-long : (w v : ℕ) → length (littleEndian w v) ≡ w
+unfolding littleEndian
 number-long zero v = refl
 number-long (suc w) v = ap suc (number-long w (v / 256))
 
 -- what the bytes have no room for leaves no trace in them
-pub number-turns : (w v q : ℕ) → number w (v + 256 ^ w * q) ≡ number w v
-unfolding number
+pub number-turns : (w v q : ℕ) → littleEndian w (v + 256 ^ w * q) ≡ littleEndian w v
+unfolding littleEndian
 number-turns zero v q = refl
 number-turns (suc w) v q =
     let z : 256 ^ suc w * q ≡ 256 * (256 ^ w * q) = ap (λ (x : ℕ). x * q) (pow-succ' 256 w) ∙ mul-assoc 256 (256 ^ w) q in
@@ -38,8 +38,8 @@ split (x ∷ xs) (y ∷ ys) us vs h p =
     (ap (λ (z : ℕ). z ∷ xs) (ap (λ (l : List ℕ). getD l 0 0) p) ∙ ap (_∷_ y) (q .0), q .1)
 
 -- a number that they have room for is told by them
-pub number-same : (w v u : ℕ) → v < 256 ^ w → u < 256 ^ w → number w v ≡ number w u → v ≡ u
-unfolding number
+pub number-same : (w v u : ℕ) → v < 256 ^ w → u < 256 ^ w → littleEndian w v ≡ littleEndian w u → v ≡ u
+unfolding littleEndian
 number-same zero v u h g p = omega arith
 number-same (suc w) v u h g p =
     let z : 256 ^ suc w ≡ 256 * 256 ^ w = pow-succ' 256 w in
@@ -51,24 +51,24 @@ number-same (suc w) v u h g p =
 pub head-long : (w n k s e : ℕ) → length (headOf w n k s e) ≡ 2 + 3 * w
 unfolding headOf
 head-long w n k s e =
-    let a = length-append (number w n) (number 2 k ++ (number w s ++ number w e)) in
-    let b = length-append (number 2 k) (number w s ++ number w e) in
-    let c = length-append (number w s) (number w e) in
+    let a = length-append (littleEndian w n) (littleEndian 2 k ++ (littleEndian w s ++ littleEndian w e)) in
+    let b = length-append (littleEndian 2 k) (littleEndian w s ++ littleEndian w e) in
+    let c = length-append (littleEndian w s) (littleEndian w e) in
     omega (arith, a, b, c, number-long w n, number-long 2 k, number-long w s, number-long w e)
 
 -- its numbers, in bytes
 pub record SameHead (w n k s e n₂ k₂ s₂ e₂ : ℕ) (xs ys : List ℕ) : Type 0 where
-  pub size : number w n ≡ number w n₂
-  pub kind : number 2 k ≡ number 2 k₂
-  pub start : number w s ≡ number w s₂
-  pub end : number w e ≡ number w e₂
+  pub size : littleEndian w n ≡ littleEndian w n₂
+  pub kind : littleEndian 2 k ≡ littleEndian 2 k₂
+  pub start : littleEndian w s ≡ littleEndian w s₂
+  pub end : littleEndian w e ≡ littleEndian w e₂
   pub rest : xs ≡ ys
 
 pub head-same : (w n k s e n₂ k₂ s₂ e₂ : ℕ) (xs ys : List ℕ) → headOf w n k s e ++ xs ≡ headOf w n₂ k₂ s₂ e₂ ++ ys → SameHead w n k s e n₂ k₂ s₂ e₂ xs ys
 unfolding headOf
 head-same w n k s e n₂ k₂ s₂ e₂ xs ys p =
     let a = split (headOf w n k s e) (headOf w n₂ k₂ s₂ e₂) xs ys (omega (arith, head-long w n k s e, head-long w n₂ k₂ s₂ e₂)) p in
-    let b = split (number w n) (number w n₂) (number 2 k ++ (number w s ++ number w e)) (number 2 k₂ ++ (number w s₂ ++ number w e₂)) (omega (arith, number-long w n, number-long w n₂)) (a .0) in
-    let c = split (number 2 k) (number 2 k₂) (number w s ++ number w e) (number w s₂ ++ number w e₂) (omega (arith, number-long 2 k, number-long 2 k₂)) (b .1) in
-    let d = split (number w s) (number w s₂) (number w e) (number w e₂) (omega (arith, number-long w s, number-long w s₂)) (c .1) in
+    let b = split (littleEndian w n) (littleEndian w n₂) (littleEndian 2 k ++ (littleEndian w s ++ littleEndian w e)) (littleEndian 2 k₂ ++ (littleEndian w s₂ ++ littleEndian w e₂)) (omega (arith, number-long w n, number-long w n₂)) (a .0) in
+    let c = split (littleEndian 2 k) (littleEndian 2 k₂) (littleEndian w s ++ littleEndian w e) (littleEndian w s₂ ++ littleEndian w e₂) (omega (arith, number-long 2 k, number-long 2 k₂)) (b .1) in
+    let d = split (littleEndian w s) (littleEndian w s₂) (littleEndian w e) (littleEndian w e₂) (omega (arith, number-long w s, number-long w s₂)) (c .1) in
     record { size = b .0; kind = c .0; start = d .0; end = d .1; rest = a .1 }

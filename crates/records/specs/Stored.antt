@@ -25,13 +25,13 @@ unfoldable mutual
   storedAll (more t ts) = stored t ++ storedAll ts
 
 -- v in w bytes, the low one first
-unfoldable pub number : ℕ → ℕ → List ℕ
-number zero v = []
-number (suc w) v = v % 256 ∷ number w (v / 256)
+unfoldable pub littleEndian : ℕ → ℕ → List ℕ
+littleEndian zero v = []
+littleEndian (suc w) v = v % 256 ∷ littleEndian w (v / 256)
 
 -- the head of a record that has `len` bytes with its children: the kind in two bytes, the other numbers in w
 unfoldable pub headOf : ℕ → ℕ → ℕ → ℕ → ℕ → List ℕ
-headOf w len k s e = number w len ++ (number 2 k ++ (number w s ++ number w e))
+headOf w len k s e = littleEndian w len ++ (littleEndian 2 k ++ (littleEndian w s ++ littleEndian w e))
 
 -- how many records a tree has: its build tells
 unfoldable mutual

@@ -3,7 +3,7 @@ ghost use mathlib.Core.Path.{_≡_};
 ghost use Prim.Native.Nat.{_+_, _≤_};
 ghost use lib.ListN.{length};
 ghost use lib.Seq.{sets};
-ghost use Rattle.records.specs.Stored.{two, header, number, headOf};
+ghost use Rattle.records.specs.Stored.{two, header, littleEndian, headOf};
 
 pub mod kinds;
 
@@ -19,7 +19,7 @@ fn put_two(out: &mut [u8], pos: usize, v: usize)
 
 // Writes a number in four bytes, the low one first.
 pub fn put_four(out: &mut [u8], pos: usize, v: usize)
-    ensures { λ _. ⌜ now (out .exit) ≡ sets (now (out .entry)) pos (number 4 v) ⌝ }
+    ensures { λ _. ⌜ now (out .exit) ≡ sets (now (out .entry)) pos (littleEndian 4 v) ⌝ }
 {
     if pos < out.len() {
         put_two(out, pos, v);
@@ -39,7 +39,7 @@ fn set_two(out: &mut [u8], pos: usize, v: usize)
 // Writes a number in four bytes that the buffer has.
 fn set_four(out: &mut [u8], pos: usize, v: usize)
     requires { ⌜ pos + 4 ≤ length (now out) ⌝ }
-    ensures { λ _. ⌜ now (out .exit) ≡ sets (now (out .entry)) pos (number 4 v) ⌝ }
+    ensures { λ _. ⌜ now (out .exit) ≡ sets (now (out .entry)) pos (littleEndian 4 v) ⌝ }
 {
     set_two(out, pos, v);
     set_two(out, pos + 2, v / 65536);

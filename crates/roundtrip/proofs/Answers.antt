@@ -9,7 +9,7 @@ use lib.Dec.{eqb}
 use Rattle.classes.proofs.Bools.{false-true}
 use Rattle.words.specs.Kinds.{Greater, GreaterGreater}
 use Rattle.records.specs.Tree.{Trees}
-use Rattle.sources.specs.Source.{Source, Token, Scanned, tok, bad, lex}
+use Rattle.sources.specs.Source.{Source, Lexeme, LexResult, tok, bad, lex}
 use Rattle.answers.specs.Reading.{Ans, ok, no, then, look, when, closed}
 use Rattle.roundtrip.proofs.Tokens.{Met, met, Each, Editions, Rest, Good, lex-good}
 
@@ -17,12 +17,12 @@ pub data Gives (es : Editions) {A : Type 0} (P : A → Type 0) (z : List ℕ) : 
   gives : (x : A) (u : Source) → P x → Rest es u z → Gives es P z (ok x u)
 
 -- the token t closes a list, and z stands behind; or it does not
-pub record Shuts (es : Editions) (close : ℕ) (z : List ℕ) (t : Token) : Type 0 where
+pub record Shuts (es : Editions) (close : ℕ) (z : List ℕ) (t : Lexeme) : Type 0 where
   pub to : Source
   pub rest : Rest es to z
   pub shuts : (f : Source → Ans Trees) (g : Unit {0} → Ans Trees) → closed close t f g ≡ f to
 
-pub record Stays (close : ℕ) (t : Token) : Type 0 where
+pub record Stays (close : ℕ) (t : Lexeme) : Type 0 where
   pub noClose : eqb (t .kind) close ≡ false
   pub noShift : eqb close Greater && eqb (t .kind) GreaterGreater ≡ false
 
@@ -32,7 +32,7 @@ module _ {es : Editions} {A B : Type 0} {P : A → Type 0} {Q : B → Type 0} {y
   gives-then f (gives x u p e) k = k x u p e
 
 module _ {es : Editions} {B : Type 0} {Q : B → Type 0} {z : List ℕ} where
-  pub gives-look : {P : Token → Type 0} {l : Scanned} (f : Token → Ans B) → Met P l → ((t : Token) → P t → Gives es Q z (f t)) → Gives es Q z (look l f)
+  pub gives-look : {P : Lexeme → Type 0} {l : LexResult} (f : Lexeme → Ans B) → Met P l → ((t : Lexeme) → P t → Gives es Q z (f t)) → Gives es Q z (look l f)
   unfolding look
   gives-look f (met {t} p) k = k t p
 
@@ -47,11 +47,11 @@ module _ {es : Editions} {B : Type 0} {Q : B → Type 0} {z : List ℕ} where
   pub gives-false : (b : Bool) (f g : Unit {0} → Ans B) → b ≡ false → Gives es Q z (g tt) → Gives es Q z (when b f g)
   gives-false b f g e h = gives-when b f g (λ x. false-true _ (sym e ∙ x)) λ _. h
 
-  pub gives-stays : (close : ℕ) (t : Token) (f : Source → Ans B) (g : Unit {0} → Ans B) → Stays close t → Gives es Q z (g tt) → Gives es Q z (closed close t f g)
+  pub gives-stays : (close : ℕ) (t : Lexeme) (f : Source → Ans B) (g : Unit {0} → Ans B) → Stays close t → Gives es Q z (g tt) → Gives es Q z (closed close t f g)
   unfolding closed
   gives-stays close t f g s h = gives-false _ _ _ (s .noClose) (gives-false _ _ _ (s .noShift) h)
 
-pub gives-shuts : {es : Editions} {Q : Trees → Type 0} {y z : List ℕ} {close : ℕ} {t : Token} (f : Source → Ans Trees) (g : Unit {0} → Ans Trees) (s : Shuts es close y t) → Gives es Q z (f (s .to)) → Gives es Q z (closed close t f g)
+pub gives-shuts : {es : Editions} {Q : Trees → Type 0} {y z : List ℕ} {close : ℕ} {t : Lexeme} (f : Source → Ans Trees) (g : Unit {0} → Ans Trees) (s : Shuts es close y t) → Gives es Q z (f (s .to)) → Gives es Q z (closed close t f g)
 gives-shuts {es} {Q} {y} {z} f g s h = subst (Gives es Q z) (sym (s .shuts f g)) h
 
 module _ (es : Editions) where
@@ -68,11 +68,11 @@ module _ (es : Editions) where
   map-every P Q (no r) f h = tt
 
   module _ {B : Type 0} (Q : B → Type 0) where
-    pub look-every : (u : Source) → Here u → (f : Token → Ans B) → ((t : Token) → Good es t → Every Q (f t)) → Every Q (look (lex u) f)
+    pub look-every : (u : Source) → Here u → (f : Lexeme → Ans B) → ((t : Lexeme) → Good es t → Every Q (f t)) → Every Q (look (lex u) f)
     unfolding look
     look-every u e f h = go (lex u) (lex-good es u e)
       where
-        go : (l : Scanned) → Each (Good es) l → Every Q (look l f)
+        go : (l : LexResult) → Each (Good es) l → Every Q (look l f)
         go (tok t) g = h t g
         go (bad r) g = tt
 

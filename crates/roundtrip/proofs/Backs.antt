@@ -10,7 +10,7 @@ use Rattle.classes.proofs.Bools.{false-true}
 use Rattle.words.specs.Kinds.{Identifier, AtSign, Pipe}
 use Rattle.records.specs.Kinds.{RecName, RecPair}
 use Rattle.records.specs.Tree.{Tree, node, Trees, none, more, behind, joined, build, builds}
-use Rattle.sources.specs.Source.{Source, Token, start, word, tok, lex}
+use Rattle.sources.specs.Source.{Source, Lexeme, start, word, tok, lex}
 use Rattle.answers.specs.Reading.{Ans, ok, no, leafOf, Reader}
 use Rattle.grammar.specs.Names.{isFirst, firstPart, chain}
 use Rattle.grammar.specs.Values.{leafKind, value}
@@ -40,10 +40,10 @@ no-at k b h = go (eqb k AtSign) refl
 module _ (es : Editions) where
   -- the first two of three parts
   data Paired : Tree → Type 0 where
-    paired : (a b : Token) (s e : ℕ) → isFirst a ≡ true → Spelled es (a .kind) (word a) → Spelled es Identifier (word b) → Paired (node RecPair s e (more (firstPart a) (more (leafOf RecName b) none)))
+    paired : (a b : Lexeme) (s e : ℕ) → isFirst a ≡ true → Spelled es (a .kind) (word a) → Spelled es Identifier (word b) → Paired (node RecPair s e (more (firstPart a) (more (leafOf RecName b) none)))
 
   -- what is read from the token a, by its sort; and an item of a list, whose first token does not close it
-  abbrev Back : Sort → Token → Tree → Type 0
+  abbrev Back : Sort → Lexeme → Tree → Type 0
   Back aName a x = Chain es x
   Back aPair a x = Paired x
   Back aValue a x = ValueBack es x
@@ -54,13 +54,13 @@ module _ (es : Editions) where
   Back aLambdaList a x = LambdaBack es x
 
   abbrev Item : Sort → ℕ → Tree → Type 0
-  Item s close x = (t : Token) × (eqb (t .kind) close ≡ false) × Back s t x
+  Item s close x = (t : Lexeme) × (eqb (t .kind) close ≡ false) × Back s t x
 
   data Row : List Part → Trees → Type 0 where
     nothing : Row [] none
     marked : {k : ℕ} {r : List Part} {ts : Trees} → Row r ts → Row (mark k ∷ r) ts
-    leafed : {l : Role} {r : List Part} {ts : Trees} (t : Token) → Good es t → Fits l t → Row r ts → Row (leaf l ∷ r) (behind ts (leafOf (kindOf l t) t))
-    oned : {s : Sort} {r : List Part} {ts : Trees} (t : Token) (x : Tree) → Back s t x → Row r ts → Row (one s ∷ r) (behind ts x)
+    leafed : {l : Role} {r : List Part} {ts : Trees} (t : Lexeme) → Good es t → Fits l t → Row r ts → Row (leaf l ∷ r) (behind ts (leafOf (kindOf l t) t))
+    oned : {s : Sort} {r : List Part} {ts : Trees} (t : Lexeme) (x : Tree) → Back s t x → Row r ts → Row (one s ∷ r) (behind ts x)
     manied : {s : Sort} {c : ℕ} {r : List Part} {ts : Trees} (us : Trees) → All (Item s c) us → Row r ts → Row (many s c ∷ r) (joined ts us)
 
   types-of : (n c : ℕ) (ts : Trees) → All (Item (aType n) c) ts → All (Typed es n) ts
@@ -76,7 +76,7 @@ module _ (es : Editions) where
   binds-of n c = all-map (Item (aBind n) c) (Bound es n) λ t h. h .2
 
   -- each record
-  made-back : {s : Sort} {c : ℕ} {r : List Part} {xs : Trees} → Rule s c r → (a : Token) (e : ℕ) → Starts r a → Row r xs → Back s a (node c (start a) e xs)
+  made-back : {s : Sort} {c : ℕ} {r : List Part} {xs : Trees} → Rule s c r → (a : Lexeme) (e : ℕ) → Starts r a → Row r xs → Back s a (node c (start a) e xs)
   unfolding behind joined build kindOfBuild
   made-back pair a e z (leafed b g i (marked (leafed t h f nothing))) = paired t b _ _ f (first-word es t h f) (identifier es b g i)
   made-back two a e z (leafed b g i (marked (leafed t h f nothing))) = chain-two es t b f (first-word es t h f) (identifier es b g i) _ _
@@ -94,7 +94,7 @@ module _ (es : Editions) where
   made-back alone a e z (oned t x h nothing) = list-back es _ _ (more x none) (h, tt)
   made-back lambda a e z (manied xs i (marked nothing)) = lambda-back es _ _ xs (binds-of levels _ xs i)
 
-  lone-back : {s : Sort} {l : Role} → Lone s l → (a : Token) → Good es a → Fits l a → Back s a (leafOf (kindOf l a) a)
+  lone-back : {s : Sort} {l : Role} → Lone s l → (a : Lexeme) → Good es a → Fits l a → Back s a (leafOf (kindOf l a) a)
   lone-back aPart a g f = chain-one es a (identifier es a g f)
   lone-back (aVariable {n = n}) a g f = variable-back es n a (identifier es a g f)
 
@@ -112,10 +112,10 @@ module _ (es : Editions) where
   abbrev F : Frame
   F = about facts
 
-  token-fact : (t : Token) → Good es t → Fact facts t
+  token-fact : (t : Lexeme) → Good es t → Fact facts t
   token-fact t g = record { good = g; on = g .0; half = λ _. g .0 }
 
-  found : (u : Source) (t : Token) → Here es u → lex u ≡ tok t → Fact facts t
+  found : (u : Source) (t : Lexeme) → Here es u → lex u ≡ tok t → Fact facts t
   found u t h l = token-fact t (subst (Each (Good es)) l (lex-good es u h))
 
   law : Lawful F
@@ -144,24 +144,24 @@ module _ (es : Editions) where
   short : Short F
   short n a a₂ x k o = let i = identifier es a (x .good) k in field-back es n _ _ a (leafOf 20 a) i (variable-back es n a i)
 
-  sure : (s : Sort) (item : Reader) → RelReader F s item item → (a : Token) → Good es a → Every es (Back s a) (item a)
+  sure : (s : Sort) (item : Reader) → RelReader F s item item → (a : Lexeme) → Good es a → Every es (Back s a) (item a)
   sure s item h a g = go (item a) (reader-of facts s item h a (token-fact a g))
     where
       go : (b : Ans Tree) → Of facts (λ u x. Back s a x) b → Every es (Back s a) b
       go (ok x u) r = (r .1, r .0)
       go (no q) r = tt
 
-  pub chain-sure : (a : Token) → Good es a → Every es (Chain es) (chain a)
+  pub chain-sure : (a : Lexeme) → Good es a → Every es (Chain es) (chain a)
   chain-sure a g = sure aName chain (chain-rel F law) a g
 
-  pub value-sure : (a : Token) → Good es a → Every es (ValueBack es) (value a)
+  pub value-sure : (a : Lexeme) → Good es a → Every es (ValueBack es) (value a)
   value-sure a g = sure aValue value (value-rel F law literal) a g
 
-  pub type-sure : (n : ℕ) (a : Token) → Good es a → Every es (Typed es n) (readType n a)
+  pub type-sure : (n : ℕ) (a : Lexeme) → Good es a → Every es (Typed es n) (readType n a)
   type-sure n a g = map-every es _ (Typed es n) (readType n a) (λ x h. h .0) (sure (aType n) (readType n) (type-same F law refl n) a g)
 
-  pub list-sure : (a : Token) → Good es a → Every es (ListBack es) (readBindList a)
+  pub list-sure : (a : Lexeme) → Good es a → Every es (ListBack es) (readBindList a)
   list-sure a g = sure aBindList readBindList (bind-list-same F law refl short) a g
 
-  pub lambda-sure : (a : Token) → Good es a → Every es (LambdaBack es) (readLambdaList a)
+  pub lambda-sure : (a : Lexeme) → Good es a → Every es (LambdaBack es) (readLambdaList a)
   lambda-sure a g = sure aLambdaList readLambdaList (lambda-list-same F law refl short) a g

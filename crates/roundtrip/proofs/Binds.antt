@@ -9,7 +9,7 @@ use Rattle.classes.specs.Class.{inRange, isDigit, isLetter, isName}
 use Rattle.words.specs.Kinds.{Identifier, RParen, Greater, Pipe, LBrace, RBrace}
 use Rattle.records.specs.Kinds.{RecName, RecVariable, RecStruct, RecStructTyped, RecField, RecBindList, RecLambdaBindList}
 use Rattle.records.specs.Tree.{Tree, node, Trees, none, more, joined, Build, spelled, made, Builds, bnone, bmore, build, builds}
-use Rattle.sources.specs.Source.{Source, Token, word, after, lex}
+use Rattle.sources.specs.Source.{Source, Lexeme, word, after, lex}
 use Rattle.answers.specs.Reading.{leafOf}
 use Rattle.grammar.specs.Types.{levels, readType}
 use Rattle.grammar.specs.Binds.{fields, structOver, unpacked, bindOver, fieldOver, readField, readBind, readBindList, readLambdaList}
@@ -52,7 +52,7 @@ braces-line : (fs : Trees) (z : List ℕ) → (bytes " {" ++ (laidItems FormLine
 braces-line fs z = ap (λ (x : List ℕ). 32 ∷ 123 ∷ x) (round fs 125 z)
 
 module _ (s e : ℕ) where
-  field-line : (a : Token) (x : Tree) (z : List ℕ) → shown (node RecField s e (more (leafOf RecName a) (more x none))) ++ z ≡ word a ++ (58 ∷ 32 ∷ (shown x ++ z))
+  field-line : (a : Lexeme) (x : Tree) (z : List ℕ) → shown (node RecField s e (more (leafOf RecName a) (more x none))) ++ z ≡ word a ++ (58 ∷ 32 ∷ (shown x ++ z))
   unfolding laid headed head markIn
   field-line a x z =
       ap (λ (y : List ℕ). y ++ z) (laid-field FormLine s e (leafOf RecName a) x ∙ ap (λ (y : List ℕ). y ++ (58 ∷ 32 ∷ shown x)) (leaf-shown RecName a refl)) ∙ append-assoc (word a) (58 ∷ 32 ∷ shown x) z
@@ -97,7 +97,7 @@ module _ (es : Editions) where
   fields-open : (n : ℕ) (xs : Trees) → All (Fielded n) xs → All (Reads es (readField n (readBind n)) (Opens RBrace)) xs
   fields-open n = all-map (Fielded n) (Reads es (readField n (readBind n)) (Opens RBrace)) λ x d. opened es (readField n (readBind n)) (λ k. eqb k Identifier) RBrace refl refl refl x (d .reads)
 
-  pub variable-back : (n : ℕ) (a : Token) → Spelled es Identifier (word a) → Bound (suc n) (leafOf RecVariable a)
+  pub variable-back : (n : ℕ) (a : Lexeme) → Spelled es Identifier (word a) → Bound (suc n) (leafOf RecVariable a)
   unfolding readBind bindOver build
   variable-back n a m = record {
     starts = λ z. rw (leaf-shown RecVariable a refl) (headed-starts (word a) z (m .0));
@@ -109,7 +109,7 @@ module _ (es : Editions) where
         (m .1 u z (rw (leaf-shown RecVariable a refl) at d) (e .stops));
   }
 
-  pub field-back : (n s e : ℕ) (a : Token) (x : Tree) → Spelled es Identifier (word a) → Bound (suc n) x → Fielded (suc n) (node RecField s e (more (leafOf RecName a) (more x none)))
+  pub field-back : (n s e : ℕ) (a : Lexeme) (x : Tree) → Spelled es Identifier (word a) → Bound (suc n) x → Fielded (suc n) (node RecField s e (more (leafOf RecName a) (more x none)))
   unfolding readField fieldOver build builds isField kindOfBuild
   field-back n s e a x m h = record {
     marked = refl;
@@ -129,13 +129,13 @@ module _ (es : Editions) where
 
   -- structs, over parts with n levels left
   module _ (n : ℕ) where
-    fields-back : (fs : Trees) → All (Fielded n) fs → (z : List ℕ) (t : Token) → Word es LBrace (bytes "{") (join fs (125 ∷ z)) t → Gives es (SameAll fs) z (fields (readType n) (readField n (readBind n)) t)
+    fields-back : (fs : Trees) → All (Fielded n) fs → (z : List ℕ) (t : Lexeme) → Word es LBrace (bytes "{") (join fs (125 ∷ z)) t → Gives es (SameAll fs) z (fields (readType n) (readField n (readBind n)) t)
     unfolding fields
     fields-back fs a z t i = gives-true _ _ _ (rw (i .kind)) (list-reads es (readField n (readBind n)) RBrace t refl (125 ∷ z) z (closed-brace z) fs (fields-open n fs a) (at-once (i .goes)))
 
     -- a struct named c, whose line goes on with f
     struct-like : (c x : Tree) (f : List ℕ → List ℕ) → ((z : List ℕ) → shown x ++ z ≡ shown c ++ f z) → Chain es c → ((z : List ℕ) → Ends es isColons (f z)) → ((z : List ℕ) (v : Source) → Rest es v (f z) → Met Structs (lex v))
-        → ((b : Token) (y : Tree) → Same c y → (z : List ℕ) (v : Source) → Rest es v (f z) → Gives es (Same x) z (structOver (readType n) (readField n (readBind n)) b y v)) → Bound (suc n) x
+        → ((b : Lexeme) (y : Tree) → Same c y → (z : List ℕ) (v : Source) → Rest es v (f z) → Gives es (Same x) z (structOver (readType n) (readField n (readBind n)) b y v)) → Bound (suc n) x
     unfolding readBind bindOver unpacked
     struct-like c x f l h e g k = record {
       starts = λ z. rw (l z) (h .starts (f z));
@@ -174,7 +174,7 @@ module _ (es : Editions) where
 
   -- the two lists
   abbrev pub ListBack : Tree → Type 0
-  ListBack x = (u : Source) (z : List ℕ) → Near es u (shown x ++ z) → Met (λ (a : Token). Gives es (Same x) z (readBindList a)) (lex u)
+  ListBack x = (u : Source) (z : List ℕ) → Near es u (shown x ++ z) → Met (λ (a : Lexeme). Gives es (Same x) z (readBindList a)) (lex u)
 
   pub list-back : (s e : ℕ) (xs : Trees) → All (Bound levels) xs → ListBack (node RecBindList s e xs)
   unfolding readBindList build
@@ -183,7 +183,7 @@ module _ (es : Editions) where
       (lparen es u (join xs (41 ∷ z)) (subst (Near es u) (list-line s e xs z) d) tt)
 
   abbrev pub LambdaBack : Tree → Type 0
-  LambdaBack x = (u : Source) (z : List ℕ) → Near es u (shown x ++ z) → Stops isBar z → Met (λ (a : Token). Gives es (Same x) z (readLambdaList a)) (lex u)
+  LambdaBack x = (u : Source) (z : List ℕ) → Near es u (shown x ++ z) → Stops isBar z → Met (λ (a : Lexeme). Gives es (Same x) z (readLambdaList a)) (lex u)
 
   pub lambda-back : (s e : ℕ) (xs : Trees) → All (Bound levels) xs → LambdaBack (node RecLambdaBindList s e xs)
   unfolding readLambdaList build

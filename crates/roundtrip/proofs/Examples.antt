@@ -11,11 +11,11 @@ use Rattle.gap.specs.LineFeed.{holdsLineFeed, lineFeed}
 use Rattle.words.specs.Tables.{keywords, longMarks, doubleMarks, singleMarks, marks}
 use Rattle.words.specs.Search.{same, lookup, kindOf, longest, markOf, frontLen, suffixes1, suffixesOf, suffixLen}
 use Rattle.words.specs.Quote.{endsLine, quoteFrom}
-use Rattle.tokens.specs.Token.{typed, digitsLen, moreDigits, moreHex, decimalLen, decimal, hexTyped, hexLen, hexNumber, number, stringBy, string, opensString, stringRefusal, name, word, mark, findToken, placed, behindGap, lex as lexFrom}
+use Rattle.tokens.specs.Token.{typed, digitsLen, moreDigits, moreHex, decimalLen, decimal, hexTyped, hexLen, hexNumber, numberToken, stringBy, string, opensString, stringRefusal, name, wordToken, mark, findToken, placed, behindGap, scan}
 use Rattle.tokens.specs.Answers.{tokenNumber, tokenValues}
 use Rattle.tokens.specs.Calls.{_orElse_, placeFault, callFault, unless, lexed, nextToken, lineFeedBefore, advanced, tokenCall}
 use Rattle.records.specs.Tree.{build, builds, behind, joined}
-use Rattle.records.specs.Stored.{number as inBytes, headOf, counted, countedAll, records}
+use Rattle.records.specs.Stored.{littleEndian, headOf, counted, countedAll, records}
 use Rattle.sources.specs.Source.{scanned, lex}
 use Rattle.answers.specs.Reading.{then, look, when, closed, list, listBehind}
 use Rattle.grammar.specs.Names.{lastPart, thirdPart, secondPart, chain}
@@ -25,17 +25,17 @@ use Rattle.grammar.specs.Binds.{fields, structOver, unpacked, bindOver, fieldOv
 use Rattle.grammar.specs.Items.{readKind, followed, finished, faultOf, readItem}
 use Rattle.forms.specs.Line.{plain, others, commas, bars, angles, inBrackets, braces, first, later, initial, final, select, isField, isType, shape, kindOfBuild, line as lineOf, pieces, shown}
 use Rattle.forms.specs.Forms.{front, headSize, width, head, recorded, recordedAll, laid, written, formOf}
-use Rattle.forms.specs.Spoiled.{spoils, spoiledWord, firstOf, spoiled, spoiledAll}
-use Rattle.calls.specs.Calls.{roomed, filled, unlessSpoiled, unspoiled, answeredIn, read as readCall, readBuffer, answered, readNumber, readValues, display as displayCall, displayBuffer, displayed, displayNumber, displayValues}
+use Rattle.forms.specs.Unprintable.{isUnprintable, unprintableIn, firstOf, unprintable, unprintableAll}
+use Rattle.calls.specs.Calls.{roomed, filled, unlessUnprintable, ifPrintable, answeredIn, read as readCall, readBuffer, answered, readNumber, readValues, display as displayCall, displayBuffer, displayed, displayNumber, displayValues}
 use Rattle.roundtrip.specs.Examples.{expected, given, examples}
 
--- the definitions by which a gap and a word are found; a token; its answer; an item; its bytes and answer; and what spoils a line
+-- the definitions by which a gap and a word are found; a token; its answer; an item; its bytes and answer; and the first unprintable byte
 unfoldable scanning : Unit {0}
 unfolding begins inRange isDigit isHex isLetter isName isAscii inLine runLen isSpace isBlank slashes opens closes docLine docBlock inside lineText lineComment blockComment partAt gap holdsLineFeed lineFeed
 scanning = tt
 
 unfoldable lexing : Unit {0}
-unfolding keywords longMarks doubleMarks singleMarks marks same lookup kindOf longest markOf frontLen suffixes1 suffixesOf suffixLen endsLine quoteFrom typed digitsLen moreDigits moreHex decimalLen decimal hexTyped hexLen hexNumber number stringBy string opensString stringRefusal name word mark findToken placed behindGap lexFrom
+unfolding keywords longMarks doubleMarks singleMarks marks same lookup kindOf longest markOf frontLen suffixes1 suffixesOf suffixLen endsLine quoteFrom typed digitsLen moreDigits moreHex decimalLen decimal hexTyped hexLen hexNumber numberToken stringBy string opensString stringRefusal name wordToken mark findToken placed behindGap scan
 lexing = tt
 
 unfoldable telling : Unit {0}
@@ -47,13 +47,13 @@ unfolding then look when closed list listBehind lastPart thirdPart secondPart ch
 reading = tt
 
 unfoldable calling : Unit {0}
-unfolding build builds inBytes headOf counted countedAll records plain others commas bars angles inBrackets braces first later initial final select isField isType shape kindOfBuild lineOf pieces shown front headSize width head recorded recordedAll laid written formOf roomed filled answeredIn readCall readBuffer answered readNumber readValues displayCall displayBuffer displayed displayNumber displayValues
+unfolding build builds littleEndian headOf counted countedAll records plain others commas bars angles inBrackets braces first later initial final select isField isType shape kindOfBuild lineOf pieces shown front headSize width head recorded recordedAll laid written formOf roomed filled answeredIn readCall readBuffer answered readNumber readValues displayCall displayBuffer displayed displayNumber displayValues
 calling = tt
 
-unfoldable spoiling : Unit {0}
-unfolding spoils spoiledWord firstOf spoiled spoiledAll unlessSpoiled unspoiled
-spoiling = tt
+unfoldable printing : Unit {0}
+unfolding isUnprintable unprintableIn firstOf unprintable unprintableAll unlessUnprintable ifPrintable
+printing = tt
 
 pub examples-hold : map given examples ≡ map expected examples
-unfolding given examples scanning lexing telling reading calling spoiling
+unfolding given examples scanning lexing telling reading calling printing
 examples-hold = refl

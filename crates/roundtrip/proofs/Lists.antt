@@ -11,7 +11,7 @@ use Rattle.classes.proofs.Bools.{and-false}
 use Rattle.words.specs.Kinds.{Comma, Less, Greater, GreaterGreater, LBrace, ColonColon}
 use Rattle.tokens.specs.Refusals.{ListNotClosed}
 use Rattle.records.specs.Tree.{Tree, Trees, none, more, bmore, build, builds}
-use Rattle.sources.specs.Source.{Source, Token, after, split, lex}
+use Rattle.sources.specs.Source.{Source, Lexeme, after, split, lex}
 use Rattle.answers.specs.Reading.{ok, no, then, look, when, closed, refusedBefore, Reader, list, listBehind}
 use Rattle.forms.specs.Line.{shown}
 use Rattle.forms.specs.Forms.{FormLine, markIn, laid, listedRest, laidItems}
@@ -59,24 +59,24 @@ abbrev pub structs : ℕ → Bool
 structs k = eqb k LBrace || eqb k Less || eqb k ColonColon
 
 -- a token that neither closes a list nor is a comma
-pub record Opens (close : ℕ) (t : Token) : Type 0 where
+pub record Opens (close : ℕ) (t : Lexeme) : Type 0 where
   pub stays : Stays close t
   pub noComma : eqb (t .kind) Comma ≡ false
 
 -- a token of a class
-abbrev pub Begins : (ℕ → Bool) → Token → Type 0
+abbrev pub Begins : (ℕ → Bool) → Lexeme → Type 0
 Begins F t = F (t .kind) ≡ true
 
 module _ (es : Editions) where
   -- the line of x reads back, and F holds of its first token
-  abbrev pub Reads : Reader → (Token → Type 0) → Tree → Type 0
-  Reads item F x = (u : Source) (z : List ℕ) → Near es u (shown x ++ z) → Ends es structs z → Met (λ (a : Token). F a × Gives es (Same x) z (item a)) (lex u)
+  abbrev pub Reads : Reader → (Lexeme → Type 0) → Tree → Type 0
+  Reads item F x = (u : Source) (z : List ℕ) → Near es u (shown x ++ z) → Ends es structs z → Met (λ (a : Lexeme). F a × Gives es (Same x) z (item a)) (lex u)
 
   -- the items of a list, where neither what closes it nor a comma is of the class of tokens that begin them
   pub opened : (item : Reader) (F : ℕ → Bool) (close : ℕ) → F close ≡ false → F GreaterGreater ≡ false → F Comma ≡ false → (x : Tree) → Reads item (Begins F) x → Reads item (Opens close) x
   opened item F close h i j x d u z n e = met-map (λ t g. (opens t (g .0), g .1)) (d u z n e)
     where
-      opens : (t : Token) → F (t .kind) ≡ true → Opens close t
+      opens : (t : Lexeme) → F (t .kind) ≡ true → Opens close t
       opens t k =
           record {
             stays = record { noClose = differs F close (t .kind) h k; noShift = rw (differs F GreaterGreater (t .kind) i k) (and-false (eqb close Greater)) };
@@ -103,7 +103,7 @@ module _ (es : Editions) where
         record { to = split t; rest = (d .here .0, ap (drop 1) (d .here .1) ∙ sym e); shuts = λ f g. rw (d .kind) };
   }
 
-  module _ (item : Reader) (close : ℕ) (o : Token) (commaOpen : eqb Comma close ≡ false) (y z : List ℕ) (cl : Closed close y z) where
+  module _ (item : Reader) (close : ℕ) (o : Lexeme) (commaOpen : eqb Comma close ≡ false) (y z : List ℕ) (cl : Closed close y z) where
     Back : Trees → Type 0
     Back ts = (f : ℕ) (u : Source) → Near es u (join ts y) → length (join ts y) < f → Gives es (SameAll ts) z (list item close o f (lex u))
 
@@ -112,7 +112,7 @@ module _ (es : Editions) where
     rest-ends none = cl .isEnd
     rest-ends (more t ts) = ends es structs (comma es) _ _ tt refl refl refl (λ u. at-once)
 
-    comma-stays : (t : Token) → t .kind ≡ Comma → Stays close t
+    comma-stays : (t : Lexeme) → t .kind ≡ Comma → Stays close t
     comma-stays t e = record { noClose = rw (e, commaOpen); noShift = rw e (and-false (eqb close Greater)) }
 
     -- what follows an item

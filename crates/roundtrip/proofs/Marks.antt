@@ -14,14 +14,14 @@ use Rattle.gap.specs.Gap.{gap}
 use Rattle.words.specs.Tables.{longMarks, doubleMarks, singleMarks, marks}
 use Rattle.words.specs.Search.{longest, markOf}
 use Rattle.words.specs.Kinds.{EOF, Amp, AmpMut, LParen, RParen, Comma, Colon, ColonColon, Less, Greater, GreaterGreater, LBrace, Pipe, RBrace, AtSign}
-use Rattle.tokens.specs.Token.{mark, findToken, tok as found, placed, behindGap, lex as lexFrom}
-use Rattle.sources.specs.Source.{Source, Token, after, lex}
+use Rattle.tokens.specs.Token.{mark, findToken, tok as found, placed, behindGap, scan}
+use Rattle.sources.specs.Source.{Source, Lexeme, after, lex}
 use Rattle.roundtrip.proofs.Words.{Stops, extends}
 use Rattle.roundtrip.proofs.Tokens.{Met, met-map, Editions, Rest, Near, at-once, Word, Stands, stands}
 
 -- the definitions by which a mark is found
 unfoldable pub lexer : Unit {0}
-unfolding begins inRange isDigit isLetter isName isSpace isBlank slashes opens partAt gap longMarks doubleMarks singleMarks marks longest markOf mark findToken placed behindGap lexFrom
+unfolding begins inRange isDigit isLetter isName isSpace isBlank slashes opens partAt gap longMarks doubleMarks singleMarks marks longest markOf mark findToken placed behindGap scan
 lexer = tt
 
 -- marks that are what they are before any bytes; before a blank; and before bytes that make no longer mark of them
@@ -89,7 +89,7 @@ module _ (es : Editions) where
   unfolding lexer
   amp-mut = stands es Always AmpMut (bytes "&mut ") λ z s. refl
 
-  less-from : (z : List ℕ) → Stops widens z → lexFrom (es .back) 0 (60 ∷ z) ≡ found Less 0 1 (60 ∷ []) z
+  less-from : (z : List ℕ) → Stops widens z → scan (es .back) 0 (60 ∷ z) ≡ found Less 0 1 (60 ∷ []) z
   unfolding lexer
   less-from [] s = refl
   less-from (b ∷ z) s = rw (or-left (eqb b 60) (eqb b 61) s, or-right (eqb b 60) (eqb b 61) s)
@@ -97,7 +97,7 @@ module _ (es : Editions) where
   pub less : Stands es (Stops widens) Less (bytes "<")
   less = stands es (Stops widens) Less (bytes "<") less-from
 
-  bar-from : (z : List ℕ) → Stops isBar z → lexFrom (es .back) 0 (124 ∷ z) ≡ found Pipe 0 1 (124 ∷ []) z
+  bar-from : (z : List ℕ) → Stops isBar z → scan (es .back) 0 (124 ∷ z) ≡ found Pipe 0 1 (124 ∷ []) z
   unfolding lexer
   bar-from [] s = refl
   bar-from (b ∷ z) s = rw s
@@ -106,7 +106,7 @@ module _ (es : Editions) where
   bar = stands es (Stops isBar) Pipe (bytes "|") bar-from
 
   -- `>` or `>>`, by what is behind it
-  greater-from : (z : List ℕ) → Stops lengthens z → lexFrom (es .back) 0 (62 ∷ z) ≡ found Greater 0 1 (62 ∷ []) z
+  greater-from : (z : List ℕ) → Stops lengthens z → scan (es .back) 0 (62 ∷ z) ≡ found Greater 0 1 (62 ∷ []) z
   unfolding lexer
   greater-from [] s = refl
   greater-from (b ∷ z) s = rw (or-left (eqb b 61) (eqb b 62) s, or-right (eqb b 61) (eqb b 62) s)
@@ -115,8 +115,8 @@ module _ (es : Editions) where
   unfolding lexer
   shift = stands es Always GreaterGreater (bytes ">>") λ z s. refl
 
-  pub greater : (P : Token → Type 0) (u : Source) (z : List ℕ) → Near es u (62 ∷ z) → Stops isEqual z → ((t : Token) → Word es Greater (bytes ">") z t → P t)
-      → ((y : List ℕ) (t : Token) → z ≡ 62 ∷ y → Word es GreaterGreater (bytes ">>") y t → P t) → Met P (lex u)
+  pub greater : (P : Lexeme → Type 0) (u : Source) (z : List ℕ) → Near es u (62 ∷ z) → Stops isEqual z → ((t : Lexeme) → Word es Greater (bytes ">") z t → P t)
+      → ((y : List ℕ) (t : Lexeme) → z ≡ 62 ∷ y → Word es GreaterGreater (bytes ">>") y t → P t) → Met P (lex u)
   greater P u [] n s f g = met-map f (stands es (Stops lengthens) Greater (bytes ">") greater-from u [] n tt)
   greater P u (b ∷ z) n s f g = go (eqb b 62) refl
     where
@@ -130,10 +130,10 @@ module _ (es : Editions) where
 pub record Ends (es : Editions) (f : ℕ → Bool) (z : List ℕ) : Type 0 where
   pub stops : Stops extends z
   pub noEqual : Stops isEqual z
-  pub after : (u : Source) → Rest es u z → Met (λ (t : Token). f (t .kind) ≡ false) (lex u)
+  pub after : (u : Source) → Rest es u z → Met (λ (t : Lexeme). f (t .kind) ≡ false) (lex u)
 
 module _ (es : Editions) (f : ℕ → Bool) where
-  other-kind : {k : ℕ} {w z : List ℕ} → f k ≡ false → (t : Token) → Word es k w z t → f (t .kind) ≡ false
+  other-kind : {k : ℕ} {w z : List ℕ} → f k ≡ false → (t : Lexeme) → Word es k w z t → f (t .kind) ≡ false
   other-kind h t i = ap f (i .kind) ∙ h
 
   -- a mark that does not go on, at once or behind a blank

@@ -11,7 +11,7 @@ use Rattle.classes.proofs.Bools.{false-true, and-false}
 use Rattle.words.specs.Kinds.{NumValue, Identifier, ColonColon, AtSign}
 use Rattle.records.specs.Kinds.{RecName, RecAddress, RecOnePart, RecTwoPart, RecThreePart, RecPair, RecUnit, RecAddressValue}
 use Rattle.records.specs.Tree.{Tree, node, none, more, Build, spelled, made, bnone, bmore, build, builds}
-use Rattle.sources.specs.Source.{Source, Token, word, after, lex}
+use Rattle.sources.specs.Source.{Source, Lexeme, word, after, lex}
 use Rattle.answers.specs.Reading.{leafOf}
 use Rattle.grammar.specs.Names.{isFirst, firstPart, lastPart, thirdPart, secondPart, chain}
 use Rattle.grammar.specs.Values.{leafKind, valueKind, leafValue, addressValue, value}
@@ -30,7 +30,7 @@ use Rattle.roundtrip.proofs.Lists.{Same}
 abbrev pub isColons : ℕ → Bool
 isColons k = eqb k ColonColon
 
-abbrev pub Structs : Token → Type 0
+abbrev pub Structs : Lexeme → Type 0
 Structs t = isStruct t ≡ true
 
 -- the bytes that would make a longer mark of the `<` or the `|` before them
@@ -43,18 +43,18 @@ headed-starts [] z h = absurd h
 headed-starts (a ∷ w) z h = rw (differs isName 60 a refl h, differs isName 61 a refl h, differs isName 124 a refl h)
 
 -- leaves
-pub leaf-shown : (c : ℕ) (t : Token) → eqb c RecUnit ≡ false → shown (leafOf c t) ≡ word t
+pub leaf-shown : (c : ℕ) (t : Lexeme) → eqb c RecUnit ≡ false → shown (leafOf c t) ≡ word t
 unfolding laid spelt
 leaf-shown c t h = laid-leaf FormLine c _ _ (word t) h
 
-part-shown : (t : Token) → shown (firstPart t) ≡ word t
+part-shown : (t : Lexeme) → shown (firstPart t) ≡ word t
 part-shown t = leaf-shown _ t (go (eqb (t .kind) Identifier))
   where
     go : (b : Bool) → eqb (cond b RecName RecAddress) RecUnit ≡ false
     go true = refl
     go false = refl
 
-part-same : (t t₂ : Token) → t₂ .kind ≡ t .kind → word t₂ ≡ word t → build (firstPart t₂) ≡ build (firstPart t)
+part-same : (t t₂ : Lexeme) → t₂ .kind ≡ t .kind → word t₂ ≡ word t → build (firstPart t₂) ≡ build (firstPart t)
 unfolding build
 part-same t t₂ e g = rw (e, g)
 
@@ -62,7 +62,7 @@ colons-stop : (s : List ℕ) → Stops extends (58 ∷ 58 ∷ s)
 unfolding isName isLetter isDigit inRange
 colons-stop s = refl
 
-at-line : (s e : ℕ) (a : Token) → shown (node RecAddressValue s e (more (firstPart a) none)) ≡ 64 ∷ word a
+at-line : (s e : ℕ) (a : Lexeme) → shown (node RecAddressValue s e (more (firstPart a) none)) ≡ 64 ∷ word a
 unfolding laid headed head markIn
 at-line s e a = laid-address FormLine s e (firstPart a) ∙ ap (_∷_ 64) (part-shown a)
 
@@ -86,7 +86,7 @@ leaf-word k b = go (eqb k 55) refl (eqb k 43) refl (eqb k 1) refl (eqb k 2) refl
 
 module _ (es : Editions) where
   -- a is read as the name c, before z
-  pub record Named (c : Tree) (z : List ℕ) (a : Token) : Type 0 where
+  pub record Named (c : Tree) (z : List ℕ) (a : Lexeme) : Type 0 where
     pub first : isFirst a ≡ true
     pub back : Gives es (Same c) z (chain a)
     pub ahead : (((v : Source) → Rest es v z → Met Structs (lex v)) → eqb (a .kind) Identifier ≡ true → Met Structs (lex (after a)))
@@ -98,7 +98,7 @@ module _ (es : Editions) where
     pub reads : (u : Source) (z : List ℕ) → Near es u (shown c ++ z) → Ends es isColons z → Met (Named c z) (lex u)
 
   -- one part
-  pub chain-one : (a : Token) → Spelled es Identifier (word a) → Chain (leafOf RecOnePart a)
+  pub chain-one : (a : Lexeme) → Spelled es Identifier (word a) → Chain (leafOf RecOnePart a)
   unfolding chain build Bracketed
   chain-one a n = record {
     bracketed = tt;
@@ -111,9 +111,9 @@ module _ (es : Editions) where
   }
 
   -- a name that begins with the parts a and b, by what its line has behind them and by how that is read
-  module _ (a b : Token) (f : isFirst a ≡ true) (n : Spelled es (a .kind) (word a)) (m : Spelled es Identifier (word b)) where
+  module _ (a b : Lexeme) (f : isFirst a ≡ true) (n : Spelled es (a .kind) (word a)) (m : Spelled es Identifier (word b)) where
     chain-from : (c : Tree) (r : List ℕ → List ℕ) → Bracketed (build c) → ((z : List ℕ) → shown c ++ z ≡ word a ++ (58 ∷ 58 ∷ (word b ++ r z))) → ((z : List ℕ) → Ends es isColons z → Stops extends (r z))
-        → ((z : List ℕ) → Ends es isColons z → (a₂ b₂ : Token) → build (firstPart a₂) ≡ build (firstPart a) → word b₂ ≡ word b → Rest es (after b₂) (r z) → Gives es (Same c) z (thirdPart a₂ b₂)) → Chain c
+        → ((z : List ℕ) → Ends es isColons z → (a₂ b₂ : Lexeme) → build (firstPart a₂) ≡ build (firstPart a) → word b₂ ≡ word b → Rest es (after b₂) (r z) → Gives es (Same c) z (thirdPart a₂ b₂)) → Chain c
     unfolding chain secondPart
     chain-from c r p l s k = record {
       bracketed = p;
@@ -135,17 +135,17 @@ module _ (es : Editions) where
         chain-from (node RecTwoPart s e (more (firstPart a) (more (leafOf RecName b) none))) (λ z. z) (λ x. false-true _ x, (tt, (tt, tt))) (two-line RecTwoPart _ _ (laid-two FormLine _ _)) (λ z e. e .stops) λ z e a₂ b₂ g h i.
         gives-look _ (e .after (after b₂) i) λ t x. gives-false _ _ _ x (gives _ _ (ap₂ (λ (v : Build) (w : List ℕ). made RecTwoPart (bmore v (bmore (spelled RecName w) bnone))) g h) i)
 
-    abbrev pub parts : (s e s₂ e₂ : ℕ) → Token → Tree
+    abbrev pub parts : (s e s₂ e₂ : ℕ) → Lexeme → Tree
     parts s e s₂ e₂ c = node RecThreePart s e (more (node RecPair s₂ e₂ (more (firstPart a) (more (leafOf RecName b) none))) (more (leafOf RecName c) none))
 
-    three-line : (s e s₂ e₂ : ℕ) (c : Token) (z : List ℕ) → shown (parts s e s₂ e₂ c) ++ z ≡ word a ++ (58 ∷ 58 ∷ (word b ++ (58 ∷ 58 ∷ (word c ++ z))))
+    three-line : (s e s₂ e₂ : ℕ) (c : Lexeme) (z : List ℕ) → shown (parts s e s₂ e₂ c) ++ z ≡ word a ++ (58 ∷ 58 ∷ (word b ++ (58 ∷ 58 ∷ (word c ++ z))))
     unfolding laid headed head markIn
     three-line s e s₂ e₂ c z =
         ap (λ (x : List ℕ). x ++ z) (laid-three FormLine s e (node RecPair s₂ e₂ (more (firstPart a) (more (leafOf RecName b) none))) (leafOf RecName c))
         ∙ append-assoc (shown (node RecPair s₂ e₂ (more (firstPart a) (more (leafOf RecName b) none)))) (58 ∷ 58 ∷ shown (leafOf RecName c)) z
         ∙ two-line RecPair _ _ (laid-pair FormLine _ _) _ ∙ ap (λ (x : List ℕ). word a ++ (58 ∷ 58 ∷ (word b ++ (58 ∷ 58 ∷ (x ++ z))))) (leaf-shown RecName c refl)
 
-    pub chain-three : (s e s₂ e₂ : ℕ) (c : Token) → Spelled es Identifier (word c) → Chain (parts s e s₂ e₂ c)
+    pub chain-three : (s e s₂ e₂ : ℕ) (c : Lexeme) → Spelled es Identifier (word c) → Chain (parts s e s₂ e₂ c)
     unfolding thirdPart lastPart build builds Bracketed BracketedAll
     chain-three s e s₂ e₂ c o =
         chain-from (parts s e s₂ e₂ c) (λ z. 58 ∷ 58 ∷ (word c ++ z)) (λ x. false-true _ x, ((λ x. false-true _ x, (tt, (tt, tt))), (tt, tt))) (three-line s e s₂ e₂ c) (λ z e. colons-stop (word c ++ z)) λ z e a₂ b₂ g h i.
@@ -154,24 +154,24 @@ module _ (es : Editions) where
         (gives _ _ (rw (g, h, v .spelt)) (v .goes)))
 
   -- a token of a kind that is a word
-  pub identifier : (t : Token) → Good es t → eqb (t .kind) Identifier ≡ true → Spelled es Identifier (word t)
+  pub identifier : (t : Lexeme) → Good es t → eqb (t .kind) Identifier ≡ true → Spelled es Identifier (word t)
   identifier t g c = let e : t .kind ≡ Identifier = eqb-true (t .kind) Identifier c in subst (λ (k : ℕ). Spelled es k (word t)) e (g .1 (rw e refl))
 
-  pub first-word : (t : Token) → Good es t → isFirst t ≡ true → Spelled es (t .kind) (word t)
+  pub first-word : (t : Lexeme) → Good es t → isFirst t ≡ true → Spelled es (t .kind) (word t)
   first-word t g c = g .1 (rw c)
 
   -- values
   abbrev pub ValueBack : Tree → Type 0
-  ValueBack x = (u : Source) (z : List ℕ) → Near es u (shown x ++ z) → Ends es isColons z → Met (λ (a : Token). Gives es (Same x) z (value a)) (lex u)
+  ValueBack x = (u : Source) (z : List ℕ) → Near es u (shown x ++ z) → Ends es isColons z → Met (λ (a : Lexeme). Gives es (Same x) z (value a)) (lex u)
 
-  pub at-back : (s e : ℕ) (a : Token) → isFirst a ≡ true → Spelled es (a .kind) (word a) → ValueBack (node RecAddressValue s e (more (firstPart a) none))
+  pub at-back : (s e : ℕ) (a : Lexeme) → isFirst a ≡ true → Spelled es (a .kind) (word a) → ValueBack (node RecAddressValue s e (more (firstPart a) none))
   unfolding value addressValue build builds
   at-back s e a f n u z d h =
       met-map (λ t i. gives-true _ _ _ (rw (i .kind)) (gives-look _ (n .1 (after t) z (at-once (i .goes)) (h .stops)) λ a₂ j.
       gives-true _ _ _ (rw (j .kind) f) (gives _ _ (ap (λ (b : Build). made RecAddressValue (bmore b bnone)) (part-same a a₂ (j .kind) (j .spelt))) (j .goes))))
       (at-sign es u (word a ++ z) (rw (at-line s e a) at d) tt)
 
-  pub leaf-back : (t : Token) → Spelled es (t .kind) (word t) → eqb (t .kind) AtSign ≡ false → eqb (valueKind t) 0 ≡ false → ValueBack (leafOf (valueKind t) t)
+  pub leaf-back : (t : Lexeme) → Spelled es (t .kind) (word t) → eqb (t .kind) AtSign ≡ false → eqb (valueKind t) 0 ≡ false → ValueBack (leafOf (valueKind t) t)
   unfolding value leafValue build
   leaf-back t n a h u z d e =
       met-map (λ t₂ i. gives-false _ _ _ (rw (i .kind) a) (gives-false _ _ _ (rw (i .kind, i .spelt) h)

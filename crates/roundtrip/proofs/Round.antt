@@ -16,7 +16,7 @@ use Rattle.tokens.specs.declared.Fault.the-variants.{Faultless}
 use Rattle.tokens.proofs.Faults.{each-any, unless-sure, unless-not}
 use Rattle.records.specs.Tree.{Tree, build}
 use Rattle.records.specs.Stored.{counted, records}
-use Rattle.sources.specs.Source.{Source, opened, Token, start, Scanned, tok, bad, lex, tokenOf}
+use Rattle.sources.specs.Source.{Source, opened, Lexeme, start, LexResult, tok, bad, lex, tokenOf}
 use Rattle.sources.proofs.Standing.{Sound, lex-sound}
 use Rattle.answers.specs.Reading.{Ans, ok, no, look, when, Reader}
 use Rattle.answers.proofs.Sure.{stop, Sure, look-sure}
@@ -44,8 +44,8 @@ abbrev pub Alone : Editions → Asked → Tree → Type 0
 Alone es q x = Gives es (Same x) [] (reading (ofText (shown x) (inEdition (es .back) q)))
 
 module _ (es : Editions) where
-  alone : (q : Asked) (x : Tree) (one : Reader) → ((u : Source) → Near es u (shown x ++ []) → Met (λ (a : Token). Gives es (Same x) [] (one a)) (lex u))
-      → ((a : Token) → Gives es (Same x) [] (one a) → Gives es (Same x) [] (readKind (q .kind) a)) → Alone es q x
+  alone : (q : Asked) (x : Tree) (one : Reader) → ((u : Source) → Near es u (shown x ++ []) → Met (λ (a : Lexeme). Gives es (Same x) [] (one a)) (lex u))
+      → ((a : Lexeme) → Gives es (Same x) [] (one a) → Gives es (Same x) [] (readKind (q .kind) a)) → Alone es q x
   alone q x one h k = gives-look _ (h (opened (es .back) (shown x) 0) (at-once (refl, sym (append-nil (shown x))))) k
 
   -- nothing goes on with an item at the end
@@ -53,7 +53,7 @@ module _ (es : Editions) where
   at-end f h = ends es f (eof es) [] [] refl h tt tt λ u. at-once
 
   -- whatever is read as an item of a kind
-  kind-alone : (q : Asked) (a : Token) → Good es a → Every es (Alone es q) (readKind (q .kind) a)
+  kind-alone : (q : Asked) (a : Lexeme) → Good es a → Every es (Alone es q) (readKind (q .kind) a)
   unfolding readKind
   kind-alone q a g =
       when-every es _ _ _ _ (λ c. map-every es (Chain es) _ (chain a) (λ x h. alone q x chain (λ u n. met-map (λ b i. i .back) (h .reads u [] n (at-end isColons refl))) λ b. gives-true _ _ _ c) (chain-sure es a g)) λ c₁.
@@ -74,7 +74,7 @@ finished-of : (es : Editions) (P : Tree → Type 0) (a : Ans Tree) → Every es 
 unfolding finished followed
 finished-of es P (ok x u) h = go (lex u)
   where
-    go : (l : Scanned) → Of P (followed x l)
+    go : (l : LexResult) → Of P (followed x l)
     go (tok t) = h .1
     go (bad r) = tt
 finished-of es P (no r) h = tt
@@ -84,14 +84,14 @@ abbrev pub Called : Asked → (Tree → Type 0) → Tree → Type 0
 Called q P x = (faultOf q ≡ Faultless) × P x
 
 module _ (es : Editions) (q : Asked) (in-edition : q .edition ≡ es .read) where
-  item-of : (P : Tree → Type 0) → ((a : Token) → Good es a → Every es P (readKind (q .kind) a)) → Of (Called q P) (readItem q)
+  item-of : (P : Tree → Type 0) → ((a : Lexeme) → Good es a → Every es P (readKind (q .kind) a)) → Of (Called q P) (readItem q)
   unfolding readItem
   item-of P h =
       let Q = Called q P in
       unless-sure refused (Of Q) (faultOf q) _ (each-any (λ _. Unit {0}) (faultOf q) (λ _. tt)) λ e.
       finished-of es Q (reading q) (look-every es Q (opened (q .edition) (q .text) (q .at)) in-edition (readKind (q .kind)) λ a g. map-every es P Q (readKind (q .kind) a) (λ x y. (e, y)) (h a g))
 
-  pub item-alone : (x : Tree) (n : Token) → readItem q ≡ item x n → Called q (Alone es q) x
+  pub item-alone : (x : Tree) (n : Lexeme) → readItem q ≡ item x n → Called q (Alone es q) x
   item-alone x n e = subst (Of (Called q (Alone es q))) e (item-of (Alone es q) (kind-alone es q))
 
 -- in what is read as a type, anywhere and with any number of levels left, no function type stands directly among the arguments of
@@ -99,17 +99,17 @@ module _ (es : Editions) (q : Asked) (in-edition : q .edition ≡ es .read) wher
 abbrev InBrackets : Tree → Type 0
 InBrackets x = Bracketed (build x)
 
-bracketed-at : (es : Editions) (n : ℕ) (a : Token) → Good es a → Every es InBrackets (readType n a)
+bracketed-at : (es : Editions) (n : ℕ) (a : Lexeme) → Good es a → Every es InBrackets (readType n a)
 bracketed-at es n a g = map-every es (Typed es n) InBrackets (readType n a) (λ x h. h .bracketed) (type-sure es n a g)
 
 pub bracketed-sure : (n : ℕ) (u : Source) → Every (own (u .edition)) (λ (x : Tree). Bracketed (build x)) (look (lex u) (readType n))
 bracketed-sure n u = look-every (own (u .edition)) InBrackets u refl (readType n) (bracketed-at (own (u .edition)) n)
 
-as-type : (es : Editions) (a : Token) → Good es a → Every es InBrackets (readKind 3 a)
+as-type : (es : Editions) (a : Lexeme) → Good es a → Every es InBrackets (readKind 3 a)
 unfolding readKind when
 as-type es = bracketed-at es levels
 
-pub type-bracketed : (q : Asked) (x : Tree) (n : Token) → q .kind ≡ 3 → readItem q ≡ item x n → Bracketed (build x)
+pub type-bracketed : (q : Asked) (x : Tree) (n : Lexeme) → q .kind ≡ 3 → readItem q ≡ item x n → Bracketed (build x)
 type-bracketed q x n k e = subst (Of (Called q InBrackets)) e (item-of (own (q .edition)) q refl InBrackets (rw k (as-type (own (q .edition))))) .1
 
 -- what is read to the last byte of a text ends at its length, and EOF follows
@@ -124,10 +124,10 @@ stopped q text = look-sure (length text) (Stopped (length text)) (opened (q .edi
     go s (ok x u) h = h .on .stops
     go s (no r) h = tt
 
-eof-met : (es : Editions) (u : Source) → Rest es u [] → Met (λ (t : Token). tokenOf t ≡ eofAt (u .at)) (lex u)
+eof-met : (es : Editions) (u : Source) → Rest es u [] → Met (λ (t : Lexeme). tokenOf t ≡ eofAt (u .at)) (lex u)
 eof-met es u e = go (lex u) (lex-sound u) (eof es u [] (at-once e) refl)
   where
-    go : (l : Scanned) → Sound u l → Met (Word es EOF [] []) l → Met (λ (t : Token). tokenOf t ≡ eofAt (u .at)) l
+    go : (l : LexResult) → Sound u l → Met (Word es EOF [] []) l → Met (λ (t : Lexeme). tokenOf t ≡ eofAt (u .at)) l
     go (tok t) d (met i) = met {t = t} (
         let z = d .last (i .kind) in
         let y : t .here .at ≡ u .at = ap (λ (v : Source). v .at) (d .here) ∙ omega (arith, z .1, ap length (e .1)) in
@@ -148,7 +148,7 @@ same-records x y e = ap counted e
 -- build, the same line, and as many records
 pub record Again (q : Asked) (x : Tree) : Type 0 where
   pub tree : Tree
-  pub next : Token
+  pub next : Lexeme
   pub isItem : readItem (ofText (shown x) q) ≡ item tree next
   pub atEnd : tokenOf next ≡ eofAt (length (shown x))
   pub sameBuild : build tree ≡ build x
@@ -157,13 +157,13 @@ pub record Again (q : Asked) (x : Tree) : Type 0 where
 
 again-from : (es : Editions) (q : Asked) (x : Tree) (a : Ans Tree) → readItem (ofText (shown x) q) ≡ finished a → Stopped (length (shown x)) a → Gives es (Same x) [] a → Again q x
 unfolding finished followed
-again-from es q x a h s (gives y u e g) = go (lex u) h (subst (λ (n : ℕ). Met (λ (t : Token). tokenOf t ≡ eofAt n) (lex u)) (omega (arith, s, ap length (g .1))) (eof-met es u g))
+again-from es q x a h s (gives y u e g) = go (lex u) h (subst (λ (n : ℕ). Met (λ (t : Lexeme). tokenOf t ≡ eofAt n) (lex u)) (omega (arith, s, ap length (g .1))) (eof-met es u g))
   where
-    go : (l : Scanned) → readItem (ofText (shown x) q) ≡ followed y l → Met (λ (t : Token). tokenOf t ≡ eofAt (length (shown x))) l → Again q x
+    go : (l : LexResult) → readItem (ofText (shown x) q) ≡ followed y l → Met (λ (t : Lexeme). tokenOf t ≡ eofAt (length (shown x))) l → Again q x
     go (tok t) h (met i) = record { tree = y; next = t; isItem = h; atEnd = i; sameBuild = e; sameLine = same-shown y x e; sameRecords = same-records y x e }
 
 -- in the item's own edition
-pub again : (q : Asked) (x : Tree) (n : Token) → readItem q ≡ item x n → length (shown x) ≤ textLimit → Again q x
+pub again : (q : Asked) (x : Tree) (n : Lexeme) → readItem q ≡ item x n → length (shown x) ≤ textLimit → Again q x
 unfolding readItem
 again q x n e h =
     let a = item-alone (own (q .edition)) q refl x n e in
@@ -174,7 +174,7 @@ again q x n e h =
 one-or-two : (ed : ℕ) → noEdition ed ≡ false → (eqb ed 2 ≡ false) → ed ≡ 1
 one-or-two ed h g = omega (arith, eqb-false ed 0 (or-left (eqb ed 0) (ltb 2 ed) h), ltb-false 2 ed (or-right (eqb ed 0) (ltb 2 ed) h), eqb-false ed 2 g)
 
-module _ (q : Asked) (x : Tree) (n : Token) (e : readItem q ≡ item x n) where
+module _ (q : Asked) (x : Tree) (n : Lexeme) (e : readItem q ≡ item x n) where
   -- the line as the text, in edition 2
   abbrev line₂ : Asked
   line₂ = ofText (shown x) (inEdition 2 q)
@@ -195,7 +195,7 @@ module _ (q : Asked) (x : Tree) (n : Token) (e : readItem q ≡ item x n) where
 one-build : (es : Editions) (x y : Tree) (a : Ans Tree) → Gives es (Same x) [] a → Gives es (Same y) [] a → build x ≡ build y
 one-build es x y a (gives v u e g) (gives w t f h) = sym e ∙ f
 
-pub same-lines : (q q₂ : Asked) (x y : Tree) (n m : Token) → q .kind ≡ q₂ .kind → readItem q ≡ item x n → readItem q₂ ≡ item y m → (shown x ≡ shown y) ↔ (build x ≡ build y)
+pub same-lines : (q q₂ : Asked) (x y : Tree) (n m : Lexeme) → q .kind ≡ q₂ .kind → readItem q ≡ item x n → readItem q₂ ≡ item y m → (shown x ≡ shown y) ↔ (build x ≡ build y)
 same-lines q q₂ x y n m k e g = (
   λ l. one-build (own 2) x y (reading (ofText (shown y) (inEdition 2 q₂))) (rw (l, k) at (line-later q x n e)) (line-later q₂ y m g),
   same-shown x y,

@@ -3,7 +3,7 @@ use mathlib.Core.Path.{_≡_, refl, subst, sym, ap, _∙_}
 use mathlib.Core.Bool.{Bool, true, false}
 use mathlib.Core.Logic.{_↔_}
 use mathlib.Core.List.{List, [], _∷_, _++_}
-use mathlib.Core.Option.{Option, some, none as clean}
+use Rattle.forms.specs.Unprintable.{FirstByte, clean, foundAt}
 use Prim.Native.Nat.{ℕ, _*_, _≤_, min}
 use native.Mathlib.Omega.{arith}
 use lib.Dec.{ltb}
@@ -16,17 +16,17 @@ use Rattle.tokens.specs.declared.Refusal.{Refusal}
 use Rattle.tokens.specs.declared.Token.{Token as Answer}
 use Rattle.records.specs.Tree.{Tree, build}
 use Rattle.records.specs.Stored.{records}
-use Rattle.sources.specs.Source.{Token, tokenOf}
+use Rattle.sources.specs.Source.{Lexeme, tokenOf}
 use Rattle.answers.specs.Reading.{when}
 use Rattle.grammar.specs.Items.{Item, item, refused, Asked, readItem}
 use Rattle.forms.specs.Line.{shown}
 use Rattle.forms.specs.Forms.{FormNarrow, FormWide, written, narrowLimit, formOf}
-use Rattle.forms.specs.Spoiled.{spoiled}
+use Rattle.forms.specs.Unprintable.{unprintable}
 use Rattle.forms.proofs.Constructs.{written-stored, written-line}
 use Rattle.forms.proofs.Sizes.{narrow-size, wide-size}
-use Rattle.forms.proofs.Spoils.{build-spoiled}
+use Rattle.forms.proofs.Unprintables.{build-unprintable}
 use Rattle.forms.proofs.Apart.{form-narrow, form-cases}
-use Rattle.calls.specs.Calls.{itemRefusals, displayRefusals, lineLimit, roomed, filled, unlessSpoiled, unspoiled, answeredIn, read, readBuffer, answered, readNumber, readValues, asLine, display, displayBuffer, displayed, displayNumber, displayValues}
+use Rattle.calls.specs.Calls.{itemRefusals, displayRefusals, lineLimit, roomed, filled, unlessUnprintable, ifPrintable, answeredIn, read, readBuffer, answered, readNumber, readValues, asLine, display, displayBuffer, displayed, displayNumber, displayValues}
 use Rattle.calls.proofs.Room.{roomed-fits, room-for}
 use Rattle.calls.proofs.Faithful.{read-written}
 use Rattle.calls.proofs.RefusalSets.{read-refusals, display-refusals}
@@ -34,7 +34,7 @@ use Rattle.roundtrip.specs.Demand.{Lent, readOf, displayOf, NotRefused, 
 use Rattle.roundtrip.proofs.Round.{again, same-lines}
 
 -- an item that is not refused for its room is the item; and one that is shown is clean
-module _ (form : Tree → ℕ) (room : ℕ) (t : Tree) (n : Token) where
+module _ (form : Tree → ℕ) (room : ℕ) (t : Tree) (n : Lexeme) where
   not-refused : NotRefused (roomed form room (item t n)) → roomed form room (item t n) ≡ item t n
   unfolding roomed when
   not-refused = go (ltb room (length (written (form t) t)))
@@ -43,10 +43,10 @@ module _ (form : Tree → ℕ) (room : ℕ) (t : Tree) (n : Token) where
       go true h = absurd h
       go false h = refl
 
-  clean-shown : (o : Option ℕ) → NotRefused (roomed form room (unlessSpoiled o (item t n))) → o ≡ clean
-  unfolding roomed unlessSpoiled
+  clean-shown : (o : FirstByte) → NotRefused (roomed form room (unlessUnprintable o (item t n))) → o ≡ clean
+  unfolding roomed unlessUnprintable
   clean-shown clean h = refl
-  clean-shown (some b) h = absurd h
+  clean-shown (foundAt b) h = absurd h
 
 -- the tree of a line that has no more than 65,535 bytes has at most the bytes of every tree with as many records
 no-longer : (text line : List ℕ) (t u : Tree) → records u ≡ records t → length line ≤ narrowLimit → length (written (formOf line u) u) ≤ length (written (formOf text t) t)
@@ -69,7 +69,7 @@ abbrev six : ℕ → Answer → List ℕ
 six k e = k ∷ e .kind ∷ e .start ∷ e .end ∷ 0 ∷ 0 ∷ []
 
 -- what the answers of an accepted item say
-module _ (i : Lent) (t : Tree) (n : Token) where
+module _ (i : Lent) (t : Tree) (n : Lexeme) where
   abbrev tree : List ℕ
   tree = written (formOf (i .asks .text) t) t
 
@@ -100,34 +100,34 @@ module _ (i : Lent) (t : Tree) (n : Token) where
   line-is e = rw (line-length e, line-written e) (take-append-seam (shown t) (drop (length (shown t)) (i .forLine)))
 
 -- the item, its two answers, and that both fit
-record Known (i : Lent) (t : Tree) (n : Token) : Type 0 where
+record Known (i : Lent) (t : Tree) (n : Lexeme) : Type 0 where
   isItem : readItem (i .asks) ≡ item t n
-  isClean : spoiled t ≡ clean
+  isClean : unprintable t ≡ clean
   isShown : displayOf i ≡ item t n
   treeFits : length (tree i t n) ≤ length (i .forTree)
   lineFits : length (shown t) ≤ min (length (i .forLine)) lineLimit
 
 -- the display of a clean item looks at its room alone
-shown-clean : (room : ℕ) (q : Asked) (t : Tree) (n : Token) → readItem q ≡ item t n → spoiled t ≡ clean → display q room ≡ roomed asLine (min room lineLimit) (item t n)
-unfolding display unspoiled unlessSpoiled
+shown-clean : (room : ℕ) (q : Asked) (t : Tree) (n : Lexeme) → readItem q ≡ item t n → unprintable t ≡ clean → display q room ≡ roomed asLine (min room lineLimit) (item t n)
+unfolding display ifPrintable unlessUnprintable
 shown-clean room q t n e c =
     let m : ℕ = min room lineLimit in
-    ap (λ (j : Item). roomed asLine m (unspoiled j)) e ∙ ap (λ (o : Option ℕ). roomed asLine m (unlessSpoiled o (item t n))) c
+    ap (λ (j : Item). roomed asLine m (ifPrintable j)) e ∙ ap (λ (o : FirstByte). roomed asLine m (unlessUnprintable o (item t n))) c
 
-known : (i : Lent) (t : Tree) (n : Token) → Accepted i t n → Known i t n
-unfolding read display unspoiled unlessSpoiled
+known : (i : Lent) (t : Tree) (n : Lexeme) → Accepted i t n → Known i t n
+unfolding read display ifPrintable unlessUnprintable
 known i t n a =
     let r = roomed-fits (formOf (i .asks .text)) (length (i .forTree)) (readItem (i .asks)) t n (a .isRead) in
     let m : ℕ = min (length (i .forLine)) lineLimit in
-    let h : NotRefused (roomed asLine m (unlessSpoiled (spoiled t) (item t n))) = subst (λ (j : Item). NotRefused (roomed asLine m (unspoiled j))) (r .0) (a .isShown) in
-    let c : spoiled t ≡ clean = clean-shown asLine m t n (spoiled t) h in
-    let g : NotRefused (roomed asLine m (item t n)) = subst (λ (o : Option ℕ). NotRefused (roomed asLine m (unlessSpoiled o (item t n)))) c h in
+    let h : NotRefused (roomed asLine m (unlessUnprintable (unprintable t) (item t n))) = subst (λ (j : Item). NotRefused (roomed asLine m (ifPrintable j))) (r .0) (a .isShown) in
+    let c : unprintable t ≡ clean = clean-shown asLine m t n (unprintable t) h in
+    let g : NotRefused (roomed asLine m (item t n)) = subst (λ (o : FirstByte). NotRefused (roomed asLine m (unlessUnprintable o (item t n)))) c h in
     let d : displayOf i ≡ item t n = shown-clean (length (i .forLine)) (i .asks) t n (r .0) c ∙ not-refused asLine m t n g in
-    let l = roomed-fits asLine m (unspoiled (readItem (i .asks))) t n d in
+    let l = roomed-fits asLine m (ifPrintable (readItem (i .asks))) t n d in
     record { isItem = r .0; isClean = c; isShown = d; treeFits = r .1; lineFits = rw (written-line t) at (l .1) }
 
 -- a clean item with room for its tree and its line
-accept : (i : Lent) (t : Tree) (n : Token) → readItem (i .asks) ≡ item t n → spoiled t ≡ clean → length (tree i t n) ≤ length (i .forTree) → length (shown t) ≤ min (length (i .forLine)) lineLimit
+accept : (i : Lent) (t : Tree) (n : Lexeme) → readItem (i .asks) ≡ item t n → unprintable t ≡ clean → length (tree i t n) ≤ length (i .forTree) → length (shown t) ≤ min (length (i .forLine)) lineLimit
     → (readOf i ≡ item t n) × (displayOf i ≡ item t n)
 unfolding read
 accept i t n e c g h = (
@@ -136,7 +136,7 @@ accept i t n e c g h = (
 )
 
 -- two accepted items of one kind, whatever the edition of each, have the same line exactly when their builds are equal
-pub lines-builds : (i j : Lent) (t u : Tree) (n m : Token) → i .asks .kind ≡ j .asks .kind → Accepted i t n → Accepted j u m → (lineOf i ≡ lineOf j) ↔ (build t ≡ build u)
+pub lines-builds : (i j : Lent) (t u : Tree) (n m : Lexeme) → i .asks .kind ≡ j .asks .kind → Accepted i t n → Accepted j u m → (lineOf i ≡ lineOf j) ↔ (build t ≡ build u)
 lines-builds i j t u n m k a b =
     let x = known i t n a in
     let y = known j u m b in
@@ -146,17 +146,17 @@ lines-builds i j t u n m k a b =
     (λ e. s .0 (sym l ∙ e ∙ r), λ e. l ∙ s .1 e ∙ sym r)
 
 -- the length that the display answers is the line's; the item's own buffers have room for its tree and its line
-pub line-counted : (i : Lent) (t : Tree) (n : Token) → Accepted i t n → length (lineOf i) ≡ lineLength i
+pub line-counted : (i : Lent) (t : Tree) (n : Lexeme) → Accepted i t n → length (lineOf i) ≡ lineLength i
 line-counted i t n a = let d = known i t n a .isShown in ap length (line-is i t n d) ∙ sym (line-length i t n d)
 
-pub own-room : (i : Lent) (t : Tree) (n : Token) → Accepted i t n → (treeLength i ≤ length (i .forTree)) × (lineLength i ≤ length (i .forLine))
+pub own-room : (i : Lent) (t : Tree) (n : Lexeme) → Accepted i t n → (treeLength i ≤ length (i .forTree)) × (lineLength i ≤ length (i .forLine))
 own-room i t n a =
     let k = known i t n a in
     (rw (tree-length i t n (a .isRead)) (k .treeFits), rw (line-length i t n (k .isShown)) (omega (arith, k .lineFits)))
 
 -- every accepted item's line, read back from 0 as that kind in its edition, is accepted to its last byte, with the same build and the
 -- same line, in any buffers that are as long as the item's tree and line
-module _ (i : Lent) (t : Tree) (n : Token) (a : Accepted i t n) (out lineOut : List ℕ) (g : treeLength i ≤ length out) (h : lineLength i ≤ length lineOut) where
+module _ (i : Lent) (t : Tree) (n : Lexeme) (a : Accepted i t n) (out lineOut : List ℕ) (g : treeLength i ≤ length out) (h : lineLength i ≤ length lineOut) where
   pub reads-back : ReadBack i t (lineBack i out lineOut)
   reads-back =
       let j : Lent = lineBack i out lineOut in
@@ -166,7 +166,7 @@ module _ (i : Lent) (t : Tree) (n : Token) (a : Accepted i t n) (out lineOut : L
       let s : length (written (formOf (lineOf i) (b .tree)) (b .tree)) ≤ treeLength i = omega (arith, no-longer (i .asks .text) (lineOf i) t (b .tree) (b .sameRecords) (omega (arith, ap length l, k .lineFits)), tree-length i t n (a .isRead)) in
       let m : shown (b .tree) ≡ lineOf i = b .sameLine ∙ sym l in
       let v : length (shown (b .tree)) ≡ lineLength i = ap length m ∙ line-counted i t n a in
-      let c = accept j (b .tree) (b .next) (rw l (b .isItem)) (build-spoiled t (b .tree) (sym (b .sameBuild)) .0 (k .isClean)) (omega (arith, s, g)) (omega (arith, v, h, k .lineFits, line-length i t n (k .isShown))) in
+      let c = accept j (b .tree) (b .next) (rw l (b .isItem)) (build-unprintable t (b .tree) (sym (b .sameBuild)) .0 (k .isClean)) (omega (arith, s, g)) (omega (arith, v, h, k .lineFits, line-length i t n (k .isShown))) in
       let w = tree-length j (b .tree) (b .next) (c .0) in
       record {
         tree = b .tree;
@@ -206,7 +206,7 @@ Numbered set x = (r : Refusal) → x ≡ refused r → among set (r .number) ≡
 never-0 : (A : Type 0) (set : List ℕ) (n : ℕ) → among set 0 ≡ false → n ≡ 0 → among set n ≡ true → A
 never-0 A set n z e h = false-true A (sym z ∙ subst (λ (m : ℕ). among set m ≡ true) e h)
 
-read-item : (text : List ℕ) (x : Item) → Numbered itemRefusals x → readNumber (answered text x) ≡ 0 → (t : Tree) × (n : Token) × (x ≡ item t n)
+read-item : (text : List ℕ) (x : Item) → Numbered itemRefusals x → readNumber (answered text x) ≡ 0 → (t : Tree) × (n : Lexeme) × (x ≡ item t n)
 unfolding answered answeredIn readNumber among
 read-item text (item t n) h e = (t, n, refl)
 read-item text (refused r) h e = never-0 _ itemRefusals (r .number) refl e (h r refl)
@@ -216,7 +216,7 @@ unfolding displayed displayNumber among
 shown-item (item t n) h e = tt
 shown-item (refused r) h e = never-0 ⊥ displayRefusals (r .number) refl e (h r refl)
 
-pub accepted-by-numbers : (i : Lent) → readNumber (answered (i .asks .text) (readOf i)) ≡ 0 → displayNumber (displayed (displayOf i)) ≡ 0 → (t : Tree) × (n : Token) × Accepted i t n
+pub accepted-by-numbers : (i : Lent) → readNumber (answered (i .asks .text) (readOf i)) ≡ 0 → displayNumber (displayed (displayOf i)) ≡ 0 → (t : Tree) × (n : Lexeme) × Accepted i t n
 accepted-by-numbers i g h =
     let r = read-item (i .asks .text) (readOf i) (read-refusals (i .asks) (length (i .forTree))) g in
     (r .0, r .1, record { isRead = r .2; isShown = shown-item (displayOf i) (display-refusals (i .asks) (length (i .forLine))) h })

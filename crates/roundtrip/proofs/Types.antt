@@ -10,7 +10,7 @@ use Rattle.classes.proofs.Bools.{false-true, or-left, or-right}
 use Rattle.words.specs.Kinds.{NumValue, Identifier, Amp, AmpMut, LParen, RParen, Less, Greater, Pipe, LBrace, ColonColon}
 use Rattle.records.specs.Kinds.{RecType, RecRef, RecRefMut, RecFunction, RecUnit, RecTuple, RecBrackets}
 use Rattle.records.specs.Tree.{Tree, node, Trees, none, more, behind, Build, spelled, made, Builds, bnone, bmore, build, builds}
-use Rattle.sources.specs.Source.{Source, Token, after, lex}
+use Rattle.sources.specs.Source.{Source, Lexeme, after, lex}
 use Rattle.answers.specs.Reading.{when}
 use Rattle.grammar.specs.Names.{isFirst}
 use Rattle.grammar.specs.Types.{bracketed, brackets, reference, function, withArguments, named, typeOver, readType}
@@ -43,7 +43,7 @@ grouped bnone = spelled RecUnit []
 grouped (bmore b bnone) = made RecBrackets (bmore b bnone)
 grouped (bmore b (bmore c bs)) = made RecTuple (bmore b (bmore c bs))
 
-pub bracketed-build : (a : Token) (u : Source) (ts : Trees) → build (bracketed a u ts) ≡ grouped (builds ts)
+pub bracketed-build : (a : Lexeme) (u : Source) (ts : Trees) → build (bracketed a u ts) ≡ grouped (builds ts)
 unfolding grouped bracketed build builds
 bracketed-build a u none = refl
 bracketed-build a u (more t none) = refl
@@ -79,7 +79,7 @@ module _ (s e : ℕ) where
   unfolding laid headed head markIn
   function-line ts t z = ap (λ (x : List ℕ). x ++ z) (laid-function FormLine s e ts t) ∙ append-assoc (inBars FormLine ts) (32 ∷ shown t) z ∙ bars-line ts (32 ∷ (shown t ++ z))
 
-group-line : (a : Token) (u : Source) (ts : Trees) (z : List ℕ) → shown (bracketed a u ts) ++ z ≡ 40 ∷ join ts (41 ∷ z)
+group-line : (a : Lexeme) (u : Source) (ts : Trees) (z : List ℕ) → shown (bracketed a u ts) ++ z ≡ 40 ∷ join ts (41 ∷ z)
 unfolding laid headed head markIn bracketed laidItems
 group-line a u none z = ap (λ (x : List ℕ). x ++ z) (laid-unit FormLine _ _)
 group-line a u (more t none) z = ap (λ (x : List ℕ). x ++ z) (laid-brackets FormLine _ _ (more t none)) ∙ ap (_∷_ 40) (round (more t none) 41 z)
@@ -182,7 +182,7 @@ module _ (es : Editions) where
     angled-ends none z a d = to-colons d
     angled-ends (more t ts) z a d = ends es isColons (less es) (join (more t ts) (62 ∷ z)) _ (angle-opens n t ts (62 ∷ z) a) refl refl refl λ u. at-once
 
-    arguments-back : (s e : ℕ) (c : Tree) (ts : Trees) → All (Typed n) ts → (b : Token) (x : Tree) → Same c x → (z : List ℕ) → Ends es structs z → (u : Source) → Rest es u (angled ts z)
+    arguments-back : (s e : ℕ) (c : Tree) (ts : Trees) → All (Typed n) ts → (b : Lexeme) (x : Tree) → Same c x → (z : List ℕ) → Ends es structs z → (u : Source) → Rest es u (angled ts z)
         → Gives es (Same (node RecType s e (more c ts))) z (withArguments (readType n) b x u)
     unfolding withArguments build builds
     arguments-back s e c none a b x g z d u h =
@@ -194,7 +194,7 @@ module _ (es : Editions) where
         gives _ _ (ap₂ (λ (v : Build) (w : Builds). made RecType (bmore v w)) g j) k)
 
     -- a token that begins a name is no mark
-    name-back : {P : Tree → Type 0} {z : List ℕ} (b : Token) → isFirst b ≡ true → Gives es P z (named (readType n) b) → Gives es P z (typeOver (readType n) b)
+    name-back : {P : Tree → Type 0} {z : List ℕ} (b : Lexeme) → isFirst b ≡ true → Gives es P z (named (readType n) b) → Gives es P z (typeOver (readType n) b)
     unfolding typeOver
     name-back b f h =
         let no : (k : ℕ) → firsts k ≡ false → eqb (b .kind) k ≡ false = λ k e. differs firsts k (b .kind) e f in
@@ -210,7 +210,7 @@ module _ (es : Editions) where
           (h .reads u (angled ts z) (subst (Near es u) (type-line s e c ts z) d) (angled-ends ts z a g));
     }
 
-    pub group-back : (b : Token) (v : Source) (ts : Trees) → All (Typed n) ts → Typed (suc n) (bracketed b v ts)
+    pub group-back : (b : Lexeme) (v : Source) (ts : Trees) → All (Typed n) ts → Typed (suc n) (bracketed b v ts)
     unfolding readType typeOver brackets
     group-back b v ts a = record {
       starts = λ z. rw (group-line b v ts z, bracketed-build b v ts, grouped-kind (builds ts) .0) refl;
@@ -227,8 +227,8 @@ module _ (es : Editions) where
 
     -- a reference of kind c, whose mark m is a token of kind k
     reference-back : (c k s e : ℕ) (t : Tree) → Typed n t → (m : List ℕ) → ((z : List ℕ) → shown (node c s e (more t none)) ++ z ≡ m ++ (shown t ++ z)) → ((z : List ℕ) → Stops clashes (m ++ z))
-        → eqb c RecFunction ≡ false → isType c ≡ true → beginsType false k ≡ true → ((a : Token) → a .kind ≡ k → typeOver (readType n) a ≡ reference (readType n) c a)
-        → ((u : Source) (z : List ℕ) → Near es u (m ++ z) → Met (λ (a : Token). (a .kind ≡ k) × Near es (after a) z) (lex u)) → Typed (suc n) (node c s e (more t none))
+        → eqb c RecFunction ≡ false → isType c ≡ true → beginsType false k ≡ true → ((a : Lexeme) → a .kind ≡ k → typeOver (readType n) a ≡ reference (readType n) c a)
+        → ((u : Source) (z : List ℕ) → Near es u (m ++ z) → Met (λ (a : Lexeme). (a .kind ≡ k) × Near es (after a) z) (lex u)) → Typed (suc n) (node c s e (more t none))
     unfolding readType reference build builds kindOfBuild BracketedAll
     reference-back c k s e t h m l y p q f r w = record {
       starts = λ z. rw (p, l z) (y (shown t ++ z));

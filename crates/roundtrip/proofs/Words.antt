@@ -27,7 +27,7 @@ use Rattle.words.specs.declared.Quote.the-variants.{Found, Missing}
 use Rattle.words.proofs.Quotes.{Within, within, quote-local}
 use Rattle.words.proofs.Marks.{mark-first}
 use Rattle.words.proofs.Suffix.{both-lists}
-use Rattle.tokens.specs.Token.{Front, front, fault, digitsLen, moreDigits, moreHex, decimalLen, decimal, hexLen, hexNumber, number, stringBy, string, opensString, stringRefusal, name, word, mark, findToken, Scanned, tok, bad, placed, behindGap, lex}
+use Rattle.tokens.specs.Token.{Front, sized, fault, digitsLen, moreDigits, moreHex, decimalLen, decimal, hexLen, hexNumber, numberToken, stringBy, string, opensString, stringRefusal, name, wordToken, mark, findToken, Scanned, tok, bad, placed, behindGap, scan}
 use Rattle.tokens.proofs.Digits.{digits-short}
 use Rattle.tokens.proofs.Editions.{more-digits-named, more-hex-named, whole-same}
 use Rattle.tokens.proofs.Fronts.{Takes, find-takes}
@@ -137,8 +137,8 @@ module _ (ed : ℕ) where
   unfolding hexNumber
   hex-front w z g s = rw (hex-len w z g s, drop-append-le (hexLen ed w) w z (hex-short w g), suffix-front ed (drop (hexLen ed w) w) z s)
 
-  pub number-front : (w z : List ℕ) → Stops isName z → number ed (w ++ z) ≡ number ed w
-  unfolding number isName isLetter isDigit inRange
+  pub number-front : (w z : List ℕ) → Stops isName z → numberToken ed (w ++ z) ≡ numberToken ed w
+  unfolding numberToken isName isLetter isDigit inRange
   number-front w z s = rw (begins-front (bytes "0x") w z refl s) (go (begins (bytes "0x") w) refl)
     where
       go : (b : Bool) → begins (bytes "0x") w ≡ b → cond b (hexNumber ed (w ++ z)) (decimal ed (w ++ z)) ≡ cond b (hexNumber ed w) (decimal ed w)
@@ -156,22 +156,22 @@ name-front : (w z : List ℕ) → Stops isName z → name (w ++ z) ≡ name w
 unfolding name
 name-front w z s = rw (run-front isName w z s, take-append-le (runLen isName w) w z (run-short isName w))
 
-by-name : (a : ℕ) (s : List ℕ) → opensString a (getD s 0 0) ≡ false → word (a ∷ s) ≡ name (a ∷ s)
-unfolding word
+by-name : (a : ℕ) (s : List ℕ) → opensString a (getD s 0 0) ≡ false → wordToken (a ∷ s) ≡ name (a ∷ s)
+unfolding wordToken
 by-name a s h = rw h
 
 -- strings: all of them, whatever follows
-string-ends : (m a b : ℕ) (u z : List ℕ) (q : ℕ) → quoteFrom false 2 (u ++ z) ≡ Found q → ltb (2 + runLen isAscii (u ++ z)) q ≡ false → string m (a ∷ b ∷ (u ++ z)) ≡ front 3 (q + 1)
+string-ends : (m a b : ℕ) (u z : List ℕ) (q : ℕ) → quoteFrom false 2 (u ++ z) ≡ Found q → ltb (2 + runLen isAscii (u ++ z)) q ≡ false → string m (a ∷ b ∷ (u ++ z)) ≡ sized 3 (q + 1)
 unfolding string stringBy
 string-ends m a b u z q h l = rw (h, l)
 
-string-front : (m a b : ℕ) (u z : List ℕ) (k : ℕ) (x : Quote) → quoteFrom false 2 u ≡ x → stringBy m (2 + runLen isAscii u) x ≡ front k (length (a ∷ b ∷ u)) → string m (a ∷ b ∷ (u ++ z)) ≡ front k (length (a ∷ b ∷ u))
+string-front : (m a b : ℕ) (u z : List ℕ) (k : ℕ) (x : Quote) → quoteFrom false 2 u ≡ x → stringBy m (2 + runLen isAscii u) x ≡ sized k (length (a ∷ b ∷ u)) → string m (a ∷ b ∷ (u ++ z)) ≡ sized k (length (a ∷ b ∷ u))
 unfolding stringBy
 string-front m a b u z k (Missing e) h g = let y : _≡_ {A = ℕ} 0 1 = cc in absurd (omega arith)
 string-front m a b u z k (Found q) h g = go (ltb (2 + runLen isAscii u) q) refl g
   where
-    go : (c : Bool) → ltb (2 + runLen isAscii u) q ≡ c → cond c (fault 9 (2 + runLen isAscii u) (2 + runLen isAscii u + 1)) (front 3 (q + 1)) ≡ front k (length (a ∷ b ∷ u))
-        → string m (a ∷ b ∷ (u ++ z)) ≡ front k (length (a ∷ b ∷ u))
+    go : (c : Bool) → ltb (2 + runLen isAscii u) q ≡ c → cond c (fault 9 (2 + runLen isAscii u) (2 + runLen isAscii u + 1)) (sized 3 (q + 1)) ≡ sized k (length (a ∷ b ∷ u))
+        → string m (a ∷ b ∷ (u ++ z)) ≡ sized k (length (a ∷ b ∷ u))
     go true e f = let y : _≡_ {A = ℕ} 0 1 = cc in absurd (omega arith)
     go false e f =
         let n : q + 1 ≡ length (a ∷ b ∷ u) = cc in
@@ -181,30 +181,30 @@ string-front m a b u z k (Found q) h g = go (ltb (2 + runLen isAscii u) q) refl 
         let d : quoteFrom false 2 (u ++ z) ≡ Found q = rw t at (quote-local u false 2 q h z) in
         string-ends m a b u z q d (le-ltb (2 + runLen isAscii (u ++ z)) q (omega (arith, ltb-false (2 + runLen isAscii u) q e, run-grows isAscii u z))) ∙ f
 
-by-string : (a b : ℕ) (s : List ℕ) → opensString a b ≡ true → word (a ∷ b ∷ s) ≡ string (stringRefusal a) (a ∷ b ∷ s)
-unfolding word
+by-string : (a b : ℕ) (s : List ℕ) → opensString a b ≡ true → wordToken (a ∷ b ∷ s) ≡ string (stringRefusal a) (a ∷ b ∷ s)
+unfolding wordToken
 by-string a b s h = rw h
 
 string-by : (m a b : ℕ) (u : List ℕ) → string m (a ∷ b ∷ u) ≡ stringBy m (2 + runLen isAscii u) (quoteFrom false 2 u)
 unfolding string
 string-by m a b u = refl
 
-word-front : (a : ℕ) (w z : List ℕ) (k : ℕ) → Stops extends z → word (a ∷ w) ≡ front k (length (a ∷ w)) → word (a ∷ (w ++ z)) ≡ front k (length (a ∷ w))
+word-front : (a : ℕ) (w z : List ℕ) (k : ℕ) → Stops extends z → wordToken (a ∷ w) ≡ sized k (length (a ∷ w)) → wordToken (a ∷ (w ++ z)) ≡ sized k (length (a ∷ w))
 unfolding opensString
 word-front a w z k s h = go w (opensString a (getD w 0 0)) refl h
   where
-    go : (w : List ℕ) (c : Bool) → opensString a (getD w 0 0) ≡ c → word (a ∷ w) ≡ front k (length (a ∷ w)) → word (a ∷ (w ++ z)) ≡ front k (length (a ∷ w))
+    go : (w : List ℕ) (c : Bool) → opensString a (getD w 0 0) ≡ c → wordToken (a ∷ w) ≡ sized k (length (a ∷ w)) → wordToken (a ∷ (w ++ z)) ≡ sized k (length (a ∷ w))
     go w false e h = by-name a (w ++ z) (opens-front a w z s e) ∙ name-front (a ∷ w) z (stops-less isName extends (λ b. or-left (isName b) (eqb b 34)) z s) ∙ sym (by-name a w e) ∙ h
     go [] true e h = false-true _ (and-right (eqb a 120 || eqb a 98) false e)
     go (b ∷ u) true e h =
         by-string a b (u ++ z) e ∙ string-front (stringRefusal a) a b u z k (quoteFrom false 2 u) refl (sym (string-by (stringRefusal a) a b u) ∙ sym (by-string a b u e) ∙ h)
 
 -- the token at the front, where it begins with a letter or a digit
-find-front : (ed a : ℕ) (w z : List ℕ) (k : ℕ) → isName a ≡ true → Stops extends z → findToken ed (a ∷ w) ≡ front k (length (a ∷ w)) → findToken ed (a ∷ (w ++ z)) ≡ front k (length (a ∷ w))
+find-front : (ed a : ℕ) (w z : List ℕ) (k : ℕ) → isName a ≡ true → Stops extends z → findToken ed (a ∷ w) ≡ sized k (length (a ∷ w)) → findToken ed (a ∷ (w ++ z)) ≡ sized k (length (a ∷ w))
 unfolding findToken isName
 find-front ed a w z k n s h = go (isDigit a) refl (isLetter a) refl
   where
-    go : (b : Bool) → isDigit a ≡ b → (c : Bool) → isLetter a ≡ c → findToken ed (a ∷ (w ++ z)) ≡ front k (length (a ∷ w))
+    go : (b : Bool) → isDigit a ≡ b → (c : Bool) → isLetter a ≡ c → findToken ed (a ∷ (w ++ z)) ≡ sized k (length (a ∷ w))
     go true e c f = rw e (number-front ed (a ∷ w) z (stops-less isName extends (λ b. or-left (isName b) (eqb b 34)) z s) ∙ (rw e at h))
     go false e true f = rw (e, f) (word-front a w z k s (rw (e, f) at h))
     go false e false f = false-true _ (rw (e, f) at n)
@@ -221,10 +221,10 @@ Headed (a ∷ w) = isName a ≡ true
 
 -- w is a token of kind k in an edition, wherever nothing goes on with it
 abbrev pub Spelled : ℕ → ℕ → List ℕ → Type 0
-Spelled ed k w = Headed w × ((z : List ℕ) → Stops extends z → lex ed 0 (w ++ z) ≡ tok k 0 (0 + length w) w z)
+Spelled ed k w = Headed w × ((z : List ℕ) → Stops extends z → scan ed 0 (w ++ z) ≡ tok k 0 (0 + length w) w z)
 
-word-spelled : (ed a : ℕ) (w : List ℕ) (k : ℕ) → isName a ≡ true → findToken ed (a ∷ w) ≡ front k (length (a ∷ w)) → Spelled ed k (a ∷ w)
-unfolding lex behindGap placed
+word-spelled : (ed a : ℕ) (w : List ℕ) (k : ℕ) → isName a ≡ true → findToken ed (a ∷ w) ≡ sized k (length (a ∷ w)) → Spelled ed k (a ∷ w)
+unfolding scan behindGap placed
 word-spelled ed a w k n h = (n, λ z s. rw (no-part a (w ++ z) n, find-front ed a w z k n s h, take-append-seam (a ∷ w) z, drop-append-seam (a ∷ w) z))
 
 -- the kinds of tokens that are words: identifiers, numbers, strings, `true` and `false`
@@ -255,14 +255,14 @@ fit-not (e ∷ es) s h = go (begins (e .word) s) (fit-not es s (and-right (not (
     go false i = i
 
 abbrev Unworded : Front → Type 0
-Unworded (front k n) = wordy k ≡ false
+Unworded (sized k n) = wordy k ≡ false
 Unworded (fault m i j) = Unit {0}
 
 mark-not : (s : List ℕ) → Unworded (mark (markOf s))
 unfolding mark
 mark-not s = go (eqb (markOf s .len) 0) (rw (mark-first s) (fit-not marks s marks-not))
   where
-    go : (b : Bool) → wordy (markOf s .kind) ≡ false → Unworded (cond b (fault 5 0 0) (front (markOf s .kind) (markOf s .len)))
+    go : (b : Bool) → wordy (markOf s .kind) ≡ false → Unworded (cond b (fault 5 0 0) (sized (markOf s .kind) (markOf s .len)))
     go true h = tt
     go false h = h
 
@@ -271,15 +271,15 @@ unfolding findToken isName
 no-word ed a s h = rw (or-right (isLetter a) (isDigit a) h, or-left (isLetter a) (isDigit a) h) (mark-not (a ∷ s))
 
 -- what is found in one edition, where its bytes alone are that token in another
-module _ (ed back : ℕ) (same : (a : ℕ) (s : List ℕ) (k : ℕ) → findToken ed (a ∷ s) ≡ front k (length (a ∷ s)) → findToken back (a ∷ s) ≡ front k (length (a ∷ s))) where
+module _ (ed back : ℕ) (same : (a : ℕ) (s : List ℕ) (k : ℕ) → findToken ed (a ∷ s) ≡ sized k (length (a ∷ s)) → findToken back (a ∷ s) ≡ sized k (length (a ∷ s))) where
   found-good : (q a : ℕ) (s : List ℕ) (x : Front) (b : Bool) → isName a ≡ b → (b ≡ false → Unworded x) → Takes (length (a ∷ s)) x → Alone (findToken ed) (a ∷ s) x → Good back (placed q (a ∷ s) x)
   unfolding placed
   found-good q a s (fault m i j) b e u t h = tt
-  found-good q a s (front k zero) b e u t h = absurd (not-suc-le-zero (t .1))
-  found-good q a s (front k (suc n)) true e u t h = λ _.
+  found-good q a s (sized k zero) b e u t h = absurd (not-suc-le-zero (t .1))
+  found-good q a s (sized k (suc n)) true e u t h = λ _.
       let l : length (take (suc n) (a ∷ s)) ≡ suc n = length-take-le (suc n) (a ∷ s) (t .2) in
-      word-spelled back a (take n s) k e (same a (take n s) k (h ∙ ap (front k) (sym l)))
-  found-good q a s (front k (suc n)) false e u t h = λ x. false-true _ (sym (u refl) ∙ x)
+      word-spelled back a (take n s) k e (same a (take n s) k (h ∙ ap (sized k) (sym l)))
+  found-good q a s (sized k (suc n)) false e u t h = λ x. false-true _ (sym (u refl) ∙ x)
 
   behind-good : (e : End) → Good back (behindGap ed e)
   unfolding behindGap placed findToken
@@ -287,13 +287,13 @@ module _ (ed back : ℕ) (same : (a : ℕ) (s : List ℕ) (k : ℕ) → findToke
   behind-good (clear q (a ∷ s)) = found-good q a s (findToken ed (a ∷ s)) (isName a) refl (no-word ed a s) (find-takes ed a s) (find-alone ed a s)
   behind-good (broken o q) = tt
 
-  good : (s : List ℕ) → Good back (lex ed 0 s)
-  unfolding lex
+  good : (s : List ℕ) → Good back (scan ed 0 s)
+  unfolding scan
   good s = behind-good (gap 0 0 s .last)
 
 -- a word is that token again in its own edition; and one of edition 1 is so in edition 2
-pub good-own : (ed : ℕ) (s : List ℕ) → Good ed (lex ed 0 s)
+pub good-own : (ed : ℕ) (s : List ℕ) → Good ed (scan ed 0 s)
 good-own ed = good ed ed (λ a s k h. h)
 
-pub good-later : (s : List ℕ) → Good 2 (lex 1 0 s)
+pub good-later : (s : List ℕ) → Good 2 (scan 1 0 s)
 good-later = good 1 2 whole-same

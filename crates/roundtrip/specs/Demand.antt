@@ -7,7 +7,7 @@ use Rattle.words.specs.Kinds.{EOF}
 use Rattle.tokens.specs.Answers.{token}
 use Rattle.tokens.specs.declared.Token.{Token as Answer}
 use Rattle.records.specs.Tree.{Tree, build}
-use Rattle.sources.specs.Source.{Token, tokenOf}
+use Rattle.sources.specs.Source.{Lexeme, tokenOf}
 use Rattle.grammar.specs.Items.{Item, item, refused, Asked, ofText}
 use Rattle.forms.specs.Forms.{written, formOf}
 use Rattle.calls.specs.Calls.{read, readBuffer, answered, readNumber, readValues, display, displayBuffer, displayed, displayNumber, displayValues}
@@ -32,7 +32,7 @@ NotRefused (refused r) = ⊥
 
 -- it is accepted where its read and its display, with the buffers lent, both are; its tree is t, and the token n follows. Its build is
 -- `build t`
-pub record Accepted (i : Lent) (t : Tree) (n : Token) : Type 0 where
+pub record Accepted (i : Lent) (t : Tree) (n : Lexeme) : Type 0 where
   pub isRead : readOf i ≡ item t n
   pub isShown : NotRefused (displayOf i)
 
@@ -61,7 +61,7 @@ eofAt n = token EOF n n
 -- much by the line
 pub record ReadBack (i : Lent) (t : Tree) (j : Lent) : Type 0 where
   pub tree : Tree
-  pub next : Token
+  pub next : Lexeme
   pub accepted : Accepted j tree next
   pub atEnd : tokenOf next ≡ eofAt (length (lineOf i))
   pub sameBuild : build tree ≡ build t

@@ -1,4 +1,4 @@
--- The examples, of edition 1: one list, P1 to P15 and then strings that spoil a line. Each entry has its name, the call that is made of a
+-- The examples, of edition 1: one list, P1 to P15 and then strings with unprintable bytes. Each entry has its name, the call that is made of a
 -- text from 0, and what the call must give. That it gives that is one lemma, `examples-hold` in proofs/Examples.
 use mathlib.Core.List.{List, [], _∷_, _++_, map}
 use Prim.Native.Nat.{ℕ}

@@ -4,7 +4,7 @@ use Prim.Native.Nat.{ℕ, _+_, _-_}
 use native.Mathlib.Omega.{arith}
 use native.Mathlib.Nat.{add-assoc}
 use lib.ListN.{drop}
-use Rattle.tokens.specs.Token.{Scanned as Lexing, tok as found, bad as faulty, lex as lexFrom}
+use Rattle.tokens.specs.Token.{Scanned, tok as found, bad as faulty, scan}
 use Rattle.tokens.specs.Raise.{raiseScanned as raiseLexing}
 use Rattle.tokens.proofs.Shift.{lex-up}
 use Rattle.sources.specs.Source.{Source, moved, past, scanned, lex}
@@ -14,7 +14,7 @@ module _ (k : ℕ) where
   pub past-raised : (n : ℕ) (u : Source) → past n (raiseSource k u) ≡ raiseSource k (past n u)
   past-raised n u = ap (λ (p : ℕ). moved u p (drop n (u .rest))) (add-assoc k (u .at) n)
 
-  scanned-raised : (u : Source) (l : Lexing) → scanned (raiseSource k u) (raiseLexing k l) ≡ raiseScanned k (scanned u l)
+  scanned-raised : (u : Source) (l : Scanned) → scanned (raiseSource k u) (raiseLexing k l) ≡ raiseScanned k (scanned u l)
   unfolding scanned
   scanned-raised u (found d s e w r) =
       let z : k + s - (k + u .at) ≡ s - u .at = omega arith in
@@ -24,4 +24,4 @@ module _ (k : ℕ) where
 
   pub lex-raised : (u : Source) → lex (raiseSource k u) ≡ raiseScanned k (lex u)
   unfolding lex
-  lex-raised u = ap (scanned (raiseSource k u)) (lex-up (u .edition) k (u .at) (u .rest)) ∙ scanned-raised u (lexFrom (u .edition) (u .at) (u .rest))
+  lex-raised u = ap (scanned (raiseSource k u)) (lex-up (u .edition) k (u .at) (u .rest)) ∙ scanned-raised u (scan (u .edition) (u .at) (u .rest))

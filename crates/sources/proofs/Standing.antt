@@ -7,7 +7,7 @@ use native.Mathlib.Omega.{arith}
 use lib.ListN.{length, take, drop}
 use lib.Seq.{drop-drop}
 use Rattle.words.specs.Kinds.{EOF, GreaterGreater}
-use Rattle.tokens.specs.Token.{Scanned as Lexing, tok as found, bad as faulty, lex as lexFrom}
+use Rattle.tokens.specs.Token.{Scanned, tok as found, bad as faulty, scan}
 use Rattle.tokens.specs.declared.Place.{Place}
 use Rattle.tokens.specs.Calls.{placeFault, unless, lexed, nextToken}
 use Rattle.tokens.specs.declared.Lexed.the-variants.{Refused}
@@ -15,7 +15,7 @@ use Rattle.tokens.proofs.Lexing as lexing
 use Rattle.tokens.proofs.Spelled.{markKind, spelling, SpeltToken, lex-spelt, shift-split}
 use Rattle.tokens.proofs.Legible.{legible, LegibleToken, lex-legible}
 use Rattle.tokens.proofs.Again.{lex-again}
-use Rattle.sources.specs.Source.{Source, opened, past, Token, word, after, split, Scanned, tok, bad, scanned, lex, answerOf}
+use Rattle.sources.specs.Source.{Source, opened, past, Lexeme, word, after, split, LexResult, tok, bad, scanned, lex, answerOf}
 
 -- every source is the end of some text
 pad : ℕ → List ℕ → List ℕ
@@ -35,7 +35,7 @@ pad-length (suc n) r = omega (arith, pad-length n r)
 -- a token of a source: it stands behind a gap; every token but EOF takes a byte, and EOF stands at the end; a mark is spelled as its
 -- kind says, behind the first byte of `>>` stands its second; its bytes show, or it is a string below 128; and read again from its
 -- first byte it is the same token
-pub record Standing (u : Source) (t : Token) : Type 0 where
+pub record Standing (u : Source) (t : Lexeme) : Type 0 where
   pub gap : ℕ
   pub here : t .here ≡ past gap u
   pub within : gap + t .len ≤ length (u .rest)
@@ -50,7 +50,7 @@ pub record Standing (u : Source) (t : Token) : Type 0 where
 abbrev pub Inside : Source → Place → Type 0
 Inside u p = (p .start ≤ p .end) × (p .end ≤ u .at + length (u .rest))
 
-abbrev pub Sound : Source → Scanned → Type 0
+abbrev pub Sound : Source → LexResult → Type 0
 Sound u (tok t) = Standing u t
 Sound u (bad r) = Inside u (r .place) × Inside u (r .second)
 
@@ -72,16 +72,16 @@ module _ (u : Source) where
   further n p h = ap (drop n) (sym ends) ∙ drop-drop n (u .at) text ∙ ap (λ (q : ℕ). drop q text) h
 
   -- a token that starts where the source does
-  at-once : (v : Source) (k s e : ℕ) (w r : List ℕ) → v .at ≡ s → lexFrom (v .edition) (v .at) (v .rest) ≡ found k s e w r → lex v ≡ tok (record { kind = k; here = v; len = e - s })
+  at-once : (v : Source) (k s e : ℕ) (w r : List ℕ) → v .at ≡ s → scan (v .edition) (v .at) (v .rest) ≡ found k s e w r → lex v ≡ tok (record { kind = k; here = v; len = e - s })
   unfolding lex scanned
   at-once v k s e w r h l =
       let z : s - v .at ≡ 0 = omega arith in
       let y : v .at + 0 ≡ v .at = omega arith in
       rw (l, z, y)
 
-  module _ (k s e : ℕ) (w r : List ℕ) (l : lexFrom (u .edition) (u .at) (u .rest) ≡ found k s e w r) where
-    from-text : lexFrom (u .edition) (u .at) (drop (u .at) text) ≡ found k s e w r
-    from-text = ap (lexFrom (u .edition) (u .at)) ends ∙ l
+  module _ (k s e : ℕ) (w r : List ℕ) (l : scan (u .edition) (u .at) (u .rest) ≡ found k s e w r) where
+    from-text : scan (u .edition) (u .at) (drop (u .at) text) ≡ found k s e w r
+    from-text = ap (scan (u .edition) (u .at)) ends ∙ l
 
     good : lexing.Good text (u .at) k s e w r
     good = subst (lexing.Sound text (u .at)) from-text (lexing.lex-sound (u .edition) text (u .at) (omega (arith, long)))
@@ -113,26 +113,26 @@ module _ (u : Source) where
           marked = λ h. spelt ∙ subst SpeltToken l (lex-spelt (u .edition) (u .at) (u .rest)) h;
           halves = halved;
           readable = subst (λ (v : List ℕ). legible k v ≡ true) (sym spelt) (subst LegibleToken l (lex-legible (u .edition) (u .at) (u .rest)));
-          again = at-once (past (s - u .at) u) k s e w r here-at (ap (lexFrom (u .edition) (u .at + (s - u .at))) from-here ∙ ap (λ (q : ℕ). lexFrom (u .edition) q (drop s text)) here-at ∙ lex-again (u .edition) text (u .at) k s e w r (omega (arith, long)) from-text);
+          again = at-once (past (s - u .at) u) k s e w r here-at (ap (scan (u .edition) (u .at + (s - u .at))) from-here ∙ ap (λ (q : ℕ). scan (u .edition) q (drop s text)) here-at ∙ lex-again (u .edition) text (u .at) k s e w r (omega (arith, long)) from-text);
         }
 
-  scanned-sound : (l : Lexing) → lexFrom (u .edition) (u .at) (u .rest) ≡ l → Sound u (scanned u l)
+  scanned-sound : (l : Scanned) → scan (u .edition) (u .at) (u .rest) ≡ l → Sound u (scanned u l)
   unfolding scanned
   scanned-sound (found k s e w r) h = token-standing k s e w r h
   scanned-sound (faulty r) h =
-      let d : lexing.Sound text (u .at) (faulty r) = subst (lexing.Sound text (u .at)) (ap (lexFrom (u .edition) (u .at)) ends ∙ h) (lexing.lex-sound (u .edition) text (u .at) (omega (arith, long))) in
+      let d : lexing.Sound text (u .at) (faulty r) = subst (lexing.Sound text (u .at)) (ap (scan (u .edition) (u .at)) ends ∙ h) (lexing.lex-sound (u .edition) text (u .at) (omega (arith, long))) in
       ((d .0 .0, omega (arith, d .0 .1, long)), (d .1 .0, omega (arith, d .1 .1, long)))
 
   pub lex-sound : Sound u (lex u)
   unfolding lex
-  lex-sound = scanned-sound (lexFrom (u .edition) (u .at) (u .rest)) refl
+  lex-sound = scanned-sound (scan (u .edition) (u .at) (u .rest)) refl
 
   -- what the lexer finds, as the calls answer it
-  pub answer-same : answerOf (lex u) ≡ lexed (lexFrom (u .edition) (u .at) (u .rest))
+  pub answer-same : answerOf (lex u) ≡ lexed (scan (u .edition) (u .at) (u .rest))
   unfolding lex scanned lexed answerOf
-  answer-same = go (lexFrom (u .edition) (u .at) (u .rest)) refl
+  answer-same = go (scan (u .edition) (u .at) (u .rest)) refl
     where
-      go : (l : Lexing) → lexFrom (u .edition) (u .at) (u .rest) ≡ l → answerOf (scanned u l) ≡ lexed l
+      go : (l : Scanned) → scan (u .edition) (u .at) (u .rest) ≡ l → answerOf (scanned u l) ≡ lexed l
       go (found k s e w r) h =
           let d = good k s e w r h in
           let z = here-at k s e w r h in

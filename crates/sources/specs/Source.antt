@@ -4,7 +4,7 @@ use Prim.Native.Nat.{ℕ, _+_, _-_}
 use mathlib.Core.List.{List}
 use lib.ListN.{take, drop}
 use Rattle.tokens.specs.Answers.{token}
-use Rattle.tokens.specs.Token.{Scanned as Lexing, tok as found, bad as faulty, lex as lexFrom}
+use Rattle.tokens.specs.Token.{Scanned, tok as found, bad as faulty, scan}
 use Rattle.tokens.specs.declared.Refusal.{Refusal}
 use Rattle.tokens.specs.declared.Token.{Token as Answer}
 use Rattle.tokens.specs.declared.Lexed.{Lexed}
@@ -27,45 +27,45 @@ moved u p s = record { edition = u .edition; at = p; rest = s }
 abbrev pub past : ℕ → Source → Source
 past n u = moved u (u .at + n) (drop n (u .rest))
 
-pub record Token : Type 0 where
+pub record Lexeme : Type 0 where
   pub kind : ℕ
   pub here : Source
   pub len : ℕ
 
-abbrev pub start : Token → ℕ
+abbrev pub start : Lexeme → ℕ
 start t = t .here .at
 
-abbrev pub end : Token → ℕ
+abbrev pub end : Lexeme → ℕ
 end t = t .here .at + t .len
 
 -- the bytes of a token
-abbrev pub word : Token → List ℕ
+abbrev pub word : Lexeme → List ℕ
 word t = take (t .len) (t .here .rest)
 
 -- where reading goes on behind a token, and behind the first byte of `>>`
-abbrev pub after : Token → Source
+abbrev pub after : Lexeme → Source
 after t = past (t .len) (t .here)
 
-abbrev pub split : Token → Source
+abbrev pub split : Lexeme → Source
 split t = past 1 (t .here)
 
-pub data Scanned : Type 0 where
-  tok : Token → Scanned
-  bad : Refusal → Scanned
+pub data LexResult : Type 0 where
+  tok : Lexeme → LexResult
+  bad : Refusal → LexResult
 
 -- what the lexer finds in a source
-unfoldable pub scanned : Source → Lexing → Scanned
+unfoldable pub scanned : Source → Scanned → LexResult
 scanned u (found k s e w r) = tok (record { kind = k; here = past (s - u .at) u; len = e - s })
 scanned u (faulty r) = bad r
 
 -- the next token of a source, in its edition
-unfoldable pub lex : Source → Scanned
-lex u = scanned u (lexFrom (u .edition) (u .at) (u .rest))
+unfoldable pub lex : Source → LexResult
+lex u = scanned u (scan (u .edition) (u .at) (u .rest))
 
 -- a token as the calls answer it: its kind and its span
-abbrev pub tokenOf : Token → Answer
+abbrev pub tokenOf : Lexeme → Answer
 tokenOf t = token (t .kind) (start t) (end t)
 
-unfoldable pub answerOf : Scanned → Lexed
+unfoldable pub answerOf : LexResult → Lexed
 answerOf (tok t) = Found (tokenOf t)
 answerOf (bad r) = Refused r

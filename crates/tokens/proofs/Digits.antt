@@ -14,7 +14,7 @@ use Rattle.classes.specs.Run.{runLen, runEnd}
 use Rattle.classes.proofs.Cut.{run-cut}
 use Rattle.classes.proofs.Bools.{false-true, and-false}
 use Rattle.classes.proofs.Runs.{run-past, run-short, run-stops, run-inside, len-same}
-use Rattle.words.specs.Search.{later}
+use Rattle.words.specs.Search.{isEdition2}
 use Rattle.tokens.specs.Token.{digitsLen, moreDigits, moreHex, decimalLen, hexLen}
 use Rattle.tokens.specs.code.Found.{digitsClass, hexClass, begun, digitsEnd}
 
@@ -175,7 +175,7 @@ low-hex = refl
 
 begun-digit : (ed b : ℕ) → begun (digitsClass ed) b ≡ isDigit b
 unfolding begun digitsClass inClass isDigitOrUnderscore
-begun-digit ed b = go (later ed)
+begun-digit ed b = go (isEdition2 ed)
   where
     go : (v : Bool) → inClass (cond v 6 1) b && not (eqb b 95) ≡ isDigit b
     go true = or-low isDigit low-digit b
@@ -183,7 +183,7 @@ begun-digit ed b = go (later ed)
 
 begun-hex : (ed b : ℕ) → begun (hexClass ed) b ≡ isHex b
 unfolding begun hexClass inClass isHexOrUnderscore
-begun-hex ed b = go (later ed)
+begun-hex ed b = go (isEdition2 ed)
   where
     go : (v : Bool) → inClass (cond v 7 2) b && not (eqb b 95) ≡ isHex b
     go true = or-low isHex low-hex b
@@ -191,7 +191,7 @@ begun-hex ed b = go (later ed)
 
 digits-told : (ed b : ℕ) → inClass (digitsClass ed) b ≡ moreDigits ed b
 unfolding digitsClass moreDigits inClass
-digits-told ed b = go (later ed)
+digits-told ed b = go (isEdition2 ed)
   where
     go : (v : Bool) → inClass (cond v 6 1) b ≡ cond v (isDigitOrUnderscore b) (isDigit b)
     go true = refl
@@ -199,7 +199,7 @@ digits-told ed b = go (later ed)
 
 hex-told : (ed b : ℕ) → inClass (hexClass ed) b ≡ moreHex ed b
 unfolding hexClass moreHex inClass
-hex-told ed b = go (later ed)
+hex-told ed b = go (isEdition2 ed)
   where
     go : (v : Bool) → inClass (cond v 7 2) b ≡ cond v (isHexOrUnderscore b) (isHex b)
     go true = refl

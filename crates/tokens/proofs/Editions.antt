@@ -19,13 +19,13 @@ use Rattle.classes.proofs.Bools.{false-true, and-left, and-right}
 use Rattle.classes.proofs.Cut.{begins-short}
 use Rattle.classes.proofs.Runs.{run-inside}
 use Rattle.words.specs.Kinds.{NumValue, NumTypedValue}
-use Rattle.words.specs.Search.{kindOf, markOf, frontLen, later, suffixes1, suffixes2, suffixesOf, suffixLen}
+use Rattle.words.specs.Search.{kindOf, markOf, frontLen, isEdition2, suffixes1, suffixes2, suffixesOf, suffixLen}
 use Rattle.words.specs.Quote.{quoteFrom}
 use Rattle.words.specs.declared.Quote.{Quote}
 use Rattle.words.specs.declared.Quote.the-variants.{Found as Closing, Missing}
 use Rattle.words.proofs.Above.{name-above, mark-above}
 use Rattle.words.proofs.Suffix.{both-lists, later-kept, no-suffix}
-use Rattle.tokens.specs.Token.{Front, front, fault, typed, digitsLen, moreDigits, moreHex, decimalLen, decimal, hexTyped, hexLen, hexNumber, number, stringBy, string, opensString, stringRefusal, name, word, mark, findToken, Scanned, tok, bad, placed, behindGap, lex}
+use Rattle.tokens.specs.Token.{Front, sized, fault, typed, digitsLen, moreDigits, moreHex, decimalLen, decimal, hexTyped, hexLen, hexNumber, numberToken, stringBy, string, opensString, stringRefusal, name, wordToken, mark, findToken, Scanned, tok, bad, placed, behindGap, scan}
 use Rattle.tokens.specs.declared.Refusal.{Refusal}
 use Rattle.tokens.proofs.Digits.{digits-same}
 use Rattle.tokens.proofs.Fronts.{Takes, find-takes}
@@ -62,7 +62,7 @@ suffix-named ed s = front-named (suffixesOf ed) s (both-lists (λ ws. wordsNamed
 -- digits
 pub more-digits-named : (x ed : ℕ) → moreDigits ed x ≡ true → isName x ≡ true
 unfolding moreDigits
-more-digits-named x ed h = go (later ed) h
+more-digits-named x ed h = go (isEdition2 ed) h
   where
     go : (v : Bool) → cond v (isDigitOrUnderscore x) (isDigit x) ≡ true → isName x ≡ true
     go true g = digit-or-name x g
@@ -70,7 +70,7 @@ more-digits-named x ed h = go (later ed) h
 
 pub more-hex-named : (x ed : ℕ) → moreHex ed x ≡ true → isName x ≡ true
 unfolding moreHex
-more-hex-named x ed h = go (later ed) h
+more-hex-named x ed h = go (isEdition2 ed) h
   where
     go : (v : Bool) → cond v (isHexOrUnderscore x) (isHex x) ≡ true → isName x ≡ true
     go true g = hex-or-name x g
@@ -90,12 +90,12 @@ abbrev pub isNumber : ℕ → Bool
 isNumber k = eqb k NumValue || eqb k NumTypedValue
 
 abbrev pub lengthOf : Front → ℕ
-lengthOf (front k n) = n
+lengthOf (sized k n) = n
 lengthOf (fault m i j) = 0
 
 pub record Number (s : List ℕ) (x : Front) : Type 0 where
   pub kind : ℕ
-  pub is : x ≡ front kind (lengthOf x)
+  pub is : x ≡ sized kind (lengthOf x)
   pub numeral : isNumber kind ≡ true
   pub named : Named s (lengthOf x)
 
@@ -125,14 +125,14 @@ module _ (ed : ℕ) (s : List ℕ) where
   hex-number : begins (bytes "0x") s ≡ true → Number s (hexNumber ed s)
   unfolding hexNumber hexTyped hexLen
   hex-number h =
-      number-cond s (eqb (hexLen ed s + suffixLen ed (drop (hexLen ed s) s)) 2) (front 1 1) (typed (hexLen ed s) (suffixLen ed (drop (hexLen ed s) s)))
+      number-cond s (eqb (hexLen ed s + suffixLen ed (drop (hexLen ed s) s)) 2) (sized 1 1) (typed (hexLen ed s) (suffixLen ed (drop (hexLen ed s) s)))
       (λ _. record { kind = 1; is = refl; numeral = refl; named = subst (λ (w : List ℕ). allOf isName w ≡ true) (take-take 1 2 s (omega arith)) (all-take isName 1 (take 2 s) (prefix-named h)) })
       (λ _. typed-number s (hexLen ed s) (suffixLen ed (drop (hexLen ed s) s))
       (named-joined s (hexLen ed s) (suffixLen ed (drop (hexLen ed s) s))
       (named-joined s 2 (digitsLen isHex (moreHex ed) (drop 2 s)) (prefix-named h) (digits-named isHex (moreHex ed) hex-name (λ x. more-hex-named x ed) (drop 2 s))) (suffix-named ed (drop (hexLen ed s) s))))
 
-  pub is-number : Number s (number ed s)
-  unfolding number
+  pub is-number : Number s (numberToken ed s)
+  unfolding numberToken
   is-number = number-cond s (begins (bytes "0x") s) (hexNumber ed s) (decimal ed s) hex-number (λ _. decimal-number)
 
 -- a type of edition 1 is one of edition 2
@@ -218,7 +218,7 @@ hex-length : (n v : ℕ) → lengthOf (hexTyped n v) ≡ cond (eqb (n + v) 2) 1 
 unfolding hexTyped typed
 hex-length n v = go (eqb (n + v) 2)
   where
-    go : (b : Bool) → lengthOf (cond b (front 1 1) (front (cond (eqb v 0) 1 2) (n + v))) ≡ cond b 1 (n + v)
+    go : (b : Bool) → lengthOf (cond b (sized 1 1) (sized (cond (eqb v 0) 1 2) (n + v))) ≡ cond b 1 (n + v)
     go true = refl
     go false = refl
 
@@ -243,8 +243,8 @@ module _ (s : List ℕ) where
       rw (hex-length (2 + digitsLen isHex (moreHex 1) (drop 2 s)) (suffixLen 1 (drop (2 + digitsLen isHex (moreHex 1) (drop 2 s)) s)), hex-length (2 + digitsLen isHex (moreHex 2) (drop 2 s)) (suffixLen 2 (drop (2 + digitsLen isHex (moreHex 2) (drop 2 s)) s)), ← drop-drop (digitsLen isHex (moreHex 1) (drop 2 s)) 2 s, ← drop-drop (digitsLen isHex (moreHex 2) (drop 2 s)) 2 s)
       (longer-by (2 + digitsLen isHex (moreHex 1) (drop 2 s) + suffixLen 1 (drop (digitsLen isHex (moreHex 1) (drop 2 s)) (drop 2 s))) (2 + digitsLen isHex (moreHex 2) (drop 2 s) + suffixLen 2 (drop (digitsLen isHex (moreHex 2) (drop 2 s)) (drop 2 s))) (omega arith) (omega arith))
 
-  number-longer : lengthOf (number 1 s) ≤ lengthOf (number 2 s)
-  unfolding number
+  number-longer : lengthOf (numberToken 1 s) ≤ lengthOf (numberToken 2 s)
+  unfolding numberToken
   number-longer = go (begins (bytes "0x") s)
     where
       go : (v : Bool) → lengthOf (cond v (hexNumber 1 s) (decimal 1 s)) ≤ lengthOf (cond v (hexNumber 2 s) (decimal 2 s))
@@ -252,33 +252,33 @@ module _ (s : List ℕ) where
       go false = decimal-longer
 
 -- a number that is all of the bytes is the same number
-whole-typed : (n v m u k l : ℕ) → typed n v ≡ front k l → m + u ≤ l → n + v ≤ m + u → (n + v ≡ m + u → (n ≡ m) × (v ≡ u)) → typed m u ≡ front k l
+whole-typed : (n v m u k l : ℕ) → typed n v ≡ sized k l → m + u ≤ l → n + v ≤ m + u → (n + v ≡ m + u → (n ≡ m) × (v ≡ u)) → typed m u ≡ sized k l
 unfolding typed
 whole-typed n v m u k l e h g f =
     let z : n + v ≡ l = ap lengthOf e in
     let q = f (omega arith) in
-    ap (λ (i : ℕ). front (cond (eqb i 0) 1 2) (m + u)) (sym (q .1)) ∙ ap (front (cond (eqb v 0) 1 2)) (omega arith) ∙ e
+    ap (λ (i : ℕ). sized (cond (eqb i 0) 1 2) (m + u)) (sym (q .1)) ∙ ap (sized (cond (eqb v 0) 1 2)) (omega arith) ∙ e
 
 module _ (s : List ℕ) (k : ℕ) where
-  decimal-whole : decimal 1 s ≡ front k (length s) → lengthOf (decimal 2 s) ≤ length s → decimal 2 s ≡ front k (length s)
+  decimal-whole : decimal 1 s ≡ sized k (length s) → lengthOf (decimal 2 s) ≤ length s → decimal 2 s ≡ sized k (length s)
   unfolding decimal decimalLen typed
   decimal-whole e h =
       whole-typed (decimalLen 1 s) (suffixLen 1 (drop (decimalLen 1 s) s)) (decimalLen 2 s) (suffixLen 2 (drop (decimalLen 2 s) s)) k (length s) e h
       (typed-longer isDigit (moreDigits 1) (moreDigits 2) digit-too no-u-digit s) (typed-same isDigit (moreDigits 1) (moreDigits 2) digit-too no-u-digit s)
 
-  hex-by : (n v m u : ℕ) → 2 ≤ length s → 2 ≤ m → hexTyped n v ≡ front k (length s) → lengthOf (hexTyped m u) ≤ length s → n + v ≤ m + u → (n + v ≡ m + u → (n ≡ m) × (v ≡ u)) → hexTyped m u ≡ front k (length s)
+  hex-by : (n v m u : ℕ) → 2 ≤ length s → 2 ≤ m → hexTyped n v ≡ sized k (length s) → lengthOf (hexTyped m u) ≤ length s → n + v ≤ m + u → (n + v ≡ m + u → (n ≡ m) × (v ≡ u)) → hexTyped m u ≡ sized k (length s)
   unfolding hexTyped typed
   hex-by n v m u t w e h g f = first (eqb (n + v) 2) refl e
     where
-      second : (b : Bool) → eqb (m + u) 2 ≡ b → (n + v ≡ 2 → ⊥) → n + v ≡ length s → typed n v ≡ front k (length s) → cond b (front 1 1) (typed m u) ≡ front k (length s)
+      second : (b : Bool) → eqb (m + u) 2 ≡ b → (n + v ≡ 2 → ⊥) → n + v ≡ length s → typed n v ≡ sized k (length s) → cond b (sized 1 1) (typed m u) ≡ sized k (length s)
       second true q x z y = absurd (omega (arith, eqb-true (m + u) 2 q, x))
       second false q x z y = whole-typed n v m u k (length s) y (rw q at h) g f
 
-      first : (b : Bool) → eqb (n + v) 2 ≡ b → cond b (front 1 1) (typed n v) ≡ front k (length s) → cond (eqb (m + u) 2) (front 1 1) (typed m u) ≡ front k (length s)
+      first : (b : Bool) → eqb (n + v) 2 ≡ b → cond b (sized 1 1) (typed n v) ≡ sized k (length s) → cond (eqb (m + u) 2) (sized 1 1) (typed m u) ≡ sized k (length s)
       first true q y = let z : 1 ≡ length s = ap lengthOf y in absurd (omega arith)
       first false q y = second (eqb (m + u) 2) refl (eqb-false (n + v) 2 q) (ap lengthOf y) y
 
-  hex-whole : 2 ≤ length s → hexNumber 1 s ≡ front k (length s) → lengthOf (hexNumber 2 s) ≤ length s → hexNumber 2 s ≡ front k (length s)
+  hex-whole : 2 ≤ length s → hexNumber 1 s ≡ sized k (length s) → lengthOf (hexNumber 2 s) ≤ length s → hexNumber 2 s ≡ sized k (length s)
   unfolding hexNumber hexLen
   hex-whole t e h =
       let d : (ed : ℕ) → drop (digitsLen isHex (moreHex ed) (drop 2 s)) (drop 2 s) ≡ drop (2 + digitsLen isHex (moreHex ed) (drop 2 s)) s = λ ed. drop-drop (digitsLen isHex (moreHex ed) (drop 2 s)) 2 s in
@@ -287,32 +287,32 @@ module _ (s : List ℕ) (k : ℕ) where
       hex-by (hexLen 1 s) (suffixLen 1 (drop (hexLen 1 s) s)) (hexLen 2 s) (suffixLen 2 (drop (hexLen 2 s) s)) t (omega arith) e h (omega (arith, l))
       (λ q. let r = m (omega arith) in (omega (arith, r .0), r .1))
 
-  number-whole : number 1 s ≡ front k (length s) → lengthOf (number 2 s) ≤ length s → number 2 s ≡ front k (length s)
-  unfolding number
+  number-whole : numberToken 1 s ≡ sized k (length s) → lengthOf (numberToken 2 s) ≤ length s → numberToken 2 s ≡ sized k (length s)
+  unfolding numberToken
   number-whole e h = go (begins (bytes "0x") s) refl e h
     where
-      go : (b : Bool) → begins (bytes "0x") s ≡ b → cond b (hexNumber 1 s) (decimal 1 s) ≡ front k (length s) → lengthOf (cond b (hexNumber 2 s) (decimal 2 s)) ≤ length s → cond b (hexNumber 2 s) (decimal 2 s) ≡ front k (length s)
+      go : (b : Bool) → begins (bytes "0x") s ≡ b → cond b (hexNumber 1 s) (decimal 1 s) ≡ sized k (length s) → lengthOf (cond b (hexNumber 2 s) (decimal 2 s)) ≤ length s → cond b (hexNumber 2 s) (decimal 2 s) ≡ sized k (length s)
       go true q f g = hex-whole (begins-short (bytes "0x") s q) f g
       go false q f g = decimal-whole f g
 
 -- bytes that are one token in edition 1 are that token in edition 2
 inside : (n : ℕ) (x : Front) → Takes n x → lengthOf x ≤ n
-inside n (front k m) t = t .2
+inside n (sized k m) t = t .2
 inside n (fault m i j) t = omega arith
 
-pub whole-same : (a : ℕ) (s : List ℕ) (k : ℕ) → findToken 1 (a ∷ s) ≡ front k (length (a ∷ s)) → findToken 2 (a ∷ s) ≡ front k (length (a ∷ s))
+pub whole-same : (a : ℕ) (s : List ℕ) (k : ℕ) → findToken 1 (a ∷ s) ≡ sized k (length (a ∷ s)) → findToken 2 (a ∷ s) ≡ sized k (length (a ∷ s))
 unfolding findToken
 whole-same a s k e = go (isDigit a) refl e (inside (length (a ∷ s)) (findToken 2 (a ∷ s)) (find-takes 2 a s))
   where
-    go : (b : Bool) → isDigit a ≡ b → cond b (number 1 (a ∷ s)) (cond (isLetter a) (word (a ∷ s)) (mark (markOf (a ∷ s)))) ≡ front k (length (a ∷ s))
-        → lengthOf (cond (isDigit a) (number 2 (a ∷ s)) (cond (isLetter a) (word (a ∷ s)) (mark (markOf (a ∷ s))))) ≤ length (a ∷ s)
-        → cond b (number 2 (a ∷ s)) (cond (isLetter a) (word (a ∷ s)) (mark (markOf (a ∷ s)))) ≡ front k (length (a ∷ s))
+    go : (b : Bool) → isDigit a ≡ b → cond b (numberToken 1 (a ∷ s)) (cond (isLetter a) (wordToken (a ∷ s)) (mark (markOf (a ∷ s)))) ≡ sized k (length (a ∷ s))
+        → lengthOf (cond (isDigit a) (numberToken 2 (a ∷ s)) (cond (isLetter a) (wordToken (a ∷ s)) (mark (markOf (a ∷ s))))) ≤ length (a ∷ s)
+        → cond b (numberToken 2 (a ∷ s)) (cond (isLetter a) (wordToken (a ∷ s)) (mark (markOf (a ∷ s)))) ≡ sized k (length (a ∷ s))
     go true q f h = number-whole (a ∷ s) k f (rw q at h)
     go false q f h = f
 
 -- what stands at the front in the two editions: the same, and no number; or two numbers, the second no shorter
 abbrev NoNumber : Front → Type 0
-NoNumber (front k n) = isNumber k ≡ false
+NoNumber (sized k n) = isNumber k ≡ false
 NoNumber (fault m i j) = Unit {0}
 
 data Editions (s : List ℕ) (x y : Front) : Type 0 where
@@ -329,10 +329,10 @@ none-cond false x y f g = g refl
 string-none : (m h : ℕ) (q : Quote) → NoNumber (stringBy m h q)
 unfolding stringBy
 string-none m h (Missing e) = tt
-string-none m h (Closing q) = none-cond (ltb h q) (fault 9 h (h + 1)) (front 3 (q + 1)) (λ _. tt) (λ _. refl)
+string-none m h (Closing q) = none-cond (ltb h q) (fault 9 h (h + 1)) (sized 3 (q + 1)) (λ _. tt) (λ _. refl)
 
-word-none : (s : List ℕ) → NoNumber (word s)
-unfolding word string name
+word-none : (s : List ℕ) → NoNumber (wordToken s)
+unfolding wordToken string name
 word-none s =
     none-cond (opensString (getD s 0 0) (getD s 1 0)) _ _
     (λ _. string-none (stringRefusal (getD s 0 0)) (2 + runLen isAscii (drop 2 s)) (quoteFrom false 2 (drop 2 s)))
@@ -341,7 +341,7 @@ word-none s =
 mark-none : (s : List ℕ) → NoNumber (mark (markOf s))
 unfolding mark
 mark-none s =
-    none-cond (eqb (markOf s .len) 0) (fault 5 0 0) (front (markOf s .kind) (markOf s .len)) (λ _. tt)
+    none-cond (eqb (markOf s .len) 0) (fault 5 0 0) (sized (markOf s .kind) (markOf s .len)) (λ _. tt)
     (λ e. above-number (markOf s .kind) (mark-above s (omega (arith, eqb-false (markOf s .len) 0 e))))
 
 find-editions : (s : List ℕ) → Editions s (findToken 1 s) (findToken 2 s)
@@ -349,9 +349,9 @@ unfolding findToken
 find-editions [] = kept refl refl
 find-editions (a ∷ s) = go (isDigit a)
   where
-    go : (v : Bool) → Editions (a ∷ s) (cond v (number 1 (a ∷ s)) (cond (isLetter a) (word (a ∷ s)) (mark (markOf (a ∷ s))))) (cond v (number 2 (a ∷ s)) (cond (isLetter a) (word (a ∷ s)) (mark (markOf (a ∷ s)))))
+    go : (v : Bool) → Editions (a ∷ s) (cond v (numberToken 1 (a ∷ s)) (cond (isLetter a) (wordToken (a ∷ s)) (mark (markOf (a ∷ s))))) (cond v (numberToken 2 (a ∷ s)) (cond (isLetter a) (wordToken (a ∷ s)) (mark (markOf (a ∷ s)))))
     go true = numbers (is-number 1 (a ∷ s)) (is-number 2 (a ∷ s)) (number-longer (a ∷ s))
-    go false = kept refl (none-cond (isLetter a) (word (a ∷ s)) (mark (markOf (a ∷ s))) (λ _. word-none (a ∷ s)) (λ _. mark-none (a ∷ s)))
+    go false = kept refl (none-cond (isLetter a) (wordToken (a ∷ s)) (mark (markOf (a ∷ s))) (λ _. word-none (a ∷ s)) (λ _. mark-none (a ∷ s)))
 
 -- the same of the next token
 pub record Longer (a b : ℕ) (l : Scanned) : Type 0 where
@@ -375,7 +375,7 @@ module _ (p : ℕ) (s : List ℕ) (k a b : ℕ) (w r : List ℕ) where
 
   none-by : (x : Front) → NoNumber x → placed p s x ≡ tok k a b w r → isNumber k ≡ false
   unfolding placed
-  none-by (front c n) h q = let j : c ≡ k = cc in ap isNumber (sym j) ∙ h
+  none-by (sized c n) h q = let j : c ≡ k = cc in ap isNumber (sym j) ∙ h
   none-by (fault m i j) h q = let z : _≡_ {A = ℕ} 0 1 = cc in absurd (omega arith)
 
   longer-from : (x y : Front) → Editions s x y → placed p s x ≡ tok k a b w r → isNumber k ≡ true → Longer a b (placed p s y)
@@ -420,22 +420,22 @@ behind-refused r (clear p s) q = refused-by p s r (findToken 1 s) (findToken 2 s
 behind-refused r (broken o e) q = q
 
 -- a token that is no number is the same in edition 2
-pub editions-same : (p : ℕ) (s : List ℕ) (k a b : ℕ) (w r : List ℕ) → lex 1 p s ≡ tok k a b w r → isNumber k ≡ false → lex 2 p s ≡ tok k a b w r
-unfolding lex
+pub editions-same : (p : ℕ) (s : List ℕ) (k a b : ℕ) (w r : List ℕ) → scan 1 p s ≡ tok k a b w r → isNumber k ≡ false → scan 2 p s ≡ tok k a b w r
+unfolding scan
 editions-same p s k a b w r = behind-same k a b w r (gap 0 p s .last)
 
 -- a number is a number from the same byte on, and no shorter; all its bytes are bytes of names
-pub editions-number : (p : ℕ) (s : List ℕ) (k a b : ℕ) (w r : List ℕ) → lex 1 p s ≡ tok k a b w r → isNumber k ≡ true → Longer a b (lex 2 p s)
-unfolding lex
+pub editions-number : (p : ℕ) (s : List ℕ) (k a b : ℕ) (w r : List ℕ) → scan 1 p s ≡ tok k a b w r → isNumber k ≡ true → Longer a b (scan 2 p s)
+unfolding scan
 editions-number p s k a b w r = behind-longer k a b w r (gap 0 p s .last)
 
 -- what edition 1 refuses is refused alike
-pub editions-refused : (p : ℕ) (s : List ℕ) (r : Refusal) → lex 1 p s ≡ bad r → lex 2 p s ≡ bad r
-unfolding lex
+pub editions-refused : (p : ℕ) (s : List ℕ) (r : Refusal) → scan 1 p s ≡ bad r → scan 2 p s ≡ bad r
+unfolding scan
 editions-refused p s r = behind-refused r (gap 0 p s .last)
 
 -- every number but 2 is read as edition 1
-module _ (ed : ℕ) (h : later ed ≡ false) where
+module _ (ed : ℕ) (h : isEdition2 ed ≡ false) where
   suffix-first : (s : List ℕ) → suffixLen ed s ≡ suffixLen 1 s
   unfolding suffixLen suffixesOf
   suffix-first s = rw h
@@ -448,8 +448,8 @@ module _ (ed : ℕ) (h : later ed ≡ false) where
   unfolding hexLen moreHex
   hex-first s = ap (λ (n : ℕ). 2 + n) (digits-same isHex isHex (moreHex ed) (moreHex 1) (λ b. refl) (λ b. rw h) (drop 2 s))
 
-  number-first : (s : List ℕ) → number ed s ≡ number 1 s
-  unfolding number hexNumber decimal
+  number-first : (s : List ℕ) → numberToken ed s ≡ numberToken 1 s
+  unfolding numberToken hexNumber decimal
   number-first s = rw (hex-first s, decimal-first s, suffix-first (drop (hexLen 1 s) s), suffix-first (drop (decimalLen 1 s) s)) refl
 
   find-first : (s : List ℕ) → findToken ed s ≡ findToken 1 s
@@ -462,6 +462,6 @@ module _ (ed : ℕ) (h : later ed ≡ false) where
   behind-first (clear p s) = ap (placed p s) (find-first s)
   behind-first (broken o q) = refl
 
-  pub others-first : (p : ℕ) (s : List ℕ) → lex ed p s ≡ lex 1 p s
-  unfolding lex
+  pub others-first : (p : ℕ) (s : List ℕ) → scan ed p s ≡ scan 1 p s
+  unfolding scan
   others-first p s = behind-first (gap 0 p s .last)

@@ -14,7 +14,7 @@ use Rattle.gap.specs.declared.GapEnd.{GapEnd}
 use Rattle.gap.specs.declared.GapEnd.the-variants.{Clear}
 use Rattle.gap.proofs.Gaps.{Ended, gap-ended}
 use Rattle.gap.proofs.LineFeeds.{feed-past}
-use Rattle.tokens.specs.Token.{Front, front, fault}
+use Rattle.tokens.specs.Token.{Front, sized, fault}
 use Rattle.tokens.specs.Calls.{nextToken, lineFeedBefore, advanced, refusedCall}
 use Rattle.tokens.specs.code.Found.{lexedAt, flagged}
 use Rattle.tokens.specs.declared.Refusal.{Refusal}
@@ -29,7 +29,7 @@ module _ (ed : ℕ) (text : List ℕ) (at : ℕ) where
   -- a token that stands at k
   found-by : (k : ℕ) (f : Front) (v : Bool) → lexedAt k f ≡ nextToken ed text at → v ≡ lineFeed text at k → flagged (lexedAt k f) v ≡ advanced ed text at
   unfolding advanced flagged lexedAt lineFeedBefore
-  found-by k (front d n) v e h = rw (← e, h)
+  found-by k (sized d n) v e h = rw (← e, h)
   found-by k (fault m i j) v e h = rw (← e)
 
   pub advanced-found : (k : ℕ) (f : Front) (v : Bool) (l : Lexed) → l ≡ lexedAt k f → lexedAt k f ≡ nextToken ed text at → v ≡ lineFeed text at k → flagged l v ≡ advanced ed text at

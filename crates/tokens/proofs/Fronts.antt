@@ -21,12 +21,12 @@ use Rattle.words.proofs.Suffix.{suffix-short}
 use Rattle.words.proofs.Quotes.{Within, within}
 use Rattle.words.proofs.Above.{name-above, mark-above}
 use Rattle.words.proofs.Marks.{mark-short}
-use Rattle.tokens.specs.Token.{Front, front, fault, typed, digitsLen, moreDigits, moreHex, decimalLen, decimal, hexTyped, hexLen, hexNumber, number, stringBy, string, opensString, stringRefusal, name, word, mark, findToken}
+use Rattle.tokens.specs.Token.{Front, sized, fault, typed, digitsLen, moreDigits, moreHex, decimalLen, decimal, hexTyped, hexLen, hexNumber, numberToken, stringBy, string, opensString, stringRefusal, name, wordToken, mark, findToken}
 use Rattle.tokens.proofs.Digits.{digits-short, digits-take}
 
 -- in n bytes, of which a token takes one, and its kind is not EOF's
 abbrev pub Takes : ℕ → Front → Type 0
-Takes n (front k m) = (0 < k) × (0 < m) × (m ≤ n)
+Takes n (sized k m) = (0 < k) × (0 < m) × (m ≤ n)
 Takes n (fault m i j) = (i ≤ j) × (j ≤ n)
 
 takes-cond : (n : ℕ) (b : Bool) (x y : Front) → (b ≡ true → Takes n x) → (b ≡ false → Takes n y) → Takes n (cond b x y)
@@ -76,12 +76,12 @@ module _ (ed : ℕ) where
   unfolding hexNumber hexTyped
   hex-takes s e =
       let h : 2 ≤ length s = begins-short (bytes "0x") s e in
-      takes-cond (length s) (eqb (hexLen ed s + suffixLen ed (drop (hexLen ed s) s)) 2) (front 1 1) (typed (hexLen ed s) (suffixLen ed (drop (hexLen ed s) s)))
+      takes-cond (length s) (eqb (hexLen ed s + suffixLen ed (drop (hexLen ed s) s)) 2) (sized 1 1) (typed (hexLen ed s) (suffixLen ed (drop (hexLen ed s) s)))
       (λ _. (omega arith, omega arith, omega arith))
       (λ _. typed-takes (length s) (hexLen ed s) (suffixLen ed (drop (hexLen ed s) s)) (hex-some s (suffixLen ed (drop (hexLen ed s) s))) (hex-fits s h))
 
-  number-takes : (a : ℕ) (s : List ℕ) → isDigit a ≡ true → Takes (length (a ∷ s)) (number ed (a ∷ s))
-  unfolding number
+  number-takes : (a : ℕ) (s : List ℕ) → isDigit a ≡ true → Takes (length (a ∷ s)) (numberToken ed (a ∷ s))
+  unfolding numberToken
   number-takes a s e =
       takes-cond (length (a ∷ s)) (begins (bytes "0x") (a ∷ s)) (hexNumber ed (a ∷ s)) (decimal ed (a ∷ s)) (hex-takes (a ∷ s)) (λ _. decimal-takes a s e)
 
@@ -89,7 +89,7 @@ by-takes : (n m h : ℕ) (q : Quote) → Within 2 n q → Takes (2 + n) (stringB
 unfolding stringBy
 by-takes n m h (Missing e) b = (omega arith, omega arith)
 by-takes n m h (Found q) b =
-    takes-cond (2 + n) (ltb h q) (fault 9 h (h + 1)) (front 3 (q + 1))
+    takes-cond (2 + n) (ltb h q) (fault 9 h (h + 1)) (sized 3 (q + 1))
     (λ c. (omega arith, omega (arith, ltb-true h q c))) (λ _. (omega arith, omega arith, omega arith))
 
 -- a string has two bytes
@@ -113,15 +113,15 @@ unfolding opensString
 opened-takes a [] h = false-true _ (and-right (eqb a 120 || eqb a 98) false h)
 opened-takes a (b ∷ s) h = string-takes (stringRefusal a) a b s
 
-word-takes : (a : ℕ) (s : List ℕ) → isLetter a ≡ true → Takes (length (a ∷ s)) (word (a ∷ s))
-unfolding word
+word-takes : (a : ℕ) (s : List ℕ) → isLetter a ≡ true → Takes (length (a ∷ s)) (wordToken (a ∷ s))
+unfolding wordToken
 word-takes a s e =
     takes-cond (length (a ∷ s)) (opensString a (getD s 0 0)) (string (stringRefusal a) (a ∷ s)) (name (a ∷ s)) (opened-takes a s) (λ _. name-takes a s e)
 
 mark-takes : (s : List ℕ) → Takes (length s) (mark (markOf s))
 unfolding mark
 mark-takes s =
-    takes-cond (length s) (eqb (markOf s .len) 0) (fault 5 0 0) (front (markOf s .kind) (markOf s .len))
+    takes-cond (length s) (eqb (markOf s .len) 0) (fault 5 0 0) (sized (markOf s .kind) (markOf s .len))
     (λ _. (omega arith, omega arith))
     (λ e. let h : 0 < markOf s .len = omega (arith, eqb-false (markOf s .len) 0 e) in (omega (arith, mark-above s h), h, mark-short s))
 

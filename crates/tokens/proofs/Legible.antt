@@ -23,7 +23,7 @@ use Rattle.words.specs.declared.Fit.{Fit}
 use Rattle.words.specs.declared.Quote.{Quote}
 use Rattle.words.specs.declared.Quote.the-variants.{Found, Missing}
 use Rattle.words.proofs.Quotes.{Within, within, quote-there}
-use Rattle.tokens.specs.Token.{Front, front, fault, number, stringBy, string, opensString, stringRefusal, name, word, mark, findToken, Scanned, tok, bad, placed, behindGap, lex}
+use Rattle.tokens.specs.Token.{Front, sized, fault, numberToken, stringBy, string, opensString, stringRefusal, name, wordToken, mark, findToken, Scanned, tok, bad, placed, behindGap, scan}
 use Rattle.tokens.proofs.Editions.{Named, lengthOf, is-number}
 use Rattle.tokens.proofs.Spelled.{begins-is}
 
@@ -41,21 +41,21 @@ shown-legible k w h = go (eqb k ByteStringValue)
 
 -- what stands at the front of the bytes s
 abbrev Legible : List ℕ → Front → Type 0
-Legible s (front k n) = legible k (take n s) ≡ true
+Legible s (sized k n) = legible k (take n s) ≡ true
 Legible s (fault m i j) = Unit {0}
 
 legible-cond : (s : List ℕ) (b : Bool) (x y : Front) → (b ≡ true → Legible s x) → (b ≡ false → Legible s y) → Legible s (cond b x y)
 legible-cond s true x y f g = f refl
 legible-cond s false x y f g = g refl
 
-named-legible : (k n : ℕ) (s : List ℕ) → Named s n → Legible s (front k n)
+named-legible : (k n : ℕ) (s : List ℕ) → Named s n → Legible s (sized k n)
 named-legible k n s h = shown-legible k (take n s) (all-more isName shows name-shows (take n s) h)
 
 -- numbers
-number-legible : (ed : ℕ) (s : List ℕ) → Legible s (number ed s)
+number-legible : (ed : ℕ) (s : List ℕ) → Legible s (numberToken ed s)
 number-legible ed s =
     let n = is-number ed s in
-    subst (Legible s) (sym (n .is)) (named-legible (n .kind) (lengthOf (number ed s)) s (n .named))
+    subst (Legible s) (sym (n .is)) (named-legible (n .kind) (lengthOf (numberToken ed s)) s (n .named))
 
 -- strings
 open-ascii : (a b : ℕ) → opensString a b ≡ true → (isAscii a ≡ true) × (isAscii b ≡ true)
@@ -93,8 +93,8 @@ name-legible : (s : List ℕ) → Legible s (name s)
 unfolding name
 name-legible s = named-legible (kindOf (take (runLen isName s) s)) (runLen isName s) s (all-run isName s)
 
-word-legible : (a : ℕ) (s : List ℕ) → Legible (a ∷ s) (word (a ∷ s))
-unfolding word opensString
+word-legible : (a : ℕ) (s : List ℕ) → Legible (a ∷ s) (wordToken (a ∷ s))
+unfolding wordToken opensString
 word-legible a s = legible-cond (a ∷ s) (opensString a (getD s 0 0)) _ _ (opened s) (λ _. name-legible (a ∷ s))
   where
     opened : (s : List ℕ) → opensString a (getD s 0 0) ≡ true → Legible (a ∷ s) (string (stringRefusal a) (a ∷ s))
@@ -144,7 +144,7 @@ LegibleToken (bad r) = Unit {0}
 
 placed-legible : (p : ℕ) (s : List ℕ) (x : Front) → Legible s x → LegibleToken (placed p s x)
 unfolding placed
-placed-legible p s (front k n) h = h
+placed-legible p s (sized k n) h = h
 placed-legible p s (fault m i j) h = tt
 
 behind-legible : (ed : ℕ) (e : End) → LegibleToken (behindGap ed e)
@@ -152,6 +152,6 @@ unfolding behindGap
 behind-legible ed (clear p s) = placed-legible p s (findToken ed s) (find-legible ed s)
 behind-legible ed (broken o q) = tt
 
-pub lex-legible : (ed p : ℕ) (s : List ℕ) → LegibleToken (lex ed p s)
-unfolding lex
+pub lex-legible : (ed p : ℕ) (s : List ℕ) → LegibleToken (scan ed p s)
+unfolding scan
 lex-legible ed p s = behind-legible ed (gap 0 p s .last)

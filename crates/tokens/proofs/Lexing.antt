@@ -9,7 +9,7 @@ use lib.ListN.{length, take, drop, length-drop}
 use lib.Seq.{drop-drop}
 use Rattle.gap.specs.Gap.{End, clear, broken, gap}
 use Rattle.gap.proofs.Gaps.{Ended, gap-ended}
-use Rattle.tokens.specs.Token.{Front, front, fault, findToken, Scanned, tok, bad, placed, behindGap, lex}
+use Rattle.tokens.specs.Token.{Front, sized, fault, findToken, Scanned, tok, bad, placed, behindGap, scan}
 use Rattle.tokens.specs.declared.Place.{Place}
 use Rattle.tokens.proofs.Fronts.{Takes, find-takes}
 
@@ -34,7 +34,7 @@ Sound text at (bad r) = Inside text (r .place) × Inside text (r .second)
 module _ (ed : ℕ) (text : List ℕ) (at : ℕ) where
   placed-sound : (q : ℕ) (f : Front) → at ≤ q → q < length text → Takes (length (drop q text)) f → Sound text at (placed q (drop q text) f)
   unfolding placed
-  placed-sound q (front k n) h g t =
+  placed-sound q (sized k n) h g t =
       let l = length-drop q text in
       let d : q + n - q ≡ n = omega arith in
       record {
@@ -73,6 +73,6 @@ module _ (ed : ℕ) (text : List ℕ) (at : ℕ) where
       (placed-sound q (findToken ed (a ∷ s)) (g .0) (omega arith) (subst (λ (l : List ℕ). Takes (length l) (findToken ed (a ∷ s))) (g .2) (find-takes ed a s)))
   behind-sound (broken o q) h g = ((omega (arith, g .0), g .1), (omega (arith, g .0), g .1))
 
-  pub lex-sound : at ≤ length text → Sound text at (lex ed at (drop at text))
-  unfolding lex
+  pub lex-sound : at ≤ length text → Sound text at (scan ed at (drop at text))
+  unfolding scan
   lex-sound h = behind-sound (gap 0 at (drop at text) .last) h (gap-ended text (drop at text) 0 at refl)

@@ -18,7 +18,7 @@ use Rattle.words.specs.Quote.{quoteFrom}
 use Rattle.words.specs.declared.Quote.{Quote}
 use Rattle.words.specs.declared.Quote.the-variants.{Found as Closing, Missing}
 use Rattle.tokens.specs.Refusals.{StringNotAscii, NoToken, among, lexRefusals, tokenRefusals, commentRefusals}
-use Rattle.tokens.specs.Token.{Front, front, fault, typed, decimal, hexTyped, hexLen, hexNumber, number, stringBy, string, opensString, stringRefusal, name, word, mark, findToken, Scanned, tok, bad, placed, behindGap, lex}
+use Rattle.tokens.specs.Token.{Front, sized, fault, typed, decimal, hexTyped, hexLen, hexNumber, numberToken, stringBy, string, opensString, stringRefusal, name, wordToken, mark, findToken, Scanned, tok, bad, placed, behindGap, scan}
 use Rattle.tokens.specs.Calls.{textLimit, placeFault, callFault, lexed, nextToken, advanced, refusedCall, tokenCall, commentOf, nextComment}
 use Rattle.tokens.specs.declared.Refusal.{Refusal}
 use Rattle.tokens.specs.declared.Advanced.{Advanced}
@@ -44,7 +44,7 @@ among-subset (x ∷ xs) ys h n g = go (eqb x n) refl g (among-subset xs ys (and-
 
 -- what the bytes of a text refuse has a number of the set
 abbrev Met : Front → Type 0
-Met (front k n) = Unit {0}
+Met (sized k n) = Unit {0}
 Met (fault m i j) = among lexRefusals m ≡ true
 
 abbrev pub LexMet : Scanned → Type 0
@@ -55,14 +55,14 @@ met-cond : (b : Bool) (x y : Front) → Met x → Met y → Met (cond b x y)
 met-cond true x y f g = f
 met-cond false x y f g = g
 
-number-met : (ed : ℕ) (s : List ℕ) → Met (number ed s)
-unfolding number hexNumber hexTyped decimal typed
-number-met ed s = met-cond (begins (bytes "0x") s) _ _ (met-cond (eqb (hexLen ed s + suffixLen ed (drop (hexLen ed s) s)) 2) (front 1 1) _ tt tt) tt
+number-met : (ed : ℕ) (s : List ℕ) → Met (numberToken ed s)
+unfolding numberToken hexNumber hexTyped decimal typed
+number-met ed s = met-cond (begins (bytes "0x") s) _ _ (met-cond (eqb (hexLen ed s + suffixLen ed (drop (hexLen ed s) s)) 2) (sized 1 1) _ tt tt) tt
 
 string-met : (m h : ℕ) (q : Quote) → among lexRefusals m ≡ true → Met (stringBy m h q)
 unfolding stringBy among
 string-met m h (Missing e) p = p
-string-met m h (Closing q) p = met-cond (ltb h q) (fault StringNotAscii h (h + 1)) (front 3 (q + 1)) refl tt
+string-met m h (Closing q) p = met-cond (ltb h q) (fault StringNotAscii h (h + 1)) (sized 3 (q + 1)) refl tt
 
 string-refusal-met : (a : ℕ) → among lexRefusals (stringRefusal a) ≡ true
 unfolding stringRefusal among
@@ -72,8 +72,8 @@ string-refusal-met a = go (eqb a 120)
     go true = refl
     go false = refl
 
-word-met : (s : List ℕ) → Met (word s)
-unfolding word string name
+word-met : (s : List ℕ) → Met (wordToken s)
+unfolding wordToken string name
 word-met s =
     met-cond (opensString (getD s 0 0) (getD s 1 0)) _ _
     (string-met (stringRefusal (getD s 0 0)) (2 + runLen isAscii (drop 2 s)) (quoteFrom false 2 (drop 2 s)) (string-refusal-met (getD s 0 0))) tt
@@ -83,11 +83,11 @@ unfolding findToken mark among
 find-met ed [] = tt
 find-met ed (a ∷ s) =
     met-cond (isDigit a) _ _ (number-met ed (a ∷ s))
-    (met-cond (isLetter a) _ _ (word-met (a ∷ s)) (met-cond (eqb (markOf (a ∷ s) .len) 0) (fault NoToken 0 0) (front (markOf (a ∷ s) .kind) (markOf (a ∷ s) .len)) refl tt))
+    (met-cond (isLetter a) _ _ (word-met (a ∷ s)) (met-cond (eqb (markOf (a ∷ s) .len) 0) (fault NoToken 0 0) (sized (markOf (a ∷ s) .kind) (markOf (a ∷ s) .len)) refl tt))
 
 placed-met : (p : ℕ) (s : List ℕ) (x : Front) → Met x → LexMet (placed p s x)
 unfolding placed
-placed-met p s (front k n) h = tt
+placed-met p s (sized k n) h = tt
 placed-met p s (fault m i j) h = h
 
 module _ (ed : ℕ) where
@@ -97,8 +97,8 @@ module _ (ed : ℕ) where
   gap-met (broken o q) = refl
 
   -- the bytes of a text say one of 5 to 9
-  pub lex-met : (p : ℕ) (s : List ℕ) → LexMet (lex ed p s)
-  unfolding lex
+  pub lex-met : (p : ℕ) (s : List ℕ) → LexMet (scan ed p s)
+  unfolding scan
   lex-met p s = gap-met (gap 0 p s .last)
 
 abbrev TokenMet : List ℕ → Lexed → Type 0
@@ -124,7 +124,7 @@ comment-met (BrokenFirst o q) = refl
 next-met : (ed : ℕ) (text : List ℕ) (at : ℕ) → TokenMet tokenRefusals (nextToken ed text at)
 unfolding nextToken subset among
 next-met ed text at =
-    unless-sure Refused (TokenMet tokenRefusals) (placeFault text at) _ (place-each _ text at refl refl) (λ _. lexed-met tokenRefusals refl (lex ed at (drop at text)) (lex-met ed at (drop at text)))
+    unless-sure Refused (TokenMet tokenRefusals) (placeFault text at) _ (place-each _ text at refl refl) (λ _. lexed-met tokenRefusals refl (scan ed at (drop at text)) (lex-met ed at (drop at text)))
 
 -- a token call is refused with 1, 2, 19 or 5 to 9
 pub token-refusals : (ed : ℕ) (text : List ℕ) (at : ℕ) (r : Refusal) → tokenCall ed text at .lexed ≡ Refused r → among tokenRefusals (r .number) ≡ true
@@ -136,7 +136,7 @@ token-refusals ed text at r e =
 pub token-text-refusals : (ed : ℕ) (text : List ℕ) (at : ℕ) → length text ≤ textLimit → at ≤ length text → (r : Refusal) → nextToken ed text at ≡ Refused r → among lexRefusals (r .number) ≡ true
 unfolding nextToken subset among
 token-text-refusals ed text at h g r e =
-    subst (TokenMet lexRefusals) (sym (admits text at Refused (lexed (lex ed at (drop at text))) h g) ∙ e) (lexed-met lexRefusals refl (lex ed at (drop at text)) (lex-met ed at (drop at text)))
+    subst (TokenMet lexRefusals) (sym (admits text at Refused (lexed (scan ed at (drop at text))) h g) ∙ e) (lexed-met lexRefusals refl (scan ed at (drop at text)) (lex-met ed at (drop at text)))
 
 -- a comment call is refused with 1, 2, 19 or 6
 pub comment-refusals : (ed : ℕ) (text : List ℕ) (at : ℕ) (r : Refusal) → nextComment ed text at ≡ Broken r → among commentRefusals (r .number) ≡ true

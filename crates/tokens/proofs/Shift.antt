@@ -10,7 +10,7 @@ use Rattle.gap.specs.Gap.{End, clear, broken, Gap, gap, firstDoc, docOf}
 use Rattle.gap.specs.Raise.{raiseComment, raiseEnd}
 use Rattle.gap.specs.declared.Comment.{Comment}
 use Rattle.gap.proofs.Shift.{gap-up}
-use Rattle.tokens.specs.Token.{Front, front, fault, findToken, Scanned, tok, bad, placed, behindGap, lex}
+use Rattle.tokens.specs.Token.{Front, sized, fault, findToken, Scanned, tok, bad, placed, behindGap, scan}
 use Rattle.tokens.specs.Calls.{textLimit, lexed, nextToken, noEdition, commentOf, nextComment}
 use Rattle.tokens.specs.Raise.{raiseScanned, raiseLexed, raiseDoc}
 use Rattle.tokens.specs.declared.Lexed.the-variants.{Refused}
@@ -20,7 +20,7 @@ use Rattle.tokens.proofs.Faults.{admits, admits-in}
 module _ (ed k : ℕ) where
   placed-up : (p : ℕ) (s : List ℕ) (f : Front) → placed (k + p) s f ≡ raiseScanned k (placed p s f)
   unfolding placed
-  placed-up p s (front d n) = rw (add-assoc k p n)
+  placed-up p s (sized d n) = rw (add-assoc k p n)
   placed-up p s (fault m i j) = rw (add-assoc k p i, add-assoc k p j)
 
   behind-up : (e : End) → behindGap ed (raiseEnd k e) ≡ raiseScanned k (behindGap ed e)
@@ -28,8 +28,8 @@ module _ (ed k : ℕ) where
   behind-up (clear p s) = placed-up p s (findToken ed s)
   behind-up (broken o q) = refl
 
-  pub lex-up : (p : ℕ) (s : List ℕ) → lex ed (k + p) s ≡ raiseScanned k (lex ed p s)
-  unfolding lex
+  pub lex-up : (p : ℕ) (s : List ℕ) → scan ed (k + p) s ≡ raiseScanned k (scan ed p s)
+  unfolding scan
   lex-up p s = ap (λ (g : Gap). behindGap ed (g .last)) (gap-up k s 0 p) ∙ behind-up (gap 0 p s .last)
 
   lexed-up : (l : Scanned) → lexed (raiseScanned k l) ≡ raiseLexed k (lexed l)
@@ -50,10 +50,10 @@ module _ (ed : ℕ) (text : List ℕ) (at : ℕ) (h : length text ≤ textLimit)
   pub token-from : nextToken ed text at ≡ raiseLexed at (nextToken ed (drop at text) 0)
   unfolding nextToken
   token-from =
-      admits text at Refused (lexed (lex ed at (drop at text))) h g
-      ∙ ap (λ (n : ℕ). lexed (lex ed n (drop at text))) (sym (add-zero at))
-      ∙ ap lexed (lex-up ed at 0 (drop at text)) ∙ lexed-up ed at (lex ed 0 (drop at text))
-      ∙ ap (raiseLexed at) (sym (admits (drop at text) 0 Refused (lexed (lex ed 0 (drop at text))) from-zero (omega arith)))
+      admits text at Refused (lexed (scan ed at (drop at text))) h g
+      ∙ ap (λ (n : ℕ). lexed (scan ed n (drop at text))) (sym (add-zero at))
+      ∙ ap lexed (lex-up ed at 0 (drop at text)) ∙ lexed-up ed at (scan ed 0 (drop at text))
+      ∙ ap (raiseLexed at) (sym (admits (drop at text) 0 Refused (lexed (scan ed 0 (drop at text))) from-zero (omega arith)))
 
   pub comment-from : noEdition ed ≡ false → nextComment ed text at ≡ raiseDoc at (nextComment ed (drop at text) 0)
   unfolding nextComment docOf

@@ -21,7 +21,7 @@ use Rattle.words.specs.Quote.{quoteFrom}
 use Rattle.words.specs.declared.Quote.{Quote}
 use Rattle.words.specs.declared.Quote.the-variants.{Found, Missing}
 use Rattle.words.proofs.Marks.{mark-first}
-use Rattle.tokens.specs.Token.{Front, front, fault, typed, decimalLen, decimal, hexTyped, hexLen, hexNumber, number, stringBy, string, opensString, stringRefusal, name, word, mark, findToken, Scanned, tok, bad, placed, behindGap, lex}
+use Rattle.tokens.specs.Token.{Front, sized, fault, typed, decimalLen, decimal, hexTyped, hexLen, hexNumber, numberToken, stringBy, string, opensString, stringRefusal, name, wordToken, mark, findToken, Scanned, tok, bad, placed, behindGap, scan}
 
 -- whether some mark has the kind, and the spelling of the first that has
 abbrev pub isMark : List Entry → ℕ → Bool
@@ -53,7 +53,7 @@ no-keyword = refl
 
 -- the front of the bytes s, where it is a mark's
 abbrev Spelt : List ℕ → Front → Type 0
-Spelt s (front k n) = markKind k ≡ true → take n s ≡ spelling k
+Spelt s (sized k n) = markKind k ≡ true → take n s ≡ spelling k
 Spelt s (fault m i j) = Unit {0}
 
 spelt-cond : (s : List ℕ) (b : Bool) (x y : Front) → Spelt s x → Spelt s y → Spelt s (cond b x y)
@@ -87,17 +87,17 @@ typed-spelt : (s : List ℕ) (n v : ℕ) → Spelt s (typed n v)
 unfolding typed
 typed-spelt s n v = not-mark (cond (eqb v 0) 1 2) (take (n + v) s ≡ spelling (cond (eqb v 0) 1 2)) (typed-kind (eqb v 0))
 
-number-spelt : (ed : ℕ) (s : List ℕ) → Spelt s (number ed s)
-unfolding number hexNumber hexTyped decimal
+number-spelt : (ed : ℕ) (s : List ℕ) → Spelt s (numberToken ed s)
+unfolding numberToken hexNumber hexTyped decimal
 number-spelt ed s =
     spelt-cond s (begins (bytes "0x") s) _ _
-    (spelt-cond s (eqb (hexLen ed s + suffixLen ed (drop (hexLen ed s) s)) 2) (front 1 1) (typed (hexLen ed s) (suffixLen ed (drop (hexLen ed s) s))) (not-mark 1 _ kind-1) (typed-spelt s (hexLen ed s) (suffixLen ed (drop (hexLen ed s) s))))
+    (spelt-cond s (eqb (hexLen ed s + suffixLen ed (drop (hexLen ed s) s)) 2) (sized 1 1) (typed (hexLen ed s) (suffixLen ed (drop (hexLen ed s) s))) (not-mark 1 _ kind-1) (typed-spelt s (hexLen ed s) (suffixLen ed (drop (hexLen ed s) s))))
     (typed-spelt s (decimalLen ed s) (suffixLen ed (drop (decimalLen ed s) s)))
 
 string-spelt : (s : List ℕ) (m h : ℕ) (q : Quote) → Spelt s (stringBy m h q)
 unfolding stringBy
 string-spelt s m h (Missing e) = tt
-string-spelt s m h (Found q) = spelt-cond s (ltb h q) (fault 9 h _) (front 3 _) tt (not-mark 3 _ kind-3)
+string-spelt s m h (Found q) = spelt-cond s (ltb h q) (fault 9 h _) (sized 3 _) tt (not-mark 3 _ kind-3)
 
 look-step : (e : Entry) (k : ℕ) (b : Bool) → not (markKind (e .kind)) ≡ true → markKind k ≡ false → markKind (cond b (e .kind) k) ≡ false
 look-step e k true h g = not-true _ h
@@ -145,12 +145,12 @@ mark-spelt : (s : List ℕ) → Spelt s (mark (markOf s))
 unfolding mark
 mark-spelt s = go (eqb (markOf s .len) 0) refl
   where
-    go : (b : Bool) → eqb (markOf s .len) 0 ≡ b → Spelt s (cond b (fault 5 0 0) (front (markOf s .kind) (markOf s .len)))
+    go : (b : Bool) → eqb (markOf s .len) 0 ≡ b → Spelt s (cond b (fault 5 0 0) (sized (markOf s .kind) (markOf s .len)))
     go true e = tt
     go false e = λ _. rw (mark-first s) (fits marks s found-itself (rw (mark-first s) at (positive (markOf s .len) (eqb-false (markOf s .len) 0 e))))
 
 pub find-spelled : (ed a : ℕ) (s : List ℕ) → Spelt (a ∷ s) (findToken ed (a ∷ s))
-unfolding findToken word string
+unfolding findToken wordToken string
 find-spelled ed a s =
     spelt-cond (a ∷ s) (isDigit a) _ _ (number-spelt ed (a ∷ s))
     (spelt-cond (a ∷ s) (isLetter a) _ _
@@ -164,7 +164,7 @@ SpeltToken (bad r) = Unit {0}
 
 placed-spelt : (q : ℕ) (s : List ℕ) (x : Front) → Spelt s x → SpeltToken (placed q s x)
 unfolding placed
-placed-spelt q s (front k n) h = h
+placed-spelt q s (sized k n) h = h
 placed-spelt q s (fault m i j) h = tt
 
 module _ (ed : ℕ) where
@@ -178,8 +178,8 @@ module _ (ed : ℕ) where
   behind-spelt (clear q (a ∷ s)) = placed-spelt q (a ∷ s) (findToken ed (a ∷ s)) (find-spelled ed a s)
   behind-spelt (broken o q) = tt
 
-  pub lex-spelt : (p : ℕ) (s : List ℕ) → SpeltToken (lex ed p s)
-  unfolding lex
+  pub lex-spelt : (p : ℕ) (s : List ℕ) → SpeltToken (scan ed p s)
+  unfolding scan
   lex-spelt p s = behind-spelt (gap 0 p s .last)
 
 -- `>>` has two bytes, and behind its first stands its second with the rest
@@ -205,7 +205,7 @@ split (a ∷ t) n h g = go n t h (ap length h) g
     go (suc (suc (suc n))) (b ∷ []) h l k = absurd (omega arith)
     go (suc (suc (suc n))) (b ∷ c ∷ t) h l k = absurd (omega arith)
 
-pub shift-split : (ed : ℕ) (text : List ℕ) (at s e : ℕ) (w r : List ℕ) → at ≤ length text → lex ed at (drop at text) ≡ tok 34 s e w r → (e ≡ s + 2) × (62 ∷ r ≡ drop (suc s) text)
+pub shift-split : (ed : ℕ) (text : List ℕ) (at s e : ℕ) (w r : List ℕ) → at ≤ length text → scan ed at (drop at text) ≡ tok 34 s e w r → (e ≡ s + 2) × (62 ∷ r ≡ drop (suc s) text)
 shift-split ed text at s e w r h l =
     let g : Good text at 34 s e w r = subst (Sound text at) l (lex-sound ed text at h) in
     let p : w ≡ 62 ∷ 62 ∷ [] = subst SpeltToken l (lex-spelt ed at (drop at text)) shift-kind ∙ shift-word in

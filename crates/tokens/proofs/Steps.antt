@@ -28,7 +28,7 @@ use Rattle.words.proofs.Marks.{mark-short}
 use Rattle.words.proofs.Quotes.{Within, within, quote-shift}
 use Rattle.words.proofs.Suffix.{suffix-short}
 use Rattle.tokens.specs.Answers.{refusal, token}
-use Rattle.tokens.specs.Token.{Front, front, fault, typed, moreDigits, moreHex, decimalLen, decimal, hexTyped, hexLen, hexNumber, number, stringBy, string, opensString, stringRefusal, name, word, mark, findToken, placed, behindGap, lex}
+use Rattle.tokens.specs.Token.{Front, sized, fault, typed, moreDigits, moreHex, decimalLen, decimal, hexTyped, hexLen, hexNumber, numberToken, stringBy, string, opensString, stringRefusal, name, wordToken, mark, findToken, placed, behindGap, scan}
 use Rattle.tokens.specs.Calls.{textLimit, noEdition, faultIf, _orElse_, placeFault, callFault, unless, lexed, nextToken, lineFeedBefore, advanced, refusedCall, tokenCall, commentOf, nextComment}
 use Rattle.tokens.specs.code.Found.{digitsEnd, editionRefusal, lexedAt, typedAt}
 use Rattle.tokens.specs.declared.Refusal.{Refusal}
@@ -96,12 +96,12 @@ module _ (text : List ℕ) (at b : ℕ) (eb : b ≡ getD text (at + 1) 0) where
   starts-0x = two-bytes (drop at text) ∙ rw (front-at text at, getD-drop at text 1 0, ← eb)
 
   module _ (v : Bool) (ev : v ≡ eqb (getD text at 0) 48 && eqb b 120) where
-    pub number-hex : (ed : ℕ) → v ≡ true → lexedAt at (hexNumber ed (drop at text)) ≡ lexedAt at (number ed (drop at text))
-    unfolding number
+    pub number-hex : (ed : ℕ) → v ≡ true → lexedAt at (hexNumber ed (drop at text)) ≡ lexedAt at (numberToken ed (drop at text))
+    unfolding numberToken
     number-hex ed h = rw (starts-0x, ← ev, h)
 
-    pub number-decimal : (ed : ℕ) → v ≡ false → lexedAt at (decimal ed (drop at text)) ≡ lexedAt at (number ed (drop at text))
-    unfolding number
+    pub number-decimal : (ed : ℕ) → v ≡ false → lexedAt at (decimal ed (drop at text)) ≡ lexedAt at (numberToken ed (drop at text))
+    unfolding numberToken
     number-decimal ed h = rw (starts-0x, ← ev, h)
 
     pub hex-room : v ≡ true → at + 2 ≤ length text
@@ -186,12 +186,12 @@ mark-room text at f e h = rw e (omega (arith, mark-short (drop at text), length-
 
 module _ (text : List ℕ) (at b : ℕ) (eb : b ≡ getD text (at + 1) 0) where
   pub word-string : opensString (getD text at 0) b ≡ true → (m : ℕ) → m ≡ stringRefusal (getD text at 0)
-      → lexedAt at (string m (drop at text)) ≡ lexedAt at (word (drop at text))
-  unfolding word
+      → lexedAt at (string m (drop at text)) ≡ lexedAt at (wordToken (drop at text))
+  unfolding wordToken
   word-string h m em = rw (front-at text at, getD-drop at text 1 0, ← eb, h, em)
 
-  pub word-name : opensString (getD text at 0) b ≡ false → lexedAt at (name (drop at text)) ≡ lexedAt at (word (drop at text))
-  unfolding word
+  pub word-name : opensString (getD text at 0) b ≡ false → lexedAt at (name (drop at text)) ≡ lexedAt at (wordToken (drop at text))
+  unfolding wordToken
   word-name h = rw (front-at text at, getD-drop at text 1 0, ← eb, h)
 
 -- a letter is no digit
@@ -212,11 +212,11 @@ module _ (ed : ℕ) (text : List ℕ) (at : ℕ) where
   find-over h = rw (drop-of-length-le text h, add-zero)
 
   module _ (h : at < length text) where
-    pub find-number : isDigit (getD text at 0) ≡ true → lexedAt at (number ed (drop at text)) ≡ lexedAt at (findToken ed (drop at text))
+    pub find-number : isDigit (getD text at 0) ≡ true → lexedAt at (numberToken ed (drop at text)) ≡ lexedAt at (findToken ed (drop at text))
     unfolding findToken
     find-number e = rw (drop-cons text at 0 h, e)
 
-    pub find-word : isLetter (getD text at 0) ≡ true → lexedAt at (word (drop at text)) ≡ lexedAt at (findToken ed (drop at text))
+    pub find-word : isLetter (getD text at 0) ≡ true → lexedAt at (wordToken (drop at text)) ≡ lexedAt at (findToken ed (drop at text))
     unfolding findToken
     find-word f = rw (drop-cons text at 0 h, no-digit (getD text at 0) f, f)
 
@@ -226,7 +226,7 @@ module _ (ed : ℕ) (text : List ℕ) (at : ℕ) where
 
 lexed-placed : (p : ℕ) (s : List ℕ) (f : Front) → lexed (placed p s f) ≡ lexedAt p f
 unfolding lexed placed lexedAt
-lexed-placed p s (front k n) = refl
+lexed-placed p s (sized k n) = refl
 lexed-placed p s (fault m i j) = refl
 
 -- behind the blanks
@@ -253,11 +253,11 @@ module _ (ed : ℕ) (text : List ℕ) (at : ℕ) where
 
   module _ (i : ℕ) (q : i ≡ runEnd isSpace text at) (h : placeFault text at ≡ Faultless) where
     pub next-clear : (k : ℕ) → gapEndOf (gap 0 i (drop i text) .last) ≡ Clear k → lexedAt k (findToken ed (drop k text)) ≡ nextToken ed text at
-    unfolding nextToken lex
+    unfolding nextToken scan
     next-clear k e = clear-by k (gap 0 at (drop at text) .last) (gap-ended text (drop at text) 0 at refl) (same-end text at i q ∙ e) ∙ sym (unless-not Refused (placeFault text at) _ h)
 
     pub next-broken : (o p : ℕ) → gapEndOf (gap 0 i (drop i text) .last) ≡ Broken o p → Refused (refusal 6 o p) ≡ nextToken ed text at
-    unfolding nextToken lex
+    unfolding nextToken scan
     next-broken o p e = broken-by o p (gap 0 at (drop at text) .last) (same-end text at i q ∙ e) ∙ sym (unless-not Refused (placeFault text at) _ h)
 
 -- the calls, by their faults
@@ -282,7 +282,7 @@ module _ (ed : ℕ) (text : List ℕ) (at : ℕ) where
   call-known e = rw e (go (placeFault text at))
     where
       token : Fault → Lexed
-      token f = unless Refused f (lexed (lex ed at (drop at text)))
+      token f = unless Refused f (lexed (scan ed at (drop at text)))
 
       go : (f : Fault) → record { lexed = token f; feed = lineFeedBefore text at (token f) } ≡ unless refusedCall (f orElse faultIf false 19) (record { lexed = token f; feed = lineFeedBefore text at (token f) })
       go Faultless = refl

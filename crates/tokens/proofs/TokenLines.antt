@@ -14,7 +14,7 @@ use Rattle.classes.proofs.Bools.{false-true, and-left, and-right, or-left}
 use Rattle.gap.specs.Gap.{End, clear, broken, gap}
 use Rattle.gap.specs.LineFeed.{holdsLineFeed, lineFeed}
 use Rattle.gap.proofs.LineFeeds.{line-feed-join, line-feed-from}
-use Rattle.words.specs.Search.{markOf, firstFit, frontLen, later, suffixes1, suffixes2, suffixesOf, suffixLen}
+use Rattle.words.specs.Search.{markOf, firstFit, frontLen, isEdition2, suffixes1, suffixes2, suffixesOf, suffixLen}
 use Rattle.words.specs.Tables.{Entry, longMarks, doubleMarks, singleMarks, marks}
 use Rattle.words.specs.Quote.{endsLine, turn, quoteFrom}
 use Rattle.words.specs.declared.Quote.{Quote}
@@ -22,7 +22,7 @@ use Rattle.words.specs.declared.Quote.the-variants.{Found as QuoteFound, Missin
 use Rattle.words.proofs.Marks.{mark-first}
 use Rattle.words.proofs.Suffix.{both-lists}
 use Rattle.words.proofs.Quotes.{Within, within}
-use Rattle.tokens.specs.Token.{Front, front, fault, typed, digitsLen, moreDigits, moreHex, decimalLen, decimal, hexTyped, hexLen, hexNumber, number, stringBy, string, opensString, stringRefusal, name, word, mark, findToken, Scanned, tok, bad, placed, behindGap, lex}
+use Rattle.tokens.specs.Token.{Front, sized, fault, typed, digitsLen, moreDigits, moreHex, decimalLen, decimal, hexTyped, hexLen, hexNumber, numberToken, stringBy, string, opensString, stringRefusal, name, wordToken, mark, findToken, Scanned, tok, bad, placed, behindGap, scan}
 use Rattle.tokens.specs.Calls.{textLimit, lexed, nextToken, lineFeedBefore, advanced}
 use Rattle.tokens.specs.Raise.{raiseLexed}
 use Rattle.tokens.specs.declared.Token.{Token}
@@ -124,7 +124,7 @@ quote-holds (a ∷ s) b i q h =
 
 -- what stands at the front of the bytes
 abbrev InLine : List ℕ → Front → Type 0
-InLine s (front k n) = holdsLineFeed (take n s) ≡ false
+InLine s (sized k n) = holdsLineFeed (take n s) ≡ false
 InLine s (fault m i j) = Unit {0}
 
 in-line-cond : (s : List ℕ) (b : Bool) (x y : Front) → (b ≡ true → InLine s x) → (b ≡ false → InLine s y) → InLine s (cond b x y)
@@ -155,7 +155,7 @@ digits-hold f g h k (a ∷ s) = go (f a) refl
 
 more-digits-feed : (ed : ℕ) → moreDigits ed 10 ≡ false
 unfolding moreDigits isDigitOrUnderscore isDigit inRange
-more-digits-feed ed = go (later ed)
+more-digits-feed ed = go (isEdition2 ed)
   where
     go : (v : Bool) → cond v (isDigitOrUnderscore 10) (isDigit 10) ≡ false
     go true = refl
@@ -163,7 +163,7 @@ more-digits-feed ed = go (later ed)
 
 more-hex-feed : (ed : ℕ) → moreHex ed 10 ≡ false
 unfolding moreHex isHexOrUnderscore isHex inRange
-more-hex-feed ed = go (later ed)
+more-hex-feed ed = go (isEdition2 ed)
   where
     go : (v : Bool) → cond v (isHexOrUnderscore 10) (isHex 10) ≡ false
     go true = refl
@@ -188,13 +188,13 @@ module _ (ed : ℕ) where
   hex-in-line : (s : List ℕ) → begins (bytes "0x") s ≡ true → InLine s (hexNumber ed s)
   unfolding hexNumber hexTyped typed hexLen
   hex-in-line s h =
-      in-line-cond s (eqb (hexLen ed s + suffixLen ed (drop (hexLen ed s) s)) 2) (front 1 1) (typed (hexLen ed s) (suffixLen ed (drop (hexLen ed s) s)))
+      in-line-cond s (eqb (hexLen ed s + suffixLen ed (drop (hexLen ed s) s)) 2) (sized 1 1) (typed (hexLen ed s) (suffixLen ed (drop (hexLen ed s) s)))
       (λ _. first-holds s (prefix-holds s h))
       (λ _. joined-holds (hexLen ed s) (suffixLen ed (drop (hexLen ed s) s)) s
       (joined-holds 2 (digitsLen isHex (moreHex ed) (drop 2 s)) s (prefix-holds s h) (digits-hold isHex (moreHex ed) hex-feed (more-hex-feed ed) (drop 2 s))) (suffix-holds ed (drop (hexLen ed s) s)))
 
-  number-in-line : (s : List ℕ) → InLine s (number ed s)
-  unfolding number
+  number-in-line : (s : List ℕ) → InLine s (numberToken ed s)
+  unfolding numberToken
   number-in-line s = in-line-cond s (begins (bytes "0x") s) (hexNumber ed s) (decimal ed s) (hex-in-line s) (λ _. decimal-in-line ed s)
 
 string-by : (m h a b : ℕ) (s : List ℕ) (k : Quote) → quoteFrom false 2 s ≡ k → eqb a 10 ≡ false → eqb b 10 ≡ false → InLine (a ∷ b ∷ s) (stringBy m h k)
@@ -203,7 +203,7 @@ string-by m h a b s (Missing e) q f g = tt
 string-by m h a b s (QuoteFound c) q f g =
     let l : (2 ≤ c) × (c < 2 + length s) = subst (Within 2 (length s)) q (within s false 2) in
     let n : c + 1 ≡ suc (suc (suc (c - 2))) = omega arith in
-    in-line-cond (a ∷ b ∷ s) (ltb h c) (fault 9 h (h + 1)) (front 3 (c + 1)) (λ _. tt) (λ _. rw (n, f, g) (quote-holds s false 2 c q))
+    in-line-cond (a ∷ b ∷ s) (ltb h c) (fault 9 h (h + 1)) (sized 3 (c + 1)) (λ _. tt) (λ _. rw (n, f, g) (quote-holds s false 2 c q))
 
 opener-feed : (a b : ℕ) → opensString a b ≡ true → (eqb a 10 ≡ false) × (eqb b 10 ≡ false)
 unfolding opensString
@@ -220,14 +220,14 @@ unfolding string opensString
 opened-in-line a [] h = false-true _ (and-right (eqb a 120 || eqb a 98) false h)
 opened-in-line a (b ∷ s) h = let o = opener-feed a b h in string-by (stringRefusal a) (2 + runLen isAscii s) a b s (quoteFrom false 2 s) refl (o .0) (o .1)
 
-word-in-line : (a : ℕ) (s : List ℕ) → InLine (a ∷ s) (word (a ∷ s))
-unfolding word name
+word-in-line : (a : ℕ) (s : List ℕ) → InLine (a ∷ s) (wordToken (a ∷ s))
+unfolding wordToken name
 word-in-line a s =
     in-line-cond (a ∷ s) (opensString a (getD s 0 0)) (string (stringRefusal a) (a ∷ s)) (name (a ∷ s)) (opened-in-line a s) (λ _. run-holds isName name-feed (a ∷ s))
 
 mark-in-line : (s : List ℕ) → InLine s (mark (markOf s))
 unfolding mark
-mark-in-line s = in-line-cond s (eqb (markOf s .len) 0) (fault 5 0 0) (front (markOf s .kind) (markOf s .len)) (λ _. tt) (λ _. mark-holds s)
+mark-in-line s = in-line-cond s (eqb (markOf s .len) 0) (fault 5 0 0) (sized (markOf s .kind) (markOf s .len)) (λ _. tt) (λ _. mark-holds s)
 
 find-in-line : (ed : ℕ) (s : List ℕ) → InLine s (findToken ed s)
 unfolding findToken holdsLineFeed
@@ -243,7 +243,7 @@ Whole (bad r) = Unit {0}
 
 placed-whole : (p : ℕ) (s : List ℕ) (f : Front) → InLine s f → Whole (placed p s f)
 unfolding placed
-placed-whole p s (front k n) h = h
+placed-whole p s (sized k n) h = h
 placed-whole p s (fault m i j) h = tt
 
 behind-whole : (ed : ℕ) (e : End) → Whole (behindGap ed e)
@@ -262,11 +262,11 @@ whole-by text at t (tok k s e w r) h g q =
 whole-by text at t (bad r) h g q = let z : _≡_ {A = ℕ} 0 1 = cc in absurd (omega arith)
 
 pub tokens-hold-no-line-feed : (ed : ℕ) (text : List ℕ) (at : ℕ) (t : Token) → nextToken ed text at ≡ Found t → (at ≤ t .start) × (t .start ≤ t .end) × (lineFeed text (t .start) (t .end) ≡ false)
-unfolding nextToken lex
+unfolding nextToken scan
 tokens-hold-no-line-feed ed text at t h =
     let f = found-fits ed text at t h in
-    whole-by text at t (lex ed at (drop at text)) (lex-sound ed text at (f .1)) (behind-whole ed (gap 0 at (drop at text) .last))
-    (sym (admits text at Refused (lexed (lex ed at (drop at text))) (f .0) (f .1)) ∙ h)
+    whole-by text at t (scan ed at (drop at text)) (lex-sound ed text at (f .1)) (behind-whole ed (gap 0 at (drop at text) .last))
+    (sym (admits text at Refused (lexed (scan ed at (drop at text))) (f .0) (f .1)) ∙ h)
 
 -- reading from an offset is reading the text from there on: the flag too
 flag-up : (text : List ℕ) (at : ℕ) (l : Lexed) → lineFeedBefore text at (raiseLexed at l) ≡ lineFeedBefore (drop at text) 0 l

@@ -10,7 +10,7 @@ use Rattle.gap.specs.LineFeed.{lineFeed}
 use Rattle.gap.specs.declared.FirstDoc.{FirstDoc}
 use Rattle.gap.specs.declared.FirstDoc.the-variants.{Found as DocFound, Nothing as NoDoc, BrokenFirst}
 use Rattle.tokens.specs.Answers.{refusal, token}
-use Rattle.tokens.specs.Token.{Scanned, tok, bad, lex}
+use Rattle.tokens.specs.Token.{Scanned, tok, bad, scan}
 use Rattle.tokens.specs.declared.Refusal.{Refusal}
 use Rattle.tokens.specs.declared.Fault.{Fault}
 use Rattle.tokens.specs.declared.Fault.the-variants.{Faultless, Faulty}
@@ -61,7 +61,7 @@ lexed (bad r) = Refused r
 
 -- the next token in an edition, as the readers ask for it: they have tested the edition
 unfoldable pub nextToken : ℕ → List ℕ → ℕ → Lexed
-nextToken ed text at = unless Refused (placeFault text at) (lexed (lex ed at (drop at text)))
+nextToken ed text at = unless Refused (placeFault text at) (lexed (scan ed at (drop at text)))
 
 -- LF stands between `at` and the token, in comments too; a refusal has none
 unfoldable pub lineFeedBefore : List ℕ → ℕ → Lexed → Bool

@@ -46,8 +46,8 @@ NoValue = 13
 abbrev pub TooDeep : ℕ
 TooDeep = 14
 
-abbrev pub LineSpoiled : ℕ
-LineSpoiled = 18
+abbrev pub LineUnprintable : ℕ
+LineUnprintable = 18
 
 abbrev pub NoSuchEdition : ℕ
 NoSuchEdition = 19

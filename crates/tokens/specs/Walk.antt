@@ -7,7 +7,7 @@ use lib.Dec.{eqb}
 use lib.ListN.{length, drop}
 use Rattle.words.specs.Kinds.{EOF}
 use Rattle.tokens.specs.Answers.{token}
-use Rattle.tokens.specs.Token.{Scanned, tok, bad, lex}
+use Rattle.tokens.specs.Token.{Scanned, tok, bad, scan}
 use Rattle.tokens.specs.Calls.{placeFault, unless}
 use Rattle.tokens.specs.declared.Refusal.{Refusal}
 use Rattle.tokens.specs.declared.Token.{Token}
@@ -26,11 +26,11 @@ listed (tok k s e w r) go = cond (eqb k EOF) (eof (token k s e)) (next (token k 
 -- token at `zero` is never reached (`walk-ends` in proofs/Walks.antt)
 unfoldable pub walk : ℕ → ℕ → Scanned → Listed
 walk ed zero l = listed l (λ e r. eof (token EOF e e))
-walk ed (suc n) l = listed l (λ e r. walk ed n (lex ed e r))
+walk ed (suc n) l = listed l (λ e r. walk ed n (scan ed e r))
 
 -- every token but EOF takes a byte, so as many steps as there are bytes are enough
 unfoldable pub tokensFrom : ℕ → ℕ → List ℕ → Listed
-tokensFrom ed p s = walk ed (length s) (lex ed p s)
+tokensFrom ed p s = walk ed (length s) (scan ed p s)
 
 -- the tokens of a text from an offset on, with refusals 1 and 2; and those of edition 1 from its first byte on
 unfoldable pub tokensAt : ℕ → List ℕ → ℕ → Listed

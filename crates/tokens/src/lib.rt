@@ -9,7 +9,7 @@ ghost use Rattle.classes.specs.Run.{runEnd};
 ghost use Rattle.gap.specs.Gap.{gap, gapEndOf};
 ghost use Rattle.gap.specs.LineFeed.{lineFeed, gapFeed};
 ghost use Rattle.tokens.specs.Answers.{refusal};
-ghost use Rattle.tokens.specs.Token.{opensString, stringRefusal, findToken, decimal, hexNumber, number, string, word, name, mark};
+ghost use Rattle.tokens.specs.Token.{opensString, stringRefusal, findToken, decimal, hexNumber, numberToken, string, wordToken, name, mark};
 ghost use Rattle.tokens.specs.Calls.{noEdition, placeFault, editionFault, callFault, nextToken, advanced, refusedCall, tokenCall, commentOf, nextComment};
 ghost use Rattle.tokens.specs.code.Found.{digitsClass, hexClass, begun, digitsEnd, lexedAt, typedAt, editionRefusal, flagged};
 ghost use Rattle.words.specs.Search.{markOf};
@@ -31,7 +31,7 @@ use refusals::NO_TOKEN;
 use refusals::START_PAST_END;
 use refusals::STRING_NOT_ASCII;
 use refusals::TEXT_TOO_LONG;
-use words::LATER;
+use words::EDITION_2;
 use words::Quote;
 use words::kinds::BYTE_STRING_VALUE;
 use words::kinds::EOF;
@@ -137,7 +137,7 @@ fn typed_at(at: usize, e: usize, n: usize) -> Lexed
 fn more_digits(edition: u64) -> u8
     ensures { λ r. ⌜ r ≡ digitsClass edition ⌝ }
 {
-    if edition == LATER {
+    if edition == EDITION_2 {
         return DIGIT_OR_UNDERSCORE;
     }
     DIGIT
@@ -147,7 +147,7 @@ fn more_digits(edition: u64) -> u8
 fn more_hex(edition: u64) -> u8
     ensures { λ r. ⌜ r ≡ hexClass edition ⌝ }
 {
-    if edition == LATER {
+    if edition == EDITION_2 {
         return HEX_OR_UNDERSCORE;
     }
     HEX
@@ -204,7 +204,7 @@ fn opens_hex(a: u8, b: u8) -> bool
 // The number at `at`, which a digit begins.
 fn number_at(edition: u64, text: &[u8], at: usize) -> Lexed
     requires { ⌜ at < length (now text) ⌝ }
-    ensures { λ r. ⌜ r ≡ lexedAt at (number edition (drop at (now (text .entry)))) ⌝ }
+    ensures { λ r. ⌜ r ≡ lexedAt at (numberToken edition (drop at (now (text .entry)))) ⌝ }
 {
     let a = text[at];
     let b = classes::byte_at(text, at + 1);
@@ -293,7 +293,7 @@ fn mark_at(text: &[u8], at: usize) -> Lexed
 // The name, keyword or string at `at`, which a letter begins.
 fn word_at(text: &[u8], at: usize) -> Lexed
     requires { ⌜ (at < length (now text)) × (isLetter (getD (now text) at 0) ≡ true) ⌝ }
-    ensures { λ r. ⌜ r ≡ lexedAt at (word (drop at (now (text .entry)))) ⌝ }
+    ensures { λ r. ⌜ r ≡ lexedAt at (wordToken (drop at (now (text .entry)))) ⌝ }
 {
     let a = text[at];
     let b = classes::byte_at(text, at + 1);
@@ -413,7 +413,7 @@ fn no_edition(edition: u64) -> bool
     if edition == 0 {
         return true;
     }
-    LATER < edition
+    EDITION_2 < edition
 }
 
 // Refusal 19.

@@ -28,6 +28,6 @@ pub const NO_VALUE: u32 = 13;
 
 pub const TOO_DEEP: u32 = 14;
 
-pub const LINE_SPOILED: u32 = 18;
+pub const LINE_UNPRINTABLE: u32 = 18;
 
 pub const NO_SUCH_EDITION: u32 = 19;

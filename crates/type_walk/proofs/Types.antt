@@ -19,7 +19,7 @@ use Rattle.tokens.specs.declared.Token.{Token as Answer}
 use Rattle.tokens.specs.declared.Lexed.the-variants.{Found, Refused as Bad}
 use Rattle.records.specs.Kinds.{RecType, RecRef, RecRefMut, RecFunction}
 use Rattle.records.specs.Tree.{Tree, node, Trees, none, more, behind}
-use Rattle.sources.specs.Source.{Source, opened, Token, start, tok, lex}
+use Rattle.sources.specs.Source.{Source, opened, Lexeme, start, tok, lex}
 use Rattle.answers.specs.Reading.{Ans, ok, no, then, look, when, Reader, listBehind}
 use Rattle.grammar.specs.Names.{chain}
 use Rattle.grammar.specs.Types.{spanned, bracketed, brackets, reference, function, withArguments, named, typeOver, readType}
@@ -45,19 +45,19 @@ use Rattle.chains.proofs.Names.{placed-parted, when-true, when-false, token-ref
 use Rattle.type_walk.specs.code.Types.{bracketsKind, Angled}
 
 -- what is read, by what its parts are
-module _ (item : Reader) (a : Token) where
-  function-of : (xs : Trees) (u : Source) (b : Token) → listBehind item Pipe a ≡ ok xs u → lex u ≡ tok b → function item a ≡ then (item b) (λ x v. ok (spanned RecFunction a v (behind xs x)) v)
+module _ (item : Reader) (a : Lexeme) where
+  function-of : (xs : Trees) (u : Source) (b : Lexeme) → listBehind item Pipe a ≡ ok xs u → lex u ≡ tok b → function item a ≡ then (item b) (λ x v. ok (spanned RecFunction a v (behind xs x)) v)
   unfolding function then look
   function-of xs u b e h = rw (e, h)
 
-  named-of : (c : Tree) (u : Source) (o : Token) → chain a ≡ ok c u → lex u ≡ tok o
+  named-of : (c : Tree) (u : Source) (o : Lexeme) → chain a ≡ ok c u → lex u ≡ tok o
       → named item a ≡ when (eqb (o .kind) Less) (λ _. then (listBehind item Greater o) λ xs v. ok (spanned RecType a v (more c xs)) v) (λ _. ok (spanned RecType a u (more c none)) u)
   unfolding named withArguments then look
   named-of c u o e h = rw (e, h)
 
 -- what is laid down
 module _ (f : ℕ) where
-  bracketed-laid : (a : Token) (u : Source) (ts : Trees) → laid f (bracketed a u ts) ≡ headed f (bracketsKind (countOf ts)) (start a) (u .at) (markIn f (bytes "(") ++ (laidItems f ts ++ markIn f (bytes ")")))
+  bracketed-laid : (a : Lexeme) (u : Source) (ts : Trees) → laid f (bracketed a u ts) ≡ headed f (bracketsKind (countOf ts)) (start a) (u .at) (markIn f (bytes "(") ++ (laidItems f ts ++ markIn f (bytes ")")))
   unfolding bracketed countOf
   bracketed-laid a u none = laid-unit f (start a) (u .at)
   bracketed-laid a u (more x none) = laid-brackets f (start a) (u .at) (more x none)
@@ -326,7 +326,7 @@ module _ (k : ℕ) (x : Bool) (r : x ≡ (eqb k Amp || eqb k AmpMut)) where
   no-reference-mut e = eqb-false k AmpMut (neither-right (eqb k Amp) (eqb k AmpMut) (sym r ∙ e))
 
 -- a type by its first token
-module _ (item : Reader) (t : Token) where
+module _ (item : Reader) (t : Lexeme) where
   over-brackets : t .kind ≡ LParen → typeOver item t ≡ brackets item t
   unfolding typeOver
   over-brackets e = when-true (eqb (t .kind) LParen) _ _ (eq-eqb _ _ e)

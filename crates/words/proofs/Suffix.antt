@@ -11,7 +11,7 @@ use lib.Dec.{eqb, leb}
 use lib.ListN.{length, getD, take, drop, drop-of-length-le, List·getD-eq-default}
 use lib.Seq.{drop-cons, getD-drop}
 use Rattle.classes.specs.Bytes.{bytes, begins}
-use Rattle.words.specs.Search.{frontLen, later, suffixes1, suffixes2, suffixesOf, suffixLen}
+use Rattle.words.specs.Search.{frontLen, isEdition2, suffixes1, suffixes2, suffixesOf, suffixLen}
 use Rattle.words.specs.code.Rows.{valueIf, addedSuffixes}
 use Rattle.classes.proofs.Bools.{false-true, and-left, and-right, and-true}
 use Rattle.classes.proofs.Cut.{begins-short, begins-cut, begins-uncut}
@@ -19,7 +19,7 @@ use Rattle.classes.proofs.Cut.{begins-short, begins-cut, begins-uncut}
 -- what is so of both lists
 pub both-lists : (P : List (List ℕ) → Type 0) → P suffixes2 → P suffixes1 → (ed : ℕ) → P (suffixesOf ed)
 unfolding suffixesOf
-both-lists P h g ed = go (later ed)
+both-lists P h g ed = go (isEdition2 ed)
   where
     go : (b : Bool) → P (cond b suffixes2 suffixes1)
     go true = h
@@ -265,7 +265,7 @@ module _ (text : List ℕ) (at : ℕ) where
   pub no-suffix : (ed b : ℕ) → b ≡ getD text at 0 → (b ≡ 117 → ⊥) → suffixLen ed (drop at text) ≡ 0
   unfolding suffixLen suffixesOf
   no-suffix ed b e h =
-      other-byte (later ed) (drop at text) (λ q. h (e ∙ ap (λ (i : ℕ). getD text i 0) (sym (add-zero at)) ∙ sym (getD-drop at text 0 0) ∙ q))
+      other-byte (isEdition2 ed) (drop at text) (λ q. h (e ∙ ap (λ (i : ℕ). getD text i 0) (sym (add-zero at)) ∙ sym (getD-drop at text 0 0) ∙ q))
 
   -- `u` stands in the text
   pub u-inside : (a : ℕ) → a ≡ getD text at 0 → a ≡ 117 → at < length text
@@ -288,7 +288,7 @@ module _ (text : List ℕ) (at : ℕ) where
 
       pub suffix-first : (n ≡ 0 → ⊥) → n ≡ suffixLen edition (drop at text)
       unfolding suffixLen suffixesOf
-      suffix-first h = go (later edition)
+      suffix-first h = go (isEdition2 edition)
         where
           go : (v : Bool) → n ≡ frontLen (cond v suffixes2 suffixes1) (drop at text)
           go true = sym (later-kept (drop at text) n (sym first-here) h)

@@ -52,8 +52,8 @@ frontLen [] s = 0
 frontLen (w ∷ ws) s = cond (begins w s) (length w) (frontLen ws s)
 
 -- the edition that knows the later integers; every other number is read as edition 1
-abbrev pub later : ℕ → Bool
-later ed = eqb ed 2
+abbrev pub isEdition2 : ℕ → Bool
+isEdition2 ed = eqb ed 2
 
 -- the types behind a number in each edition
 unfoldable pub suffixes1 : List (List ℕ)
@@ -63,7 +63,7 @@ unfoldable pub suffixes2 : List (List ℕ)
 suffixes2 = bytes "u8" ∷ bytes "u16" ∷ bytes "u32" ∷ bytes "u64" ∷ bytes "u128" ∷ bytes "u256" ∷ []
 
 unfoldable pub suffixesOf : ℕ → List (List ℕ)
-suffixesOf ed = cond (later ed) suffixes2 suffixes1
+suffixesOf ed = cond (isEdition2 ed) suffixes2 suffixes1
 
 unfoldable pub suffixLen : ℕ → List ℕ → ℕ
 suffixLen ed s = frontLen (suffixesOf ed) s

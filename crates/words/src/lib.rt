@@ -191,7 +191,7 @@ const MARKS: [[u8; 7]; 37] = [
     [b'@', 0, 0, 0, 0, 1, AT_SIGN],
 ];
 // The edition that knows the later integers; every other number is read as edition 1.
-pub const LATER: u64 = 2;
+pub const EDITION_2: u64 = 2;
 
 // Each search below has one loop of fixed bounds and a small body over a copy of its table: the compiler
 // unrolls such a loop, and the table becomes constants in the code.
@@ -521,7 +521,7 @@ pub fn suffix_len(edition: u64, text: &[u8], at: usize) -> usize
     if n != 0 {
         return n as usize;
     }
-    if edition == LATER {
+    if edition == EDITION_2 {
         return added_suffix(b, c, d) as usize;
     }
     0

@@ -138,7 +138,7 @@ pub fn read<'t, 'b>(
 ///
 /// let byte = Span { start: 3, end: 4 };
 /// let refused = display(Kind::Value, Edition::One, b"b\"a\rb\"", 0, &mut buffer);
-/// assert_eq!(refused, Err(Refusal::LineSpoiled { byte }));
+/// assert_eq!(refused, Err(Refusal::LineUnprintable { byte }));
 /// # Ok::<(), Refusal>(())
 /// ```
 #[inline]

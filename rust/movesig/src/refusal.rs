@@ -71,7 +71,7 @@ pub enum Refusal {
     },
     /// 18: a string that was to be displayed holds a byte below 32 or the byte 127, which a line
     /// cannot hold. The item can be read.
-    LineSpoiled {
+    LineUnprintable {
         /// The first such byte.
         byte: Span,
     },
@@ -119,7 +119,7 @@ impl Refusal {
             },
             13 => NoValue { token: place },
             14 => TooDeep { token: place },
-            18 => LineSpoiled { byte: place },
+            18 => LineUnprintable { byte: place },
             19 => NoSuchEdition,
             number => Other {
                 number,
@@ -147,7 +147,7 @@ impl Refusal {
             ListNotClosed { .. } => 12,
             NoValue { .. } => 13,
             TooDeep { .. } => 14,
-            LineSpoiled { .. } => 18,
+            LineUnprintable { .. } => 18,
             NoSuchEdition => 19,
             Other { number, .. } => number,
         }
@@ -161,7 +161,7 @@ impl Refusal {
             NoToken { at } | CommaForItem { at } | ListNotClosed { at, .. } => at,
             CommentNotClosed { opener } => opener,
             HexStringNotClosed { rest } | ByteStringNotClosed { rest } => rest,
-            StringNotAscii { byte } | LineSpoiled { byte } => byte,
+            StringNotAscii { byte } | LineUnprintable { byte } => byte,
             UnexpectedToken { token, .. } | NoValue { token } | TooDeep { token } => token,
             Other { place, .. } => place,
         }
@@ -206,7 +206,7 @@ impl Refusal {
             ListNotClosed { .. } => "list neither continued nor closed",
             NoValue { .. } => "no value here",
             TooDeep { .. } => "more than 64 levels",
-            LineSpoiled { .. } => "the line would hold a control byte",
+            LineUnprintable { .. } => "the line would hold a control byte",
             NoSuchEdition => "no such edition",
             Other { .. } => "a refusal that this version does not know",
         }

@@ -541,7 +541,7 @@ fn long_lines() {
 
 /// A string that has no line: the byte is shown, and what shows the tree is said.
 #[test]
-fn a_spoiled_line() {
+fn an_unprintable_byte() {
     let advice = "note: `movesig read` shows the tree\n";
     for (text, shown) in [
         (

@@ -112,7 +112,7 @@ fn every_refusal() {
 
 /// A string that a line cannot hold is refused a line, with any room, and can be read.
 #[test]
-fn spoiled_lines() {
+fn unprintable_lines() {
     let mut buffer = vec![0; LONGEST];
     for (text, byte) in [
         (&b"b\"a\rb\""[..], 3),
@@ -120,7 +120,7 @@ fn spoiled_lines() {
         (b"b\"\\\t\"", 3),
         (b" b\"\x1b[2K\x1b\"", 3),
     ] {
-        let refusal = Refusal::LineSpoiled {
+        let refusal = Refusal::LineUnprintable {
             byte: span(byte, byte + 1),
         };
         for room in [0, 1, text.len(), LONGEST] {

@@ -11,7 +11,7 @@ use Rattle.words.specs.Kinds.{Identifier, Colon, ColonColon, Less, Greater, LBr
 use Rattle.tokens.specs.declared.Token.{Token}
 use Rattle.records.specs.Kinds.{RecName, RecVariable}
 use Rattle.records.specs.Tree.{Tree, Trees}
-use Rattle.sources.specs.Source.{opened, Token as Lexeme, after, lex}
+use Rattle.sources.specs.Source.{opened, Lexeme, after, lex}
 use Rattle.answers.specs.Reading.{Ans, ok, look, when, leafOf, Reader, listBehind}
 use Rattle.grammar.specs.Types.{readType}
 use Rattle.grammar.specs.Binds.{readField, readBind}

@@ -18,7 +18,7 @@ use Rattle.tokens.specs.declared.Lexed.{Lexed}
 use Rattle.tokens.specs.declared.Lexed.the-variants.{Found, Refused as Bad}
 use Rattle.records.specs.Tree.{Tree}
 use Rattle.records.specs.Stored.{records}
-use Rattle.sources.specs.Source.{Token, tokenOf}
+use Rattle.sources.specs.Source.{Lexeme, tokenOf}
 use Rattle.answers.specs.Reading.{Ans}
 use Rattle.grammar.specs.Items.{Item, item, refused, readKind, finished, Asked, readItem}
 use Rattle.forms.specs.Forms.{FormNarrow, FormWide, isLine, front, written, narrowLimit}
@@ -82,12 +82,12 @@ pub record Gives (form : Tree → ℕ) (room : ℕ) (i : Item) (l : List ℕ) (r
 -- for an item that has n bytes in the narrow form and is written wide
 abbrev pub Widens : Asked → First → ℕ → First → List ℕ → Answer → List ℕ → Type 0
 Widens q a n next l r m =
-    Fits (q .text) a → (x : Tree) (t : Token) → itemFrom q a ≡ item x t → tokenOf t ≡ next → n ≡ cap (8 * records x) → Gives (λ _. FormWide) (length l) (item x t) l r m
+    Fits (q .text) a → (x : Tree) (t : Lexeme) → itemFrom q a ≡ item x t → tokenOf t ≡ next → n ≡ cap (8 * records x) → Gives (λ _. FormWide) (length l) (item x t) l r m
 
 -- for an item that has n bytes in the form in which it is laid down first
 abbrev pub Longer : ℕ → Asked → First → ℕ → First → List ℕ → Answer → List ℕ → Type 0
 Longer form q a n next l r m =
-    Fits (q .text) a → (x : Tree) (t : Token) → itemFrom q a ≡ item x t → tokenOf t ≡ next → n ≡ cap (length (written form x))
+    Fits (q .text) a → (x : Tree) (t : Lexeme) → itemFrom q a ≡ item x t → tokenOf t ≡ next → n ≡ cap (length (written form x))
     → Gives (lastForm form) (roomIn form (length l)) (item x t) l r m
 
 -- for the item of a first token, where that fits; and for the item at an offset, where the token is the one found there
@@ -114,16 +114,16 @@ Calls form q first l r m = first ≡ firstOf q → Gives (lastForm form) (roomIn
 abbrev pub shownEnd : List ℕ → First → ℕ
 shownEnd text a = runEnd shows (take (a .end) text) (a .start)
 
--- where the first byte stands that spoils the line of a value, and of an item of any kind, by its first token; or the text's length
-abbrev pub spoiledValue : List ℕ → First → ℕ
-spoiledValue text a = cond (eqb (a .kind) ByteStringValue && ltb (shownEnd text a) (a .end)) (shownEnd text a) (length text)
+-- where the first unprintable byte of a value stands, and of an item of any kind, by its first token; or the text's length
+abbrev pub unprintableValue : List ℕ → First → ℕ
+unprintableValue text a = cond (eqb (a .kind) ByteStringValue && ltb (shownEnd text a) (a .end)) (shownEnd text a) (length text)
 
-unfoldable pub spoiledFirst : List ℕ → Lexed → ℕ
-spoiledFirst text (Found a) = spoiledValue text a
-spoiledFirst text (Bad r) = length text
+unfoldable pub unprintableFirst : List ℕ → Lexed → ℕ
+unprintableFirst text (Found a) = unprintableValue text a
+unprintableFirst text (Bad r) = length text
 
-abbrev pub spoiledAt : ℕ → List ℕ → Lexed → ℕ
-spoiledAt kind text first = cond (eqb kind 2) (spoiledFirst text first) (length text)
+abbrev pub unprintableAt : ℕ → List ℕ → Lexed → ℕ
+unprintableAt kind text first = cond (eqb kind 2) (unprintableFirst text first) (length text)
 
 -- q in place of an item, and of what a call without enough room answers for one
 unfoldable pub inPlace : Refusal → Item → Item
@@ -133,8 +133,8 @@ inPlace q (refused r) = refused r
 abbrev pub replacedBy : Refusal → Refusal → Displayed
 replacedBy q r = Undisplayed (cond (eqb (r .number) NoRoom) q r)
 
-abbrev pub SpoiledFrom : Asked → Lexed → Refusal → Displayed → Type 0
-SpoiledFrom q first r d = first ≡ firstOf q → d ≡ displayed (inPlace r (readItem q))
+abbrev pub UnprintableFrom : Asked → Lexed → Refusal → Displayed → Type 0
+UnprintableFrom q first r d = first ≡ firstOf q → d ≡ displayed (inPlace r (readItem q))
 
 -- the display with the token that is found at the offset
 pub record Displays (q : Asked) (first : Lexed) (l : List ℕ) (r : Displayed) (m : List ℕ) : Type 0 where

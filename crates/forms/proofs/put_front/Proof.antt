@@ -1,6 +1,6 @@
 use borrow.Author.Tests.{eq-eqb, ne-eqb}
 use mathlib.Core.Path.{refl}
-use Rattle.records.specs.Stored.{number}
+use Rattle.records.specs.Stored.{littleEndian}
 use Rattle.forms.specs.Forms.{front}
 use borrow.Author.Needs.{needs}
 use Rattle.forms.proofs.put_front.Statement.{statement}
@@ -15,7 +15,7 @@ unfolding front
 returns-2 c = rw (eq-eqb _ _ (c .before .if2 .taken)) (record { ends = c .move-by2 .ensures; holds = refl })
 
 returns-3 : tie.Need-returns-3
-unfolding front number
+unfolding front littleEndian
 returns-3 c = rw (ne-eqb _ _ (c .before .before .before .before .before .before .if1 .left), ne-eqb _ _ (c .before .before .before .before .before .if2 .left)) (record { ends = c .move-by3 .ensures; holds = c .before .before .before .put-four .ensures })
 
 pub put-front-spec : {M : Type 1} → statement M

@@ -10,7 +10,7 @@ use Rattle.tokens.specs.declared.Token.{Token as Answer}
 use Rattle.tokens.specs.declared.Lexed.{Lexed}
 use Rattle.tokens.specs.declared.Lexed.the-variants.{Found, Refused as Bad}
 use Rattle.records.specs.Tree.{Tree}
-use Rattle.sources.specs.Source.{opened, Token, bad, lex}
+use Rattle.sources.specs.Source.{opened, Lexeme, bad, lex}
 use Rattle.answers.specs.Reading.{Ans, ok, no}
 use Rattle.forms.specs.Forms.{laid}
 use Rattle.forms.specs.code.Spots.{Placed}
@@ -24,7 +24,7 @@ use Rattle.parts.specs.declared.Parsed.the-variants.{Read, Refused}
 abbrev pub Fits : List ℕ → Answer → Type 0
 Fits text a = (length text ≤ textLimit) × (a .start + min 1 (a .kind) ≤ a .end) × (a .end ≤ length text)
 
-abbrev pub held : ℕ → List ℕ → Answer → Token
+abbrev pub held : ℕ → List ℕ → Answer → Lexeme
 held ed text a = record { kind = a .kind; here = opened ed text (a .start); len = a .end - a .start }
 
 abbrev pub refusedToken : ℕ → Answer → Parsed

@@ -7,9 +7,9 @@ use lib.ListN.{length, drop}
 use Rattle.classes.specs.Class.{inClass}
 use Rattle.words.specs.Kinds.{NumValue, NumTypedValue}
 use Rattle.tokens.specs.Answers.{refusal, token}
-use Rattle.words.specs.Search.{later}
+use Rattle.words.specs.Search.{isEdition2}
 use Rattle.tokens.specs.Refusals.{TextTooLong, StartPastEnd, NoSuchEdition}
-use Rattle.tokens.specs.Token.{Front, front, fault, digitsLen}
+use Rattle.tokens.specs.Token.{Front, sized, fault, digitsLen}
 use Rattle.tokens.specs.Calls.{textLimit}
 use Rattle.tokens.specs.declared.Advanced.{Advanced}
 use Rattle.tokens.specs.declared.Lexed.{Lexed}
@@ -17,10 +17,10 @@ use Rattle.tokens.specs.declared.Lexed.the-variants.{Found, Refused}
 
 -- the numbers of the classes that decimal digits and hex digits go on with
 unfoldable pub digitsClass : ℕ → ℕ
-digitsClass ed = cond (later ed) 6 1
+digitsClass ed = cond (isEdition2 ed) 6 1
 
 unfoldable pub hexClass : ℕ → ℕ
-hexClass ed = cond (later ed) 7 2
+hexClass ed = cond (isEdition2 ed) 7 2
 
 -- what digits of the class k begin with: every byte of it but `_`
 unfoldable pub begun : ℕ → ℕ → Bool
@@ -32,7 +32,7 @@ digitsEnd f g text at = at + digitsLen f g (drop at text)
 
 -- what is found at a place
 unfoldable pub lexedAt : ℕ → Front → Lexed
-lexedAt p (front k n) = Found (token k p (p + n))
+lexedAt p (sized k n) = Found (token k p (p + n))
 lexedAt p (fault m i j) = Refused (refusal m (p + i) (p + j))
 
 -- the number at p whose digits end at e, with a type of v bytes

@@ -275,7 +275,7 @@ fn tree_is_well(tree: &[u8], text: &[u8]) -> bool {
 fn with_a_buffer(seed: u64, ask: fn(u64, u64, &[u8], usize, &mut [u8]) -> Answer, tree: bool) {
     let mut random = Random(seed);
     let mut whole = vec![0; MOST_ROOM + 2 * BESIDE];
-    let (mut too_long, mut wide, mut spoiled) = (0, 0, 0);
+    let (mut too_long, mut wide, mut unprintable) = (0, 0, 0);
     for _ in 0..ROUNDS {
         let text = text_of(&mut random);
         let at = offset_of(&mut random, text.len());
@@ -332,13 +332,13 @@ fn with_a_buffer(seed: u64, ask: fn(u64, u64, &[u8], usize, &mut [u8]) -> Answer
             if number == 18 {
                 let [start, end, ..] = values;
                 assert!(end == start + 1 && (text[start] < 32 || text[start] == 127));
-                spoiled += 1;
+                unprintable += 1;
             }
         }
     }
     assert!(too_long > 0);
     assert_eq!(wide > 0, tree, "{wide} wide trees");
-    assert_eq!(spoiled > 0, !tree, "{spoiled} displays refused with 18");
+    assert_eq!(unprintable > 0, !tree, "{unprintable} displays refused with 18");
 }
 
 #[test]

@@ -13,7 +13,7 @@ pub struct Note {
 /// What is noted beside a refusal of the item at this offset.
 pub fn refused(edition: Edition, text: &[u8], at: usize, refusal: &Refusal) -> Vec<Note> {
     let mut notes: Vec<_> = offset(edition, text, at).into_iter().collect();
-    if let Refusal::LineSpoiled { byte } = refusal {
+    if let Refusal::LineUnprintable { byte } = refusal {
         notes.push(Note {
             at: byte.start,
             words: "`movesig read` shows the tree".to_string(),

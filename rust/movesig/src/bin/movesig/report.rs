@@ -88,7 +88,7 @@ impl Report<'_> {
                 second_label(refusal),
             ));
         }
-        if let Refusal::LineSpoiled { .. } = refusal {
+        if let Refusal::LineUnprintable { .. } = refusal {
             places[0].show_tab();
         }
         let numbers = places.iter().map(|place| place.line.number);
@@ -186,7 +186,7 @@ fn label(text: &[u8], refusal: &Refusal, due: &str) -> String {
         Refusal::NoToken { .. } if text[start..].starts_with(b"\xef\xbb\xbf") => {
             "a byte order mark: Move has none".to_string()
         }
-        Refusal::NoToken { .. } | Refusal::StringNotAscii { .. } | Refusal::LineSpoiled { .. } => {
+        Refusal::NoToken { .. } | Refusal::StringNotAscii { .. } | Refusal::LineUnprintable { .. } => {
             let byte = text.get(start).copied().unwrap_or(0);
             format!("byte 0x{byte:02x}")
         }

@@ -1,8 +1,8 @@
 use borrow.Author.Needs.{needs}
 use borrow.Author.Tests.{ne-eqb}
-use Rattle.calls.proofs.Spoiling.{value-at, value-none}
-use Rattle.calls.proofs.spoiled_value.Statement.{statement}
-use Rattle.calls.proofs.spoiled_value.Tie as tie
+use Rattle.calls.proofs.Unprintables.{value-at, value-none}
+use Rattle.calls.proofs.unprintable_value.Statement.{statement}
+use Rattle.calls.proofs.unprintable_value.Tie as tie
 
 returns : tie.Need-returns
 returns c = rw (ne-eqb _ _ (c .if1 .taken))
@@ -13,5 +13,5 @@ returns-2 c = value-at _ _ _ (c .before .before .before .if1 .left) (c .before .
 returns-3 : tie.Need-returns-3
 returns-3 c = value-none _ _ _ (c .before .before .before .if1 .left) (c .before .before .shown-end .ensures) (c .if2 .left)
 
-pub spoiled-value-spec : {M : Type 1} → statement M
-spoiled-value-spec = tie.close (tie.spec returns (λ c κs. search needs) returns-2 returns-3)
+pub unprintable-value-spec : {M : Type 1} → statement M
+unprintable-value-spec = tie.close (tie.spec returns (λ c κs. search needs) returns-2 returns-3)

@@ -1,10 +1,10 @@
--- A line and the bytes that spoil it. Where each leaf's word shows, so does the line, whatever the tree; of a string below 128 a byte
--- spoils the line exactly where it does not show; and whether a tree is spoiled is told by its build.
+-- Lines and unprintable bytes. Where each leaf's word shows, so does the line, whatever the tree; of a string below 128 a byte
+-- is unprintable exactly where it does not show; and whether a tree has an unprintable byte is told by its build.
 use mathlib.Core.Path.{_≡_, refl, ap, sym, _∙_, subst}
 use mathlib.Core.Bool.{Bool, true, false, cond, not, _&&_, _||_}
 use mathlib.Core.List.{List, [], _∷_, _++_}
 use mathlib.Core.Logic.{_↔_}
-use mathlib.Core.Option.{Option, some, none as clean}
+use Rattle.forms.specs.Unprintable.{FirstByte, clean, foundAt}
 use Prim.Native.Nat.{ℕ, suc, _+_, _<_, _≤_}
 use native.Mathlib.Omega.{arith}
 use borrow.Author.Tests.{leb-true, ltb-true, ltb-false, le-ltb, lt-ltb, le-leb, eqb-false, ne-eqb}
@@ -18,7 +18,7 @@ use Rattle.classes.proofs.All.{all-join}
 use Rattle.records.specs.Kinds.{RecTwoPart, RecThreePart, RecPair, RecType, RecRef, RecRefMut, RecFunction, RecUnit, RecTuple, RecBrackets, RecStruct, RecStructTyped, RecField, RecBindList, RecLambdaBindList, RecAddressValue}
 use Rattle.records.specs.Tree.{Tree, leaf, node, Trees, none, more, Build, spelled, made, Builds, bnone, bmore, build, builds}
 use Rattle.forms.specs.Line.{Piece, plain, others, commas, bars, angles, inBrackets, braces, first, later, initial, final, select, isField, isType, shape, line, pieces, shown}
-use Rattle.forms.specs.Spoiled.{spoils, isString, spoiledWord, firstOf, spoiled, spoiledAll}
+use Rattle.forms.specs.Unprintable.{isUnprintable, isString, unprintableIn, firstOf, unprintable, unprintableAll}
 
 -- bytes that show; children, and lists of lines, whose bytes do
 abbrev Say : List ℕ → Type 0
@@ -159,16 +159,16 @@ pub line-shows : (t : Tree) → WordsShow t → allOf shows (shown t) ≡ true
 unfolding shown
 line-shows t h = line-says t h
 
--- a byte below 128 spoils a line exactly where it does not show
-pub shows-clean : (a : ℕ) → shows a ≡ true → spoils a ≡ false
-unfolding shows inRange spoils
+-- a byte below 128 is unprintable exactly where it does not show
+pub shows-clean : (a : ℕ) → shows a ≡ true → isUnprintable a ≡ false
+unfolding shows inRange isUnprintable
 shows-clean a h =
     let l : 32 ≤ a = leb-true 32 a (and-left (leb 32 a) (leb a 126) h) in
     let r : a ≤ 126 = leb-true a 126 (and-right (leb 32 a) (leb a 126) h) in
     rw (le-ltb a 32 l, ne-eqb a 127 (λ e. absurd (omega arith)))
 
-pub clean-shows : (a : ℕ) → isAscii a ≡ true → spoils a ≡ false → shows a ≡ true
-unfolding isAscii spoils shows inRange
+pub clean-shows : (a : ℕ) → isAscii a ≡ true → isUnprintable a ≡ false → shows a ≡ true
+unfolding isAscii isUnprintable shows inRange
 clean-shows a g h =
     let l : 32 ≤ a = ltb-false a 32 (or-left (ltb a 32) (eqb a 127) h) in
     let m : a < 128 = ltb-true a 128 g in
@@ -177,36 +177,36 @@ clean-shows a g h =
     rw (le-leb 32 a l, le-leb a 126 r)
 
 -- the same of a string's word
-pub word-clean : (p : ℕ) (w : List ℕ) → allOf shows w ≡ true → spoiledWord p w ≡ clean
-unfolding spoiledWord allOf
+pub word-clean : (p : ℕ) (w : List ℕ) → allOf shows w ≡ true → unprintableIn p w ≡ clean
+unfolding unprintableIn allOf
 word-clean p [] h = refl
 word-clean p (a ∷ w) h = rw (shows-clean a (and-left (shows a) (allOf shows w) h)) (word-clean (suc p) w (and-right (shows a) (allOf shows w) h))
 
-some-clean : (A : Type 0) (p : ℕ) → some p ≡ clean → A
+some-clean : (A : Type 0) (p : ℕ) → foundAt p ≡ clean → A
 some-clean A p h = let z : _≡_ {A = ℕ} 0 1 = cc in absurd (omega arith)
 
-pub clean-word : (p : ℕ) (w : List ℕ) → allOf isAscii w ≡ true → spoiledWord p w ≡ clean → allOf shows w ≡ true
-unfolding spoiledWord allOf
+pub clean-word : (p : ℕ) (w : List ℕ) → allOf isAscii w ≡ true → unprintableIn p w ≡ clean → allOf shows w ≡ true
+unfolding unprintableIn allOf
 clean-word p [] g h = refl
-clean-word p (a ∷ w) g h = go (spoils a) refl h (clean-word (suc p) w (and-right (isAscii a) (allOf isAscii w) g))
+clean-word p (a ∷ w) g h = go (isUnprintable a) refl h (clean-word (suc p) w (and-right (isAscii a) (allOf isAscii w) g))
   where
-    go : (b : Bool) → spoils a ≡ b → cond b (some p) (spoiledWord (suc p) w) ≡ clean → (spoiledWord (suc p) w ≡ clean → allOf shows w ≡ true) → shows a && allOf shows w ≡ true
+    go : (b : Bool) → isUnprintable a ≡ b → cond b (foundAt p) (unprintableIn (suc p) w) ≡ clean → (unprintableIn (suc p) w ≡ clean → allOf shows w ≡ true) → shows a && allOf shows w ≡ true
     go true e i r = some-clean _ p i
     go false e i r = rw (clean-shows a (and-left (isAscii a) (allOf isAscii w) g) e) (r i)
 
--- the run of bytes that show ends at the first that spoils the line, or behind the last
-pub word-run : (p : ℕ) (w : List ℕ) → allOf isAscii w ≡ true → spoiledWord p w ≡ cond (ltb (runLen shows w) (length w)) (some (p + runLen shows w)) clean
-unfolding spoiledWord allOf runLen
+-- the run of bytes that show ends at the first unprintable one, or behind the last
+pub word-run : (p : ℕ) (w : List ℕ) → allOf isAscii w ≡ true → unprintableIn p w ≡ cond (ltb (runLen shows w) (length w)) (foundAt (p + runLen shows w)) clean
+unfolding unprintableIn allOf runLen
 word-run p [] g = refl
-word-run p (a ∷ w) g = go (shows a) refl (spoils a) refl (word-run (suc p) w (and-right (isAscii a) (allOf isAscii w) g))
+word-run p (a ∷ w) g = go (shows a) refl (isUnprintable a) refl (word-run (suc p) w (and-right (isAscii a) (allOf isAscii w) g))
   where
-    go : (b : Bool) → shows a ≡ b → (c : Bool) → spoils a ≡ c → spoiledWord (suc p) w ≡ cond (ltb (runLen shows w) (length w)) (some (suc p + runLen shows w)) clean
-        → cond c (some p) (spoiledWord (suc p) w) ≡ cond (ltb (cond b (suc (runLen shows w)) 0) (suc (length w))) (some (p + cond b (suc (runLen shows w)) 0)) clean
+    go : (b : Bool) → shows a ≡ b → (c : Bool) → isUnprintable a ≡ c → unprintableIn (suc p) w ≡ cond (ltb (runLen shows w) (length w)) (foundAt (suc p + runLen shows w)) clean
+        → cond c (foundAt p) (unprintableIn (suc p) w) ≡ cond (ltb (cond b (suc (runLen shows w)) 0) (suc (length w))) (foundAt (p + cond b (suc (runLen shows w)) 0)) clean
     go true e true f i = false-true _ (sym (shows-clean a e) ∙ f)
     go true e false f i = step (ltb (runLen shows w) (length w)) refl i
       where
-        step : (d : Bool) → ltb (runLen shows w) (length w) ≡ d → spoiledWord (suc p) w ≡ cond (ltb (runLen shows w) (length w)) (some (suc p + runLen shows w)) clean
-            → spoiledWord (suc p) w ≡ cond (ltb (suc (runLen shows w)) (suc (length w))) (some (p + suc (runLen shows w))) clean
+        step : (d : Bool) → ltb (runLen shows w) (length w) ≡ d → unprintableIn (suc p) w ≡ cond (ltb (runLen shows w) (length w)) (foundAt (suc p + runLen shows w)) clean
+            → unprintableIn (suc p) w ≡ cond (ltb (suc (runLen shows w)) (suc (length w))) (foundAt (p + suc (runLen shows w))) clean
         step true d j =
             let m : suc (runLen shows w) < suc (length w) = let k = ltb-true (runLen shows w) (length w) d in omega arith in
             let n : suc p + runLen shows w ≡ p + suc (runLen shows w) = omega arith in
@@ -219,23 +219,23 @@ word-run p (a ∷ w) g = go (shows a) refl (spoils a) refl (word-run (suc p) w (
 
 -- trees whose words show are clean
 mutual
-  unfolding WordsShow AllWordsShow spoiled spoiledAll firstOf
+  unfolding WordsShow AllWordsShow unprintable unprintableAll firstOf
 
-  pub words-clean : (t : Tree) → WordsShow t → spoiled t ≡ clean
+  pub words-clean : (t : Tree) → WordsShow t → unprintable t ≡ clean
   words-clean (leaf k s e w) h = go (isString k)
     where
-      go : (b : Bool) → cond b (spoiledWord s w) clean ≡ clean
+      go : (b : Bool) → cond b (unprintableIn s w) clean ≡ clean
       go true = word-clean s w h
       go false = refl
   words-clean (node k s e ts) h = all-clean ts h
 
-  all-clean : (ts : Trees) → AllWordsShow ts → spoiledAll ts ≡ clean
+  all-clean : (ts : Trees) → AllWordsShow ts → unprintableAll ts ≡ clean
   all-clean none h = refl
-  all-clean (more t ts) h = ap (λ (q : Option ℕ). firstOf q (spoiledAll ts)) (words-clean t (h .0)) ∙ all-clean ts (h .1)
+  all-clean (more t ts) h = ap (λ (q : FirstByte). firstOf q (unprintableAll ts)) (words-clean t (h .0)) ∙ all-clean ts (h .1)
 
--- whether a tree is spoiled, by its build
+-- whether a tree has an unprintable byte, by its build
 abbrev keeps : ℕ → Bool
-keeps x = not (spoils x)
+keeps x = not (isUnprintable x)
 
 unfoldable mutual
   clear : Build → Bool
@@ -246,46 +246,46 @@ unfoldable mutual
   clearAll bnone = true
   clearAll (bmore b bs) = clear b && clearAll bs
 
-abbrev isClean : Option ℕ → Bool
+abbrev isClean : FirstByte → Bool
 isClean clean = true
-isClean (some p) = false
+isClean (foundAt p) = false
 
-word-clear : (p : ℕ) (w : List ℕ) → isClean (spoiledWord p w) ≡ allOf keeps w
-unfolding spoiledWord allOf
+word-clear : (p : ℕ) (w : List ℕ) → isClean (unprintableIn p w) ≡ allOf keeps w
+unfolding unprintableIn allOf
 word-clear p [] = refl
-word-clear p (a ∷ w) = go (spoils a) (word-clear (suc p) w)
+word-clear p (a ∷ w) = go (isUnprintable a) (word-clear (suc p) w)
   where
-    go : (b : Bool) → isClean (spoiledWord (suc p) w) ≡ allOf keeps w → isClean (cond b (some p) (spoiledWord (suc p) w)) ≡ not b && allOf keeps w
+    go : (b : Bool) → isClean (unprintableIn (suc p) w) ≡ allOf keeps w → isClean (cond b (foundAt p) (unprintableIn (suc p) w)) ≡ not b && allOf keeps w
     go true i = refl
     go false i = i
 
-first-clear : (p q : Option ℕ) → isClean (firstOf p q) ≡ isClean p && isClean q
+first-clear : (p q : FirstByte) → isClean (firstOf p q) ≡ isClean p && isClean q
 unfolding firstOf
 first-clear clean q = refl
-first-clear (some p) q = refl
+first-clear (foundAt p) q = refl
 
 mutual
-  unfolding build builds spoiled spoiledAll clear clearAll
+  unfolding build builds unprintable unprintableAll clear clearAll
 
-  tree-clear : (t : Tree) → isClean (spoiled t) ≡ clear (build t)
+  tree-clear : (t : Tree) → isClean (unprintable t) ≡ clear (build t)
   tree-clear (leaf k s e w) = go (isString k)
     where
-      go : (b : Bool) → isClean (cond b (spoiledWord s w) clean) ≡ cond b (allOf keeps w) true
+      go : (b : Bool) → isClean (cond b (unprintableIn s w) clean) ≡ cond b (allOf keeps w) true
       go true = word-clear s w
       go false = refl
   tree-clear (node k s e ts) = trees-clear ts
 
-  trees-clear : (ts : Trees) → isClean (spoiledAll ts) ≡ clearAll (builds ts)
+  trees-clear : (ts : Trees) → isClean (unprintableAll ts) ≡ clearAll (builds ts)
   trees-clear none = refl
-  trees-clear (more t ts) = first-clear (spoiled t) (spoiledAll ts) ∙ rw (tree-clear t, trees-clear ts)
+  trees-clear (more t ts) = first-clear (unprintable t) (unprintableAll ts) ∙ rw (tree-clear t, trees-clear ts)
 
-is-clean : (p : Option ℕ) → isClean p ≡ true → p ≡ clean
+is-clean : (p : FirstByte) → isClean p ≡ true → p ≡ clean
 is-clean clean h = refl
-is-clean (some p) h = false-true _ h
+is-clean (foundAt p) h = false-true _ h
 
--- trees of one build are both spoiled, or neither is
-pub build-spoiled : (t u : Tree) → build t ≡ build u → (spoiled t ≡ clean) ↔ (spoiled u ≡ clean)
-build-spoiled t u e = (over t u e, over u t (sym e))
+-- of two trees of one build both have an unprintable byte, or neither has
+pub build-unprintable : (t u : Tree) → build t ≡ build u → (unprintable t ≡ clean) ↔ (unprintable u ≡ clean)
+build-unprintable t u e = (over t u e, over u t (sym e))
   where
-    over : (t u : Tree) → build t ≡ build u → spoiled t ≡ clean → spoiled u ≡ clean
-    over t u e h = is-clean (spoiled u) (tree-clear u ∙ ap clear (sym e) ∙ sym (tree-clear t) ∙ ap isClean h)
+    over : (t u : Tree) → build t ≡ build u → unprintable t ≡ clean → unprintable u ≡ clean
+    over t u e h = is-clean (unprintable u) (tree-clear u ∙ ap clear (sym e) ∙ sym (tree-clear t) ∙ ap isClean h)
