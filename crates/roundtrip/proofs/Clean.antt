@@ -29,6 +29,7 @@ use Rattle.frames.proofs.Faithful.{readRefusals, item-refusals}
 use Rattle.frames.proofs.Words.{item-readable, clean-words, shown-words}
 use Rattle.calls.specs.Calls.{lineLimit, roomed, filled, unlessUnprintable, ifPrintable, read, asLine, display, displayBuffer}
 use Rattle.calls.proofs.Room.{roomed-fits}
+use Rattle.roundtrip.specs.Theorems.{LineBytes, Exactly, UnprintableAt, UnprintableExactly}
 use Rattle.roundtrip.proofs.Tokens.{own}
 use Rattle.roundtrip.proofs.Answers.{Gives, gives}
 use Rattle.roundtrip.proofs.Lists.{Same}
@@ -65,9 +66,9 @@ clean-line q room t n e =
     item-shows q t n (d .0) (d .1)
 
 -- so are all bytes that a display changes
-pub clean-buffer : (q : Asked) (out : List ℕ) (k : ℕ) → (getD (displayBuffer q out) k 0 ≡ getD out k 0 → ⊥) → shows (getD (displayBuffer q out) k 0) ≡ true
+pub line-bytes : LineBytes
 unfolding displayBuffer filled written front laid
-clean-buffer q out k h = go (display q (length out)) refl h
+line-bytes q out k h = go (display q (length out)) refl h
   where
     go : (i : Item) → display q (length out) ≡ i → (getD (filled asLine i out) k 0 ≡ getD out k 0 → ⊥) → shows (getD (filled asLine i out) k 0) ≡ true
     go (refused r) e g = absurd (g refl)
@@ -86,23 +87,15 @@ clean-buffer q out k h = go (display q (length out)) refl h
 shows-again : (q : Asked) (t : Tree) (a : Ans Tree) → reading (ofText (shown t) q) ≡ a → Gives (own (q .edition)) (Same t) [] a → allOf shows (shown t) ≡ true → unprintable t ≡ clean
 shows-again q t a e (gives y u b g) h = build-unprintable y t b .0 (words-clean y (shown-words (q .kind) (opened (q .edition) (shown t) 0) u y h e))
 
-pub exactly : (q : Asked) (t : Tree) (n : Lexeme) → readItem q ≡ item t n → (unprintable t ≡ clean) ↔ (allOf shows (shown t) ≡ true)
+pub exactly : Exactly
 exactly q t n e = (item-shows q t n e, shows-again q t (reading (ofText (shown t) q)) refl (item-alone (own (q .edition)) q refl t n e .1))
 
 pub read-exactly : (q : Asked) (room : ℕ) (t : Tree) (n : Lexeme) → read q room ≡ item t n → (unprintable t ≡ clean) ↔ (allOf shows (shown t) ≡ true)
 unfolding read
 read-exactly q room t n e = exactly q t n (roomed-fits (formOf (q .text)) room (readItem q) t n e .0)
 
--- what a display that is refused with 18 at b tells: its read is accepted, room set aside, and b is the first byte of a string of it that
--- is under 32 or 127
-pub record UnprintableAt (q : Asked) (b : ℕ) : Type 0 where
-  pub tree : Tree
-  pub next : Lexeme
-  pub isItem : readItem q ≡ item tree next
-  pub hasUnprintable : unprintable tree ≡ foundAt b
-
 module _ (q : Asked) (room : ℕ) where
-  abbrev pub Refused : ℕ → Type 0
+  abbrev Refused : ℕ → Type 0
   Refused b = (r : Refusal) × (display q room ≡ refused r) × (r .number ≡ LineUnprintable) × (r .place .start ≡ b)
 
   same-refusal : (r r₂ : Refusal) → refused r ≡ refused r₂ → r ≡ r₂
@@ -133,10 +126,10 @@ module _ (q : Asked) (room : ℕ) where
           false-true _ (subst (λ (m : ℕ). among readRefusals m ≡ true) z (item-refusals q s e))
 
   -- its places are (b,b+1) twice
-  pub unprintable-places : (b : ℕ) → UnprintableAt q b → display q room ≡ refused (refusal LineUnprintable b (b + 1))
+  unprintable-places : (b : ℕ) → UnprintableAt q b → display q room ≡ refused (refusal LineUnprintable b (b + 1))
   unfolding display ifPrintable unlessUnprintable roomed
   unprintable-places b d = ap (λ (i : Item). roomed asLine (min room lineLimit) (ifPrintable i)) (d .isItem) ∙ ap (λ (o : FirstByte). roomed asLine (min room lineLimit) (unlessUnprintable o (item (d .tree) (d .next)))) (d .hasUnprintable)
 
-  -- a display is refused with 18 at b exactly where this holds
-  pub unprintable-exactly : (b : ℕ) → Refused b ↔ UnprintableAt q b
-  unprintable-exactly b = (told b, λ d. (refusal LineUnprintable b (b + 1), unprintable-places b d, refl, refl))
+-- a display is refused with 18 exactly there
+pub unprintable-exactly : UnprintableExactly
+unprintable-exactly q room = (unprintable-places q room, λ r e n. told q room (r .place .start) (r, e, n, refl))

@@ -2,14 +2,14 @@
 use mathlib.Core.Path.{_≡_, refl}
 use mathlib.Core.List.{map}
 use Rattle.classes.specs.Bytes.{begins}
-use Rattle.classes.specs.Class.{inRange, isDigit, isHex, isLetter, isName, isAscii, inLine}
+use Rattle.classes.specs.Class.{inRange, isDigit, isHex, isDigitOrUnderscore, isHexOrUnderscore, isLetter, isName, isAscii, inLine}
 use Rattle.classes.specs.Run.{runLen}
 use Rattle.gap.specs.Marks.{isSpace, isBlank, slashes, opens, closes, docLine, docBlock}
 use Rattle.gap.specs.Comments.{inside, lineText, lineComment, blockComment, partAt}
 use Rattle.gap.specs.Gap.{gap}
 use Rattle.gap.specs.LineFeed.{holdsLineFeed, lineFeed}
 use Rattle.words.specs.Tables.{keywords, longMarks, doubleMarks, singleMarks, marks}
-use Rattle.words.specs.Search.{same, lookup, kindOf, longest, markOf, frontLen, suffixes1, suffixesOf, suffixLen}
+use Rattle.words.specs.Search.{same, lookup, kindOf, longest, markOf, frontLen, suffixes1, suffixes2, suffixesOf, suffixLen}
 use Rattle.words.specs.Quote.{endsLine, quoteFrom}
 use Rattle.tokens.specs.Token.{typed, digitsLen, moreDigits, moreHex, decimalLen, decimal, hexTyped, hexLen, hexNumber, numberToken, stringBy, string, opensString, stringRefusal, name, wordToken, mark, findToken, placed, behindGap, scan}
 use Rattle.tokens.specs.Answers.{tokenNumber, tokenValues}
@@ -31,11 +31,11 @@ use Rattle.roundtrip.specs.Examples.{expected, given, examples}
 
 -- the definitions by which a gap and a word are found; a token; its answer; an item; its bytes and answer; and the first unprintable byte
 unfoldable scanning : Unit {0}
-unfolding begins inRange isDigit isHex isLetter isName isAscii inLine runLen isSpace isBlank slashes opens closes docLine docBlock inside lineText lineComment blockComment partAt gap holdsLineFeed lineFeed
+unfolding begins inRange isDigit isHex isDigitOrUnderscore isHexOrUnderscore isLetter isName isAscii inLine runLen isSpace isBlank slashes opens closes docLine docBlock inside lineText lineComment blockComment partAt gap holdsLineFeed lineFeed
 scanning = tt
 
 unfoldable lexing : Unit {0}
-unfolding keywords longMarks doubleMarks singleMarks marks same lookup kindOf longest markOf frontLen suffixes1 suffixesOf suffixLen endsLine quoteFrom typed digitsLen moreDigits moreHex decimalLen decimal hexTyped hexLen hexNumber numberToken stringBy string opensString stringRefusal name wordToken mark findToken placed behindGap scan
+unfolding keywords longMarks doubleMarks singleMarks marks same lookup kindOf longest markOf frontLen suffixes1 suffixes2 suffixesOf suffixLen endsLine quoteFrom typed digitsLen moreDigits moreHex decimalLen decimal hexTyped hexLen hexNumber numberToken stringBy string opensString stringRefusal name wordToken mark findToken placed behindGap scan
 lexing = tt
 
 unfoldable telling : Unit {0}

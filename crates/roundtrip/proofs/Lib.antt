@@ -7,7 +7,10 @@ pub mod Names
 pub mod Types
 pub mod Binds
 pub mod Backs
+pub mod ArgumentTypes
 pub mod Round
 pub mod Theorem
 pub mod Clean
+pub mod Offsets
+pub mod Theorems
 pub mod Examples

@@ -19,7 +19,6 @@ use Rattle.grammar.specs.Binds.{isStruct}
 use Rattle.forms.specs.Line.{line, shown}
 use Rattle.forms.specs.Forms.{FormLine, head, markIn, spelt, laid, headed}
 use Rattle.forms.proofs.Constructs.{laid-leaf, laid-two, laid-three, laid-pair, laid-address}
-use Rattle.roundtrip.specs.Arguments.{Bracketed, BracketedAll}
 use Rattle.roundtrip.proofs.Words.{Stops, extends, differs, Headed, wordy}
 use Rattle.roundtrip.proofs.Tokens.{Met, met-map, Editions, Rest, Near, at-once, Spelled, Good}
 use Rattle.roundtrip.proofs.Answers.{Gives, gives, gives-look, gives-true, gives-false}
@@ -93,15 +92,13 @@ module _ (es : Editions) where
 
   -- the line of c reads back as a name
   pub record Chain (c : Tree) : Type 0 where
-    pub bracketed : Bracketed (build c)
     pub starts : (z : List ℕ) → Stops clashes (shown c ++ z)
     pub reads : (u : Source) (z : List ℕ) → Near es u (shown c ++ z) → Ends es isColons z → Met (Named c z) (lex u)
 
   -- one part
   pub chain-one : (a : Lexeme) → Spelled es Identifier (word a) → Chain (leafOf RecOnePart a)
-  unfolding chain build Bracketed
+  unfolding chain build
   chain-one a n = record {
-    bracketed = tt;
     starts = λ z. rw (leaf-shown RecOnePart a refl) (headed-starts (word a) z (n .0));
     reads = λ u z d e. met-map (λ b i. record {
       first = rw (i .kind);
@@ -112,11 +109,10 @@ module _ (es : Editions) where
 
   -- a name that begins with the parts a and b, by what its line has behind them and by how that is read
   module _ (a b : Lexeme) (f : isFirst a ≡ true) (n : Spelled es (a .kind) (word a)) (m : Spelled es Identifier (word b)) where
-    chain-from : (c : Tree) (r : List ℕ → List ℕ) → Bracketed (build c) → ((z : List ℕ) → shown c ++ z ≡ word a ++ (58 ∷ 58 ∷ (word b ++ r z))) → ((z : List ℕ) → Ends es isColons z → Stops extends (r z))
+    chain-from : (c : Tree) (r : List ℕ → List ℕ) → ((z : List ℕ) → shown c ++ z ≡ word a ++ (58 ∷ 58 ∷ (word b ++ r z))) → ((z : List ℕ) → Ends es isColons z → Stops extends (r z))
         → ((z : List ℕ) → Ends es isColons z → (a₂ b₂ : Lexeme) → build (firstPart a₂) ≡ build (firstPart a) → word b₂ ≡ word b → Rest es (after b₂) (r z) → Gives es (Same c) z (thirdPart a₂ b₂)) → Chain c
     unfolding chain secondPart
-    chain-from c r p l s k = record {
-      bracketed = p;
+    chain-from c r l s k = record {
       starts = λ z. rw (l z) (headed-starts (word a) _ (n .0));
       reads = λ u z d e. met-map (λ a₂ i. record {
         first = rw (i .kind) f;
@@ -130,9 +126,9 @@ module _ (es : Editions) where
     two-line k s e h z = rw (h (firstPart a) (leafOf RecName b), part-shown a, leaf-shown RecName b refl) (append-assoc (word a) (58 ∷ 58 ∷ word b) z)
 
     pub chain-two : (s e : ℕ) → Chain (node RecTwoPart s e (more (firstPart a) (more (leafOf RecName b) none)))
-    unfolding thirdPart build builds Bracketed BracketedAll laid headed head markIn
+    unfolding thirdPart build builds laid headed head markIn
     chain-two s e =
-        chain-from (node RecTwoPart s e (more (firstPart a) (more (leafOf RecName b) none))) (λ z. z) (λ x. false-true _ x, (tt, (tt, tt))) (two-line RecTwoPart _ _ (laid-two FormLine _ _)) (λ z e. e .stops) λ z e a₂ b₂ g h i.
+        chain-from (node RecTwoPart s e (more (firstPart a) (more (leafOf RecName b) none))) (λ z. z) (two-line RecTwoPart _ _ (laid-two FormLine _ _)) (λ z e. e .stops) λ z e a₂ b₂ g h i.
         gives-look _ (e .after (after b₂) i) λ t x. gives-false _ _ _ x (gives _ _ (ap₂ (λ (v : Build) (w : List ℕ). made RecTwoPart (bmore v (bmore (spelled RecName w) bnone))) g h) i)
 
     abbrev pub parts : (s e s₂ e₂ : ℕ) → Lexeme → Tree
@@ -146,9 +142,9 @@ module _ (es : Editions) where
         ∙ two-line RecPair _ _ (laid-pair FormLine _ _) _ ∙ ap (λ (x : List ℕ). word a ++ (58 ∷ 58 ∷ (word b ++ (58 ∷ 58 ∷ (x ++ z))))) (leaf-shown RecName c refl)
 
     pub chain-three : (s e s₂ e₂ : ℕ) (c : Lexeme) → Spelled es Identifier (word c) → Chain (parts s e s₂ e₂ c)
-    unfolding thirdPart lastPart build builds Bracketed BracketedAll
+    unfolding thirdPart lastPart build builds
     chain-three s e s₂ e₂ c o =
-        chain-from (parts s e s₂ e₂ c) (λ z. 58 ∷ 58 ∷ (word c ++ z)) (λ x. false-true _ x, ((λ x. false-true _ x, (tt, (tt, tt))), (tt, tt))) (three-line s e s₂ e₂ c) (λ z e. colons-stop (word c ++ z)) λ z e a₂ b₂ g h i.
+        chain-from (parts s e s₂ e₂ c) (λ z. 58 ∷ 58 ∷ (word c ++ z)) (three-line s e s₂ e₂ c) (λ z e. colons-stop (word c ++ z)) λ z e a₂ b₂ g h i.
         gives-look _ (colons es (after b₂) _ (at-once i) tt) λ t j. gives-true _ _ _ (rw (j .kind))
         (gives-look _ (o .1 (after t) z (at-once (j .goes)) (e .stops)) λ c₂ v. gives-true _ _ _ (rw (v .kind))
         (gives _ _ (rw (g, h, v .spelt)) (v .goes)))

@@ -18,7 +18,7 @@ use Rattle.records.specs.Tree.{Tree, build}
 use Rattle.records.specs.Stored.{counted, records}
 use Rattle.sources.specs.Source.{Source, opened, Lexeme, start, LexResult, tok, bad, lex, tokenOf}
 use Rattle.sources.proofs.Standing.{Sound, lex-sound}
-use Rattle.answers.specs.Reading.{Ans, ok, no, look, when, Reader}
+use Rattle.answers.specs.Reading.{Ans, ok, no, when, Reader}
 use Rattle.answers.proofs.Sure.{stop, Sure, look-sure}
 use Rattle.grammar.specs.Names.{chain}
 use Rattle.grammar.specs.Values.{value}
@@ -28,7 +28,6 @@ use Rattle.grammar.specs.Items.{Item, item, refused, readKind, followed, finish
 use Rattle.grammar.proofs.Asked.{in-order, of-text}
 use Rattle.frames.proofs.Sure.{kind-sure}
 use Rattle.forms.specs.Line.{line, shown}
-use Rattle.roundtrip.specs.Arguments.{Bracketed}
 use Rattle.roundtrip.specs.Demand.{eofAt}
 use Rattle.roundtrip.proofs.Tokens.{Met, met, met-map, Editions, own, later, Rest, Near, at-once, Word, Good}
 use Rattle.roundtrip.proofs.Answers.{Gives, gives, gives-look, gives-true, gives-false, Every, map-every, look-every, when-every}
@@ -93,24 +92,6 @@ module _ (es : Editions) (q : Asked) (in-edition : q .edition ≡ es .read) wher
 
   pub item-alone : (x : Tree) (n : Lexeme) → readItem q ≡ item x n → Called q (Alone es q) x
   item-alone x n e = subst (Of (Called q (Alone es q))) e (item-of (Alone es q) (kind-alone es q))
-
--- in what is read as a type, anywhere and with any number of levels left, no function type stands directly among the arguments of
--- another; so in every accepted type
-abbrev InBrackets : Tree → Type 0
-InBrackets x = Bracketed (build x)
-
-bracketed-at : (es : Editions) (n : ℕ) (a : Lexeme) → Good es a → Every es InBrackets (readType n a)
-bracketed-at es n a g = map-every es (Typed es n) InBrackets (readType n a) (λ x h. h .bracketed) (type-sure es n a g)
-
-pub bracketed-sure : (n : ℕ) (u : Source) → Every (own (u .edition)) (λ (x : Tree). Bracketed (build x)) (look (lex u) (readType n))
-bracketed-sure n u = look-every (own (u .edition)) InBrackets u refl (readType n) (bracketed-at (own (u .edition)) n)
-
-as-type : (es : Editions) (a : Lexeme) → Good es a → Every es InBrackets (readKind 3 a)
-unfolding readKind when
-as-type es = bracketed-at es levels
-
-pub type-bracketed : (q : Asked) (x : Tree) (n : Lexeme) → q .kind ≡ 3 → readItem q ≡ item x n → Bracketed (build x)
-type-bracketed q x n k e = subst (Of (Called q InBrackets)) e (item-of (own (q .edition)) q refl InBrackets (rw k (as-type (own (q .edition))))) .1
 
 -- what is read to the last byte of a text ends at its length, and EOF follows
 abbrev Stopped : ℕ → Ans Tree → Type 0

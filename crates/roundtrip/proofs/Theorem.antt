@@ -1,7 +1,6 @@
 -- Demand 3, about the definitions that the contracts of the read and the display call cite. Its words are in specs/Demand.
 use mathlib.Core.Path.{_≡_, refl, subst, sym, ap, _∙_}
 use mathlib.Core.Bool.{Bool, true, false}
-use mathlib.Core.Logic.{_↔_}
 use mathlib.Core.List.{List, [], _∷_, _++_}
 use Rattle.forms.specs.Unprintable.{FirstByte, clean, foundAt}
 use Prim.Native.Nat.{ℕ, _*_, _≤_, min}
@@ -31,6 +30,7 @@ use Rattle.calls.proofs.Room.{roomed-fits, room-for}
 use Rattle.calls.proofs.Faithful.{read-written}
 use Rattle.calls.proofs.RefusalSets.{read-refusals, display-refusals}
 use Rattle.roundtrip.specs.Demand.{Lent, readOf, displayOf, NotRefused, Accepted, treeLength, lineLength, lineOf, lineBack, eofAt, ReadBack, AnsweredBack}
+use Rattle.roundtrip.specs.Theorems.{LinesBuilds, AcceptedByNumbers}
 use Rattle.roundtrip.proofs.Round.{again, same-lines}
 
 -- an item that is not refused for its room is the item; and one that is shown is clean
@@ -136,7 +136,7 @@ accept i t n e c g h = (
 )
 
 -- two accepted items of one kind, whatever the edition of each, have the same line exactly when their builds are equal
-pub lines-builds : (i j : Lent) (t u : Tree) (n m : Lexeme) → i .asks .kind ≡ j .asks .kind → Accepted i t n → Accepted j u m → (lineOf i ≡ lineOf j) ↔ (build t ≡ build u)
+pub lines-builds : LinesBuilds
 lines-builds i j t u n m k a b =
     let x = known i t n a in
     let y = known j u m b in
@@ -216,7 +216,7 @@ unfolding displayed displayNumber among
 shown-item (item t n) h e = tt
 shown-item (refused r) h e = never-0 ⊥ displayRefusals (r .number) refl e (h r refl)
 
-pub accepted-by-numbers : (i : Lent) → readNumber (answered (i .asks .text) (readOf i)) ≡ 0 → displayNumber (displayed (displayOf i)) ≡ 0 → (t : Tree) × (n : Lexeme) × Accepted i t n
+pub accepted-by-numbers : AcceptedByNumbers
 accepted-by-numbers i g h =
     let r = read-item (i .asks .text) (readOf i) (read-refusals (i .asks) (length (i .forTree))) g in
     (r .0, r .1, record { isRead = r .2; isShown = shown-item (displayOf i) (display-refusals (i .asks) (length (i .forLine))) h })

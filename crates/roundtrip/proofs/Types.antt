@@ -6,7 +6,7 @@ use Prim.Native.Nat.{ℕ, suc}
 use lib.Dec.{eqb}
 use Rattle.classes.specs.Bytes.{bytes}
 use Rattle.classes.specs.Class.{inRange, isDigit, isLetter, isName}
-use Rattle.classes.proofs.Bools.{false-true, or-left, or-right}
+use Rattle.classes.proofs.Bools.{or-left, or-right}
 use Rattle.words.specs.Kinds.{NumValue, Identifier, Amp, AmpMut, LParen, RParen, Less, Greater, Pipe, LBrace, ColonColon}
 use Rattle.records.specs.Kinds.{RecType, RecRef, RecRefMut, RecFunction, RecUnit, RecTuple, RecBrackets}
 use Rattle.records.specs.Tree.{Tree, node, Trees, none, more, behind, Build, spelled, made, Builds, bnone, bmore, build, builds}
@@ -17,7 +17,7 @@ use Rattle.grammar.specs.Types.{bracketed, brackets, reference, function, withA
 use Rattle.forms.specs.Line.{isField, isType, kindOfBuild, shown, line}
 use Rattle.forms.specs.Forms.{FormLine, head, markIn, laid, headed, laidItems, inBars, inAngles}
 use Rattle.forms.proofs.Constructs.{laid-ref, laid-ref-mut, laid-unit, laid-brackets, laid-tuple, laid-type, laid-function}
-use Rattle.roundtrip.specs.Arguments.{isFunction, NoneBare, Bracketed, BracketedAll}
+use Rattle.roundtrip.specs.Arguments.{isFunction}
 use Rattle.roundtrip.proofs.Words.{Stops, stops-less, differs}
 use Rattle.roundtrip.proofs.Tokens.{Met, met-map, Editions, Rest, Near, at-once, blank}
 use Rattle.roundtrip.proofs.Answers.{Gives, gives, gives-then, gives-look, gives-true, gives-false}
@@ -101,17 +101,6 @@ pub bar-opens : (P : Tree → Type 0) → ((t : Tree) → P t → (z : List ℕ)
 bar-opens P f none y a = refl
 bar-opens P f (more t ts) y a = stops-less isBar clashes (λ b h. or-right (widens b) (isBar b) h) (join (more t ts) y) (f t (a .0) (rest ts y))
 
--- builds in which no function type stands among the arguments of another
-no-function : (k : ℕ) (bs : Builds) → eqb k RecFunction ≡ false → BracketedAll bs → Bracketed (made k bs)
-unfolding Bracketed
-no-function k bs h a = (λ y. false-true _ (sym h ∙ y), a)
-
-grouped-bracketed : (bs : Builds) → BracketedAll bs → Bracketed (grouped bs)
-unfolding grouped Bracketed
-grouped-bracketed bnone a = tt
-grouped-bracketed (bmore b bnone) a = no-function RecBrackets _ refl a
-grouped-bracketed (bmore b (bmore c bs)) a = no-function RecTuple _ refl a
-
 pub grouped-kind : (bs : Builds) → (isFunction (grouped bs) ≡ false) × (isType (kindOfBuild (grouped bs)) ≡ true)
 unfolding grouped isType isField kindOfBuild
 grouped-kind bnone = (refl, refl)
@@ -128,7 +117,6 @@ module _ (es : Editions) where
     pub starts : (z : List ℕ) → Stops (typeClashes (isFunction (build t))) (shown t ++ z)
     pub reads : Reads es (readType n) (Begins (beginsType (isFunction (build t)))) t
     pub noField : isType (kindOfBuild (build t)) ≡ true
-    pub bracketed : Bracketed (build t)
 
   -- an argument of a function type is none itself, as it stands
   abbrev pub Argument : ℕ → Tree → Type 0
@@ -159,22 +147,6 @@ module _ (es : Editions) where
   unfolding isName isLetter isDigit inRange
   closed-bar z h = closed-mark es (bar es) refl refl z h refl refl
 
-  all-bracketed : (n : ℕ) (ts : Trees) → All (Typed n) ts → BracketedAll (builds ts)
-  unfolding BracketedAll builds
-  all-bracketed n none a = tt
-  all-bracketed n (more t ts) a = (a .0 .bracketed, all-bracketed n ts (a .1))
-
-  none-bare : (n : ℕ) (ts : Trees) (t : Tree) → All (Argument n) ts → NoneBare (builds (behind ts t))
-  unfolding NoneBare behind builds
-  none-bare n none t a = tt
-  none-bare n (more u none) t a = (a .0 .1, tt)
-  none-bare n (more u (more v ts)) t a = (a .0 .1, none-bare n (more v ts) t (a .1))
-
-  behind-bracketed : (n : ℕ) (ts : Trees) (t : Tree) → All (Argument n) ts → Bracketed (build t) → BracketedAll (builds (behind ts t))
-  unfolding BracketedAll behind builds
-  behind-bracketed n none t a h = (h, tt)
-  behind-bracketed n (more u ts) t a h = (a .0 .0 .bracketed, behind-bracketed n ts t (a .1) h)
-
   -- each form of a type, over parts with n levels left
   module _ (n : ℕ) where
     angled-ends : (ts : Trees) (z : List ℕ) → All (Typed n) ts → Ends es structs z → Ends es isColons (angled ts z)
@@ -201,11 +173,10 @@ module _ (es : Editions) where
         gives-false _ _ _ (no LParen refl) (gives-false _ _ _ (no Amp refl) (gives-false _ _ _ (no AmpMut refl) (gives-false _ _ _ (no Pipe refl) h)))
 
     pub type-back : (s e : ℕ) (c : Tree) (ts : Trees) → Chain es c → All (Typed n) ts → Typed (suc n) (node RecType s e (more c ts))
-    unfolding readType named build builds isType isField kindOfBuild BracketedAll
+    unfolding readType named build builds isType isField kindOfBuild
     type-back s e c ts h a = record {
       starts = λ z. rw (type-line s e c ts z) (h .starts (angled ts z));
       noField = refl;
-      bracketed = no-function RecType _ refl (h .bracketed, all-bracketed n ts a);
       reads = λ u z d g. met-map (λ b i. (rw (i .first), name-back b (i .first) (gives-then _ (i .back) λ x v j k. arguments-back s e c ts a b x j z g v k)))
           (h .reads u (angled ts z) (subst (Near es u) (type-line s e c ts z) d) (angled-ends ts z a g));
     }
@@ -215,7 +186,6 @@ module _ (es : Editions) where
     group-back b v ts a = record {
       starts = λ z. rw (group-line b v ts z, bracketed-build b v ts, grouped-kind (builds ts) .0) refl;
       noField = rw (bracketed-build b v ts) (grouped-kind (builds ts) .1);
-      bracketed = rw (bracketed-build b v ts) (grouped-bracketed (builds ts) (all-bracketed n ts a));
       reads = λ u z d e. met-map (λ c i. (
         rw (i .kind),
         gives-true _ _ _ (rw (i .kind))
@@ -229,11 +199,10 @@ module _ (es : Editions) where
     reference-back : (c k s e : ℕ) (t : Tree) → Typed n t → (m : List ℕ) → ((z : List ℕ) → shown (node c s e (more t none)) ++ z ≡ m ++ (shown t ++ z)) → ((z : List ℕ) → Stops clashes (m ++ z))
         → eqb c RecFunction ≡ false → isType c ≡ true → beginsType false k ≡ true → ((a : Lexeme) → a .kind ≡ k → typeOver (readType n) a ≡ reference (readType n) c a)
         → ((u : Source) (z : List ℕ) → Near es u (m ++ z) → Met (λ (a : Lexeme). (a .kind ≡ k) × Near es (after a) z) (lex u)) → Typed (suc n) (node c s e (more t none))
-    unfolding readType reference build builds kindOfBuild BracketedAll
+    unfolding readType reference build builds kindOfBuild
     reference-back c k s e t h m l y p q f r w = record {
       starts = λ z. rw (p, l z) (y (shown t ++ z));
       noField = q;
-      bracketed = no-function c _ p (h .bracketed, tt);
       reads = λ u z d g. met-map (λ a i. (
         rw (p, i .0) f,
         rw (r a (i .0)) (gives-look _ (h .reads (after a) z (i .1) g) λ b j. gives-then _ (j .1) λ x v y w.
@@ -254,11 +223,10 @@ module _ (es : Editions) where
         met-map (λ a i. (i .kind, at-once (i .goes))) (amp-mut es u z d tt)
 
     pub function-back : (s e : ℕ) (ts : Trees) (t : Tree) → All (Argument n) ts → Typed n t → Typed (suc n) (node RecFunction s e (behind ts t))
-    unfolding readType typeOver function build isType isField kindOfBuild Bracketed
+    unfolding readType typeOver function build isType isField kindOfBuild
     function-back s e ts t a h = record {
       starts = λ z. rw (function-line s e ts t z) refl;
       noField = refl;
-      bracketed = (λ _. none-bare n ts t a, behind-bracketed n ts t a (h .bracketed));
       reads = λ u z d g. met-map (λ b i. (
         rw (i .kind),
         gives-false _ _ _ (rw (i .kind)) (gives-false _ _ _ (rw (i .kind)) (gives-false _ _ _ (rw (i .kind)) (gives-true _ _ _ (rw (i .kind))

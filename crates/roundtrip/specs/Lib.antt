@@ -1,3 +1,4 @@
 pub mod Demand
 pub mod Arguments
 pub mod Examples
+pub mod Theorems
