@@ -2,7 +2,6 @@
 use mathlib.Core.Path.{_≡_, refl, sym, ap, _∙_, subst}
 use mathlib.Core.Bool.{Bool, true, false}
 use mathlib.Core.List.{List, []}
-use mathlib.Core.Logic.{_↔_}
 use Rattle.forms.specs.Unprintable.{FirstByte, clean, foundAt}
 use Prim.Native.Nat.{ℕ, _+_, _-_, min}
 use native.Mathlib.Omega.{arith}
@@ -22,7 +21,7 @@ use Rattle.sources.specs.Source.{opened, Lexeme}
 use Rattle.answers.specs.Reading.{Ans, when}
 use Rattle.grammar.specs.Items.{Item, item, refused, Asked, ofText, reading, readItem}
 use Rattle.forms.specs.Line.{shown}
-use Rattle.forms.specs.Forms.{FormLine, front, laid, written, formOf}
+use Rattle.forms.specs.Forms.{FormLine, front, laid, written}
 use Rattle.forms.specs.Unprintable.{unprintable}
 use Rattle.forms.proofs.Unprintables.{line-shows, words-clean, build-unprintable}
 use Rattle.frames.proofs.Faithful.{readRefusals, item-refusals}
@@ -89,10 +88,6 @@ shows-again q t a e (gives y u b g) h = build-unprintable y t b .0 (words-clean 
 
 pub exactly : Exactly
 exactly q t n e = (item-shows q t n e, shows-again q t (reading (ofText (shown t) q)) refl (item-alone (own (q .edition)) q refl t n e .1))
-
-pub read-exactly : (q : Asked) (room : ℕ) (t : Tree) (n : Lexeme) → read q room ≡ item t n → (unprintable t ≡ clean) ↔ (allOf shows (shown t) ≡ true)
-unfolding read
-read-exactly q room t n e = exactly q t n (roomed-fits (formOf (q .text)) room (readItem q) t n e .0)
 
 module _ (q : Asked) (room : ℕ) where
   abbrev Refused : ℕ → Type 0
