@@ -2,6 +2,8 @@
  * hand and not proved; the crate's tests hold them equal to the header's and the crate's lists. */
 #include <movesig.h>
 
+const uint32_t MOVESIG_VERSION_SYMBOL = MOVESIG_VERSION;
+
 uint32_t movesig_version(void)
 {
     return MOVESIG_VERSION;

@@ -8,7 +8,9 @@
  *
  * It takes a text of `len` bytes at `text`, any bytes at all, an offset `at` from which it reads, and the
  * edition of Move that the text is written in (enum movesig_edition).
- * It returns 0 where it accepts, else the number of a refusal, and writes all six numbers of `answer`.
+ * It returns 0 where it accepts, else the number of a refusal, and writes all six numbers of `answer`. What
+ * they mean is told by the result alone, so look at it first: the numbers of a refused token call can be
+ * those of an accepted EOF at 0. Compilers warn where a result is dropped (MOVESIG_NODISCARD).
  * No call allocates, keeps state between calls, writes elsewhere, prints, sets errno, reads past the
  * text or fails in any other way. Calls may run on several threads at once.
  *
@@ -19,6 +21,11 @@
  * - `text`, `answer` and the buffer do not overlap.
  * - `answer` is not null. `text` may be null, or any other pointer, where `len` is 0; `out` and `line` where
  *   `room` is 0.
+ * - The edition is the one that the text is written in. A wrong one is not noticed: most texts are read alike
+ *   in both, and where they are not the answer is another one and no refusal. The value `65_535u16` read in
+ *   edition 1 is `65`, followed by the name `_535u16`.
+ * - Kind and edition stand in their order. Both are uint64_t, so a call with the two exchanged compiles, and
+ *   where both numbers are 1 or 2 it is answered.
  * - The stack has room for the call: MOVESIG_STACK bytes are enough, beside what the thread needs itself.
  *
  * LIMITS
@@ -85,8 +92,10 @@ extern "C" {
 #define MOVESIG_LONGEST_LINE 65535
 
 /* Room for every tree of a text of `len` bytes: at most three records of 14 bytes for each byte, and four
- * bytes in front; 44,040,154 bytes for the longest text. Most trees have far less. */
-#define MOVESIG_TREE_ROOM(len) (4 + 42 * (size_t)(len))
+ * bytes in front; 44,040,154 bytes for the longest text and for every `len` above, since a longer text is
+ * refused. Most trees have far less. A constant where `len` is one; else `len` is evaluated twice. */
+#define MOVESIG_TREE_ROOM(len) \
+    (4 + 42 * ((size_t)(len) < MOVESIG_LONGEST ? (size_t)(len) : (size_t)MOVESIG_LONGEST))
 
 /* The most levels of an item. */
 #define MOVESIG_LEVELS 64
@@ -102,8 +111,42 @@ extern "C" {
  * A station can compare it when it is compiled: the calls take an edition from MINOR 5 on, and trees may be
  * wide from MINOR 6 on. */
 #define MOVESIG_VERSION_MAJOR 0
-#define MOVESIG_VERSION_MINOR 6
+#define MOVESIG_VERSION_MINOR 7
 #define MOVESIG_VERSION (MOVESIG_VERSION_MAJOR * 65536 + MOVESIG_VERSION_MINOR)
+
+/* The library has its version in the name of a symbol too, movesig_version_0_7, whose value is
+ * MOVESIG_VERSION. What includes this header and is compiled by gcc or clang refers to that symbol: with a
+ * library of another version, whose calls may take other arguments, it is not linked (`undefined reference to
+ * movesig_version_0_7`), and with a shared one not started (`undefined symbol`). A source file that wants
+ * numbers and names from here and is linked without the library defines MOVESIG_NO_VERSION_CHECK before. */
+#define MOVESIG_JOINED(word, major, minor) word##major##_##minor
+#define MOVESIG_VERSIONED(word, major, minor) MOVESIG_JOINED(word, major, minor)
+#define MOVESIG_VERSION_SYMBOL MOVESIG_VERSIONED(movesig_version_, MOVESIG_VERSION_MAJOR, MOVESIG_VERSION_MINOR)
+extern const uint32_t MOVESIG_VERSION_SYMBOL;
+#if defined(__GNUC__) && !defined(MOVESIG_NO_VERSION_CHECK)
+#if defined(__has_attribute)
+#if __has_attribute(retain)
+#define MOVESIG_KEPT __attribute__((used, retain))
+#endif
+#endif
+#ifndef MOVESIG_KEPT
+#define MOVESIG_KEPT __attribute__((used))
+#endif
+static const uint32_t *const movesig_linked_version MOVESIG_KEPT = &MOVESIG_VERSION_SYMBOL;
+#endif
+
+/* In front of each call: a result that is dropped is warned of. Who means to drop one looks at it all the
+ * same, `if (movesig_read(...)) {}`; a cast to void is enough for [[nodiscard]] and for clang, and not for
+ * gcc's attribute. */
+#if defined(__cplusplus) && __cplusplus >= 201703L
+#define MOVESIG_NODISCARD [[nodiscard]]
+#elif !defined(__cplusplus) && defined(__STDC_VERSION__) && __STDC_VERSION__ >= 202311L
+#define MOVESIG_NODISCARD [[nodiscard]]
+#elif defined(__GNUC__)
+#define MOVESIG_NODISCARD __attribute__((warn_unused_result))
+#else
+#define MOVESIG_NODISCARD
+#endif
 
 /* What a call returns. */
 enum movesig_result {
@@ -147,6 +190,7 @@ enum movesig_item {
  * token, inside comments too, else 0. At the end of the text it is MOVESIG_EOF at (len, len), each time.
  * Every other token has at least one byte, so asking again from `end` comes to the end.
  * Refusals 1, 2, 5 to 9 and 19. */
+MOVESIG_NODISCARD
 uint32_t movesig_next_token(uint64_t edition, const uint8_t *text, size_t len, size_t at, uint64_t answer[6]);
 
 /* The first doc comment among the blanks and comments from `at` on, up to the next token. Accepted:
@@ -154,6 +198,7 @@ uint32_t movesig_next_token(uint64_t edition, const uint8_t *text, size_t len, s
  * there is none. Asking again from `end` gives the next one of the same gap. Refusals 1, 2, 6 and 19; where
  * a doc comment stands before a comment that is not closed, the doc comment is the answer. Comments are the
  * same in both editions; a number that is no edition is refused here too. */
+MOVESIG_NODISCARD
 uint32_t movesig_next_comment(uint64_t edition, const uint8_t *text, size_t len, size_t at, uint64_t answer[6]);
 
 /* Reads the item of the kind (enum movesig_item) from `at` on and writes its tree into the first bytes
@@ -177,19 +222,29 @@ uint32_t movesig_next_comment(uint64_t edition, const uint8_t *text, size_t len,
  * bytes in front. A narrow tree never begins with 04 00 63 00, so that its first four bytes tell the form.
  * Trees that earlier versions wrote are narrow and stay as they are, but for brackets round one type, which
  * are a record of their own, 16, and which trees written before version 0.2 do not have. */
+MOVESIG_NODISCARD
 uint32_t movesig_read(uint64_t kind, uint64_t edition, const uint8_t *text, size_t len, size_t at, uint8_t *out,
                       size_t room, uint64_t answer[6]);
 
-/* Writes the item of the kind (enum movesig_item) from `at` on as one line, without a line end, into the
- * first bytes of the `room` bytes at `line`. Accepted: { length of the line, 0, 0, 0, 0, 0 }. Bytes of
- * `line` past the line stay as they are. Refused as movesig_read is, but with 4 by the line's length
- * alone, not the tree's, and before it with 18. Every byte of a line is from 32 to 126. Where the item's
- * tree is accepted too, the line read from 0 as the same kind and in the same edition gives the same
- * tree but for the spans, and itself as its line.
+/* Writes the item of the kind (enum movesig_item) from `at` on as one line into the first bytes of the `room`
+ * bytes at `line`. Accepted: { length of the line, 0, 0, 0, 0, 0 }. No line end and no NUL is written: the line
+ * is as long as the answer says, and bytes of `line` past it stay as they are. Refused as movesig_read is, but
+ * with 4 by the line's length alone, not the tree's, and before it with 18. Every byte of a line is from 32 to
+ * 126.
+ *
+ * The answer tells neither where the item ends nor what follows it. To go on behind an item, read it:
+ * movesig_read from the same `at` answers the token that follows, and the next call is asked from that token's
+ * start.
+ *
+ * Where the item's tree is accepted too, the line read from 0 as the same kind and in the same edition gives
+ * the same tree but for the spans, and itself as its line. Of a wide tree more may differ: the line may be so
+ * short that its tree is narrow, and then the form, and with it the lengths, are others; the records and their
+ * kinds are the same.
  *
  * Leaves stand as spelled; then `@0x1`, `a::b`, `T<a, b>`, `& T`, `&mut T`, `()`, `(a, b)`, `|a, b| r`,
  * `| | r` without arguments, and `(T)` where brackets are written round one type, and only there;
  * bindings `x`, `S {f: x, g: y}`, `S<u8> {f: x}`; the lists `(x, y)` and `|x, y|`, empty `()` and `| |`. */
+MOVESIG_NODISCARD
 uint32_t movesig_display(uint64_t kind, uint64_t edition, const uint8_t *text, size_t len, size_t at, uint8_t *line,
                          size_t room, uint64_t answer[6]);
 

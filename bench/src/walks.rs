@@ -1,7 +1,11 @@
 //! Walks over the tokens of the texts: by the Rust, by the port in each edition and by the lexer
 //! in C.
 
-use crate::{run, runs, station, texts, time_of, Time, RUNS};
+use crate::{
+    run, runs,
+    station::{self, calls::movesig_next_token},
+    texts, time_of, Time, RUNS,
+};
 use oracle::{
     answer::{Answer, Call},
     files::THE_FILE,
@@ -13,7 +17,7 @@ use std::{hint::black_box, ops::Range};
 
 #[link(name = "lexer", kind = "static")]
 extern "C" {
-    fn anchor_next_token(text: *const u8, len: usize, at: usize, answer: *mut u64) -> u32;
+    fn anchor_next_token(text: *const u8, len: usize, at: usize, answer: *mut [u64; 6]) -> u32;
 }
 
 const LONG: usize = 60_000;
@@ -119,7 +123,7 @@ fn same_tokens(text: &str) -> usize {
 
 fn anchor(text: &str, at: usize) -> Answer {
     let mut numbers = [0; 6];
-    let result = unsafe { anchor_next_token(text.as_ptr(), text.len(), at, numbers.as_mut_ptr()) };
+    let result = unsafe { anchor_next_token(text.as_ptr(), text.len(), at, &mut numbers) };
     Answer { result, numbers }
 }
 
@@ -139,7 +143,7 @@ pub fn by_the_port(text: &str) {
 
 pub fn by_the_port_in(edition: u64, text: &str) {
     walk(text, |start, length, at, answer| unsafe {
-        station::movesig_next_token(edition, start, length, at, answer)
+        movesig_next_token(edition, start, length, at, answer)
     });
 }
 
@@ -150,11 +154,11 @@ pub fn by_the_anchor(text: &str) {
 }
 
 #[inline(always)]
-fn walk(text: &str, next_token: impl Fn(*const u8, usize, usize, *mut u64) -> u32) {
+fn walk(text: &str, next_token: impl Fn(*const u8, usize, usize, *mut [u64; 6]) -> u32) {
     let mut answer = [0; 6];
     loop {
         let [_, _, at, ..] = answer;
-        let result = next_token(text.as_ptr(), text.len(), at as usize, answer.as_mut_ptr());
+        let result = next_token(text.as_ptr(), text.len(), at as usize, &mut answer);
         assert_eq!(result, 0, "the text was walked before");
         if black_box(answer[0]) == Tok::EOF as u64 {
             return;

@@ -1,25 +1,15 @@
 //! The port, through its C interface (include/movesig.h). Programs that link the
 //! static library include this file as a module.
 
+#[allow(dead_code)] // each program makes some of the calls
+#[path = "../../rust/movesig/src/boundary/calls.rs"]
+pub mod calls;
+
+use calls::{movesig_next_comment, movesig_next_token};
 use oracle::answer::{Answer, Call};
 
 #[link(name = "station", kind = "static")]
-extern "C" {
-    pub fn movesig_next_token(
-        edition: u64,
-        text: *const u8,
-        len: usize,
-        at: usize,
-        answer: *mut u64,
-    ) -> u32;
-    pub fn movesig_next_comment(
-        edition: u64,
-        text: *const u8,
-        len: usize,
-        at: usize,
-        answer: *mut u64,
-    ) -> u32;
-}
+extern "C" {}
 
 /// A number that no call answers: it shows what was not written.
 const UNWRITTEN: u64 = 0xa5a5_a5a5_a5a5_a5a5;
@@ -33,7 +23,7 @@ pub fn ask(call: Call, edition: u64, text: &[u8], at: usize) -> Answer {
         Call::Comment => movesig_next_comment,
     };
     let (start, length) = (text.as_ptr(), text.len());
-    let result = unsafe { ask(edition, start, length, at, lent.as_mut_ptr().add(1)) };
+    let result = unsafe { ask(edition, start, length, at, lent.as_mut_ptr().add(1).cast()) };
     assert!(
         lent[0] == UNWRITTEN && lent[7] == UNWRITTEN,
         "the port wrote beside the six numbers: {call:?} at {at} of '{}'",

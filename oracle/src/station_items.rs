@@ -1,31 +1,8 @@
 //! The port's calls on items, read and display, through its C interface. Programs that
-//! link the static library include this file as a module.
+//! link the static library include this file, and station.rs with it, as a module.
 
+use crate::station::calls::{movesig_display, movesig_read};
 use oracle::answer::ItemCall;
-
-#[link(name = "station", kind = "static")]
-extern "C" {
-    pub fn movesig_read(
-        kind: u64,
-        edition: u64,
-        text: *const u8,
-        len: usize,
-        at: usize,
-        out: *mut u8,
-        room: usize,
-        answer: *mut u64,
-    ) -> u32;
-    pub fn movesig_display(
-        kind: u64,
-        edition: u64,
-        text: *const u8,
-        len: usize,
-        at: usize,
-        line: *mut u8,
-        room: usize,
-        answer: *mut u64,
-    ) -> u32;
-}
 
 /// Makes the call, lending it the room.
 pub fn ask(
@@ -52,7 +29,7 @@ pub fn ask(
             at,
             room.as_mut_ptr(),
             room.len(),
-            answer.as_mut_ptr(),
+            answer,
         )
     }
 }

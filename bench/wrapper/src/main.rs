@@ -33,44 +33,8 @@ const DEPTHS: usize = 8;
 const MORE: f64 = 0.05;
 
 /// The bare calls, of the library that the crate links.
-mod bare {
-    extern "C" {
-        pub fn movesig_next_token(
-            edition: u64,
-            text: *const u8,
-            len: usize,
-            at: usize,
-            answer: *mut [u64; 6],
-        ) -> u32;
-        pub fn movesig_next_comment(
-            edition: u64,
-            text: *const u8,
-            len: usize,
-            at: usize,
-            answer: *mut [u64; 6],
-        ) -> u32;
-        pub fn movesig_read(
-            kind: u64,
-            edition: u64,
-            text: *const u8,
-            len: usize,
-            at: usize,
-            out: *mut u8,
-            room: usize,
-            answer: *mut [u64; 6],
-        ) -> u32;
-        pub fn movesig_display(
-            kind: u64,
-            edition: u64,
-            text: *const u8,
-            len: usize,
-            at: usize,
-            line: *mut u8,
-            room: usize,
-            answer: *mut [u64; 6],
-        ) -> u32;
-    }
-}
+#[path = "../../../rust/movesig/src/boundary/calls.rs"]
+mod bare;
 
 /// A file's worth of Move source.
 fn source() -> Vec<u8> {
@@ -135,17 +99,15 @@ fn main() {
     );
     row(
         "reads of short types",
-        measure([
-            &mut || bare_items(bare::movesig_read, &mut buffer),
-            &mut || crate_reads(&mut other),
-        ]),
+        measure([&mut || bare_reads(&mut buffer), &mut || {
+            crate_reads(&mut other)
+        }]),
     );
     row(
         "lines of short types",
-        measure([
-            &mut || bare_items(bare::movesig_display, &mut buffer),
-            &mut || crate_displays(&mut other),
-        ]),
+        measure([&mut || bare_displays(&mut buffer), &mut || {
+            crate_displays(&mut other)
+        }]),
     );
     if check && failed {
         eprintln!("wrapper: the crate adds too much to a bare call");
@@ -265,21 +227,31 @@ fn crate_comments(text: &[u8]) -> Done {
     }
 }
 
-type Call =
-    unsafe extern "C" fn(u64, u64, *const u8, usize, usize, *mut u8, usize, *mut [u64; 6]) -> u32;
-
-fn bare_items(call: Call, buffer: &mut [u8]) -> Done {
+/// The types, each by one call.
+fn bare_items(buffer: &mut [u8], call: impl Fn(&[u8], &mut [u8], &mut [u64; 6]) -> u32) -> Done {
     let mut done = Done::default();
     let mut answer = [0; 6];
     for text in TYPES {
         let text = black_box(text.as_bytes());
-        let (start, length) = (text.as_ptr(), text.len());
-        let (out, room) = (buffer.as_mut_ptr(), buffer.len());
-        let number = unsafe { call(3, 1, start, length, 0, out, room, &mut answer) };
+        let number = call(text, buffer, &mut answer);
         assert_eq!(number, 0, "a type is accepted");
         done.add([answer[0] as usize, answer[1] as usize, answer[3] as usize]);
     }
     done
+}
+
+fn bare_reads(buffer: &mut [u8]) -> Done {
+    bare_items(buffer, |text, out, answer| unsafe {
+        let (start, room) = (out.as_mut_ptr(), out.len());
+        bare::movesig_read(3, 1, text.as_ptr(), text.len(), 0, start, room, answer)
+    })
+}
+
+fn bare_displays(buffer: &mut [u8]) -> Done {
+    bare_items(buffer, |text, line, answer| unsafe {
+        let (start, room) = (line.as_mut_ptr(), line.len());
+        bare::movesig_display(3, 1, text.as_ptr(), text.len(), 0, start, room, answer)
+    })
 }
 
 fn crate_reads(buffer: &mut [u8]) -> Done {

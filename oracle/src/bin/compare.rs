@@ -40,7 +40,7 @@ first some points whose answers are written down.
 usage: compare [--quick] [--seed N] [--edition N] [--reads-only | --displays-only]
                [--long-only] [--help]
 
-  --quick          a few million answers, in seconds
+  --quick          fewer texts: some 88 million answers, in a minute or two
   --edition N      one edition alone, 1 or 2 (default both)
   --seed N         another choice of random texts (default 1)
   --reads-only     no tokens, comments and displays

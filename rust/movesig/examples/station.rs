@@ -4,7 +4,7 @@
 //!
 //!     cargo run --example station -- ../../examples/coin.move
 
-use movesig::{display, read, tokens, tree_room, Edition, Kind, Refusal, TokenKind, Tree, LONGEST};
+use movesig::{display, read, tokens, tree_room, Edition, Kind, Refusal, TokenKind, LONGEST};
 use std::{env, fs::File, io::Read, process::ExitCode};
 
 /// The edition of Move that the file is written in.
@@ -51,13 +51,10 @@ fn show_type(text: &[u8], at: usize, buffer: &mut [u8]) -> Result<(), Refusal> {
         .to_string();
     let item = read(Kind::Type, EDITION, text, at, buffer)?;
     println!("type {line}");
-    show_records(item.tree);
+    for (_, record) in item.tree.records() {
+        println!("  record {} at {}", record.kind().number(), record.span());
+    }
     Ok(())
-}
-
-fn show_records(tree: Tree) {
-    println!("  record {} at {}", tree.kind().number(), tree.span());
-    tree.children().for_each(show_records);
 }
 
 fn show_refusal(refusal: Refusal) {

@@ -1,4 +1,5 @@
-//! The unsafe boundary: the C calls of `include/movesig.h`, and one safe function for each.
+//! The unsafe boundary: the C calls of `include/movesig.h`, declared in `calls`, and one safe function for
+//! each.
 //!
 //! Why they are sound. What the header asks of a caller is what Rust's references promise:
 //!
@@ -11,13 +12,16 @@
 //! And what the calls do is proved (crates/station): for every text, offset, kind number,
 //! edition number and buffer they return, read no byte outside the text, write no byte outside the buffer and
 //! the six numbers, write all six, and keep no pointer. So no further test is needed here, and
-//! none is made.
+//! none is made. That the library is the one whose calls take these arguments is told by a symbol with the
+//! version in its name, which every program refers to.
 
 #![allow(unsafe_code)]
 
+mod calls;
 #[cfg(test)]
 mod fuzz;
 
+use calls::{movesig_display, movesig_next_comment, movesig_next_token, movesig_read};
 use std::mem::MaybeUninit;
 
 /// Room for the six numbers of an answer. Every call writes them all, so nothing is there before.
@@ -60,50 +64,28 @@ impl Answer<'_> {
     }
 }
 
+// What the library has beside its calls.
 unsafe extern "C" {
-    safe fn movesig_version() -> u32;
-    fn movesig_next_token(
-        edition: u64,
-        text: *const u8,
-        len: usize,
-        at: usize,
-        answer: *mut u64,
-    ) -> u32;
-    fn movesig_next_comment(
-        edition: u64,
-        text: *const u8,
-        len: usize,
-        at: usize,
-        answer: *mut u64,
-    ) -> u32;
-    fn movesig_read(
-        kind: u64,
-        edition: u64,
-        text: *const u8,
-        len: usize,
-        at: usize,
-        out: *mut u8,
-        room: usize,
-        answer: *mut u64,
-    ) -> u32;
-    fn movesig_display(
-        kind: u64,
-        edition: u64,
-        text: *const u8,
-        len: usize,
-        at: usize,
-        line: *mut u8,
-        room: usize,
-        answer: *mut u64,
-    ) -> u32;
+    /// The version of the library, in a symbol that has it in its name too: a library of another
+    /// minor version does not have it.
+    #[link_name = concat!(
+        "movesig_version_",
+        env!("CARGO_PKG_VERSION_MAJOR"),
+        "_",
+        env!("CARGO_PKG_VERSION_MINOR")
+    )]
+    safe static VERSION: u32;
 }
 
-/// The version of the library that is linked: major and minor, which are this crate's too unless
-/// `MOVESIG_LIB_DIR` names another library.
+/// Kept in every program, so that none is linked with a library of another version, whose calls may
+/// take other arguments: the linker then misses the symbol. The build script looks for it before.
+#[used]
+static LINKED: &u32 = &VERSION;
+
+/// The version of the library that is linked: major and minor, which are this crate's too.
 #[must_use]
 pub fn library_version() -> (u32, u32) {
-    let version = movesig_version();
-    (version >> 16, version & 0xffff)
+    (VERSION >> 16, VERSION & 0xffff)
 }
 
 #[inline]
@@ -113,7 +95,7 @@ pub(crate) fn next_token<'n>(
     at: usize,
     numbers: &'n mut Numbers,
 ) -> Answer<'n> {
-    let answer = numbers.0.as_mut_ptr().cast();
+    let answer = numbers.0.as_mut_ptr();
     // SAFETY: pointer and length are one slice's, and `answer` points to six aligned numbers;
     // both are lent for the call. Any edition and any offset may be asked for. The call writes all six numbers.
     unsafe {
@@ -129,7 +111,7 @@ pub(crate) fn next_comment<'n>(
     at: usize,
     numbers: &'n mut Numbers,
 ) -> Answer<'n> {
-    let answer = numbers.0.as_mut_ptr().cast();
+    let answer = numbers.0.as_mut_ptr();
     // SAFETY: as for `next_token`.
     unsafe {
         let result = movesig_next_comment(edition, text.as_ptr(), text.len(), at, answer);
@@ -146,7 +128,7 @@ pub(crate) fn read<'n>(
     out: &mut [u8],
     numbers: &'n mut Numbers,
 ) -> Answer<'n> {
-    let answer = numbers.0.as_mut_ptr().cast();
+    let answer = numbers.0.as_mut_ptr();
     let (start, room) = (out.as_mut_ptr(), out.len());
     // SAFETY: each pointer stands with the length of its own slice, and all are lent for the call;
     // `out` and `numbers` are `&mut`, so they overlap neither `text` nor each other. Any kind,
@@ -168,7 +150,7 @@ pub(crate) fn display<'n>(
     line: &mut [u8],
     numbers: &'n mut Numbers,
 ) -> Answer<'n> {
-    let answer = numbers.0.as_mut_ptr().cast();
+    let answer = numbers.0.as_mut_ptr();
     let (start, room) = (line.as_mut_ptr(), line.len());
     // SAFETY: as for `read`, with `line` in the place of `out`.
     unsafe {

@@ -38,7 +38,10 @@
 //! Offsets and spans count bytes from 0. Nothing is asked of the text: it need not be UTF-8.
 //!
 //! A call takes up to [`STACK`] bytes of stack. Keep the buffers elsewhere, as the `vec!` above does:
-//! [`tree_room`] bytes are room for every tree of a text, [`LONGEST_LINE`] for every line.
+//! [`tree_room`] bytes are room for every tree of a text, [`LONGEST_LINE`] for every line. No file is too
+//! long for that: [`tree_room`] grows no further than [`LONGEST`], and a longer text is refused. Who reads
+//! a file that may be of any length reads at most `LONGEST + 1` of its bytes, which are refused as the whole
+//! file would be.
 //!
 //! All `unsafe` code stands in one module, `boundary`, which says why each call is sound.
 
@@ -62,7 +65,7 @@ pub use item::{display, display_to_string, read, Kind, Read};
 pub use refusal::Refusal;
 pub use span::Span;
 pub use token::{next_token, tokens, Following, Token, TokenKind, Tokens};
-pub use tree::{Children, RecordKind, Tree};
+pub use tree::{Children, RecordKind, Records, Tree};
 
 /// The most bytes of a text.
 pub const LONGEST: usize = 1_048_575;
@@ -71,10 +74,18 @@ pub const LONGEST: usize = 1_048_575;
 pub const LONGEST_LINE: usize = 65_535;
 
 /// Room for every tree of a text of so many bytes: at most three records of 14 bytes for each byte,
-/// and four in front. Most trees have far less.
+/// and four in front. It grows up to the longest text, for which it is 44,040,154 bytes, and no further:
+/// a longer text is refused, with any room. Most trees have far less.
+///
+/// ```
+/// use movesig::{tree_room, LONGEST};
+///
+/// assert_eq!(tree_room(5), 214);
+/// assert_eq!(tree_room(usize::MAX), tree_room(LONGEST));
+/// ```
 #[must_use]
 pub const fn tree_room(len: usize) -> usize {
-    len.saturating_mul(42).saturating_add(4)
+    4 + 42 * if len < LONGEST { len } else { LONGEST }
 }
 
 /// The most levels of an item.

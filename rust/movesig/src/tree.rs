@@ -100,6 +100,28 @@ impl<'t, 'b> Tree<'t, 'b> {
         }
     }
 
+    /// It and all records inside it, each behind the one that it belongs to, with its level: 0 for itself,
+    /// 1 for its children. A walk over all of a tree is this loop; a function that calls itself for each
+    /// child takes stack for each level. The iterator allocates some bytes for each level.
+    ///
+    /// ```
+    /// use movesig::{read, Edition, Kind};
+    ///
+    /// let mut buffer = [0; 100];
+    /// let item = read(Kind::Type, Edition::One, b"a<&b, c>", 0, &mut buffer)?;
+    /// let seen: Vec<(usize, u16)> =
+    ///     item.tree.records().map(|(level, record)| (level, record.kind().number())).collect();
+    /// assert_eq!(seen, [(0, 10), (1, 3), (1, 11), (2, 10), (3, 3), (1, 10), (2, 3)]);
+    /// # Ok::<(), movesig::Refusal>(())
+    /// ```
+    #[must_use]
+    pub fn records(self) -> Records<'t, 'b> {
+        Records {
+            first: Some(self),
+            open: vec![],
+        }
+    }
+
     /// The record as it is stored, with its children; of the outermost one all bytes that the
     /// read wrote, those in front of a wide tree too.
     #[must_use]
@@ -123,12 +145,51 @@ fn number(bytes: &[u8], at: usize, width: usize) -> u32 {
         .fold(0, |high, &low| high << 8 | u32::from(low))
 }
 
-/// Its kind and its span, and its children's.
+/// `{:#?}` indents records up to so many levels below the first: more than an item of 64 levels has, which
+/// is 130. Deeper ones begin at the left edge, so that what is written is not as long as the square of the
+/// tree's length.
+const INDENTED: usize = 136;
+
+/// Its kind and its span, and in brackets its children's; by `{:#?}` one record a line, those up to 136
+/// levels below the first indented. It takes no stack for a level.
 impl fmt::Debug for Tree<'_, '_> {
     fn fmt(&self, to: &mut fmt::Formatter<'_>) -> fmt::Result {
-        write!(to, "{:?} {} ", self.kind(), self.span())?;
-        to.debug_list().entries(self.children()).finish()
+        // so many records are not closed yet
+        let mut open = 0;
+        for (level, record) in self.records() {
+            if level < open {
+                close(to, level, open)?;
+                to.write_str(if to.alternate() { "," } else { ", " })?;
+            }
+            if level > 0 {
+                new_line(to, level)?;
+            }
+            write!(to, "{:?} {} [", record.kind(), record.span())?;
+            open = level + 1;
+        }
+        close(to, 0, open)
     }
+}
+
+/// Closes the records from the deepest that is open, which has no children, up to the one at the level.
+fn close(to: &mut fmt::Formatter<'_>, level: usize, open: usize) -> fmt::Result {
+    for closed in (level..open).rev() {
+        if closed + 1 < open {
+            to.write_str(if to.alternate() { "," } else { "" })?;
+            new_line(to, closed)?;
+        }
+        to.write_str("]")?;
+    }
+    Ok(())
+}
+
+/// A new line for a record of the level, where each has one.
+fn new_line(to: &mut fmt::Formatter<'_>, level: usize) -> fmt::Result {
+    if !to.alternate() {
+        return Ok(());
+    }
+    let blanks = if level > INDENTED { 0 } else { 4 * level };
+    write!(to, "\n{:blanks$}", "")
 }
 
 /// The children of a record.
@@ -159,6 +220,33 @@ impl<'t, 'b> Iterator for Children<'t, 'b> {
 }
 
 impl FusedIterator for Children<'_, '_> {}
+
+/// The iterator that [`Tree::records`] gives.
+#[derive(Clone, Debug)]
+pub struct Records<'t, 'b> {
+    first: Option<Tree<'t, 'b>>,
+    /// What is still to come of the children of each record that is open, the first one's first.
+    open: Vec<Children<'t, 'b>>,
+}
+
+impl<'t, 'b> Iterator for Records<'t, 'b> {
+    type Item = (usize, Tree<'t, 'b>);
+
+    fn next(&mut self) -> Option<(usize, Tree<'t, 'b>)> {
+        let mut next = self.first.take();
+        while next.is_none() {
+            next = self.open.last_mut()?.next();
+            if next.is_none() {
+                self.open.pop();
+            }
+        }
+        let record = next?;
+        self.open.push(record.children());
+        Some((self.open.len() - 1, record))
+    }
+}
+
+impl FusedIterator for Records<'_, '_> {}
 
 macro_rules! record_kinds {
     ($($variant:ident $number:literal $name:literal $words:literal),* $(,)?) => {
@@ -246,5 +334,75 @@ impl RecordKind {
 impl fmt::Display for RecordKind {
     fn fmt(&self, to: &mut fmt::Formatter<'_>) -> fmt::Result {
         to.pad(self.name())
+    }
+}
+
+#[cfg(test)]
+mod tests {
+    use super::*;
+
+    /// A wide tree of so many records, each the only child of the one before: references, and a type last.
+    fn nest(records: usize) -> Vec<u8> {
+        let mut bytes = FRONT.to_vec();
+        for level in 0..records {
+            let length = 14 * (records - level) as u32;
+            let kind: u16 = if level + 1 < records { 11 } else { 10 };
+            bytes.extend(length.to_le_bytes());
+            bytes.extend(kind.to_le_bytes());
+            bytes.extend((level as u32).to_le_bytes());
+            bytes.extend((records as u32).to_le_bytes());
+        }
+        bytes
+    }
+
+    /// Half a million records inside one another, as `debug_list` wrote few of them, in a thread of little
+    /// stack.
+    #[test]
+    fn deep_trees() {
+        let work = || {
+            let bytes = nest(500_000);
+            let tree = Tree::new(b"", &bytes);
+            let levels = tree.records().map(|(level, record)| {
+                assert_eq!(record.span().start, level);
+                level
+            });
+            assert!(levels.eq(0..500_000));
+            let line = format!("{tree:?}");
+            assert!(line.starts_with("Ref 0..500000 [Ref 1..500000 [Ref 2..500000 ["));
+            assert!(line.ends_with(&("[Type 499999..500000 [".to_string() + &"]".repeat(500_000))));
+            let lines = format!("{tree:#?}");
+            assert_eq!(lines.lines().count(), 2 * 500_000 - 1);
+            let widest = lines.lines().map(str::len).max();
+            assert_eq!(widest, Some(4 * INDENTED + "Ref 136..500000 [".len()));
+            assert_eq!(lines.lines().nth(INDENTED + 1), Some("Ref 137..500000 ["));
+        };
+        let thread = std::thread::Builder::new().stack_size(1 << 16);
+        let done = thread.spawn(work).expect("a thread").join();
+        assert!(done.is_ok());
+    }
+
+    /// What is written of a tree is what the formatter's own list would have written of it.
+    #[test]
+    fn written_as_lists_are() {
+        struct List<'a>(Tree<'a, 'a>);
+        impl fmt::Debug for List<'_> {
+            fn fmt(&self, to: &mut fmt::Formatter<'_>) -> fmt::Result {
+                write!(to, "{:?} {} ", self.0.kind(), self.0.span())?;
+                to.debug_list()
+                    .entries(self.0.children().map(List))
+                    .finish()
+            }
+        }
+        let text = b"(a<u8, &0x1::b::c>, | | (), (d), S::T)";
+        let mut buffer = [0; 1_000];
+        let (kind, edition) = (crate::Kind::Type, crate::Edition::One);
+        let item = crate::read(kind, edition, text, 0, &mut buffer).expect("a type");
+        let bytes = nest(100);
+        for tree in [item.tree, Tree::new(text, &bytes)] {
+            let list = List(tree);
+            assert_eq!(format!("{tree:?}"), format!("{list:?}"));
+            assert_eq!(format!("{tree:#?}"), format!("{list:#?}"));
+            assert_eq!(format!("{:#?}", Some(tree)), format!("{:#?}", Some(list)));
+        }
     }
 }

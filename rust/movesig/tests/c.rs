@@ -1,6 +1,7 @@
-//! The header and the library from C and C++: the example, random calls between guarded pages
-//! under the sanitizers, the names behind the numbers, and the stack that the calls take. Each
-//! needs gcc or g++, and says so where it is not there.
+//! The header and the library from C and C++: the examples, random calls between guarded pages
+//! under the sanitizers, results that are dropped, texts that are far too long, the names behind the
+//! numbers, and the stack that the calls take. Each needs gcc, g++, clang or clang++, and says so where it is
+//! not there.
 
 use movesig::{Kind, RecordKind, TokenKind};
 use std::{
@@ -52,8 +53,22 @@ fn header_alone() {
     // twice, since a header may be included twice
     fs::write(&source, "#include <movesig.h>\n#include <movesig.h>\n").expect("written");
     for (name, language, standards) in [
-        ("gcc", "c", ["-std=c99", "-std=c11", "-std=c17"]),
-        ("g++", "c++", ["-std=c++98", "-std=c++11", "-std=c++20"]),
+        ("gcc", "c", ["-std=c99", "-std=c11", "-std=c17", "-std=c2x"]),
+        (
+            "g++",
+            "c++",
+            ["-std=c++98", "-std=c++11", "-std=c++17", "-std=c++20"],
+        ),
+        (
+            "clang",
+            "c",
+            ["-std=c99", "-std=c11", "-std=c17", "-std=c2x"],
+        ),
+        (
+            "clang++",
+            "c++",
+            ["-std=c++98", "-std=c++11", "-std=c++17", "-std=c++20"],
+        ),
     ] {
         for standard in standards {
             if let Some(mut compiler) = compiler(name) {
@@ -62,6 +77,101 @@ fn header_alone() {
             }
         }
     }
+}
+
+/// A result that is dropped is warned of, whichever call it is of and however the header says so.
+#[test]
+fn dropped_results() {
+    let calls = [
+        "next_token(1, 0, 0, 0, answer)",
+        "next_comment(1, 0, 0, 0, answer)",
+        "read(3, 1, 0, 0, 0, 0, 0, answer)",
+        "display(3, 1, 0, 0, 0, 0, 0, answer)",
+    ];
+    let source = Path::new(env!("CARGO_TARGET_TMPDIR")).join("dropped.c");
+    let write = |before: &str, behind: &str| {
+        let calls = calls.map(|call| format!("    {before}movesig_{call}{behind};\n"));
+        let calls = calls.concat();
+        let code = format!(
+            "#include <movesig.h>\nvoid drop(uint64_t *answer);\n\
+             void drop(uint64_t *answer)\n{{\n{calls}}}\n"
+        );
+        fs::write(&source, code).expect("written");
+    };
+    for (name, language, standard) in [
+        ("gcc", "c", "-std=c99"),
+        ("gcc", "c", "-std=c2x"),
+        ("g++", "c++", "-std=c++98"),
+        ("g++", "c++", "-std=c++17"),
+        ("clang", "c", "-std=c99"),
+        ("clang++", "c++", "-std=c++98"),
+        ("clang++", "c++", "-std=c++17"),
+    ] {
+        // what looks at the results is compiled, what drops them is not
+        for (before, behind, dropped) in [("if (", ") {}", 0), ("", "", calls.len())] {
+            let Some(mut compiler) = compiler(name) else {
+                continue;
+            };
+            write(before, behind);
+            compiler.args([standard, "-c", "-o", "/dev/null", "-x", language]);
+            let output = compiler.arg(&source).output().expect("it can be run");
+            let said = String::from_utf8_lossy(&output.stderr);
+            assert_eq!(
+                output.status.success(),
+                dropped == 0,
+                "{compiler:?}: {said}"
+            );
+            let warned = said.lines().filter(|line| line.contains("error: ignoring"));
+            assert_eq!(warned.count(), dropped, "{compiler:?}: {said}");
+        }
+    }
+}
+
+/// Room for the trees of a text stops at the longest text, so that a file of any length can be asked about;
+/// of a text that is too long no byte is looked at.
+#[test]
+fn huge_texts() {
+    let Some(mut compiler) = compiler("gcc") else {
+        return;
+    };
+    let source = Path::new(env!("CARGO_TARGET_TMPDIR")).join("huge.c");
+    let code = r#"
+        #define _DEFAULT_SOURCE
+        #include <movesig.h>
+        #include <stdio.h>
+        #include <stdlib.h>
+        #include <sys/mman.h>
+        static uint8_t tree[MOVESIG_TREE_ROOM(SIZE_MAX)];
+        static const size_t lengths[] = {MOVESIG_LONGEST + 1, 2000000000, (size_t)1 << 40};
+        int main(void)
+        {
+            size_t index;
+            if (sizeof tree != MOVESIG_TREE_ROOM(MOVESIG_LONGEST) || MOVESIG_TREE_ROOM(5) != 214)
+                return 1;
+            for (index = 0; index < sizeof lengths / sizeof *lengths; index++) {
+                size_t len = lengths[index], room = MOVESIG_TREE_ROOM(len), count;
+                uint64_t answer[4][6];
+                /* which nobody may read */
+                uint8_t *text = mmap(NULL, len, PROT_NONE, MAP_PRIVATE | MAP_ANONYMOUS | MAP_NORESERVE, -1, 0);
+                uint8_t *out = malloc(room);
+                if (text == MAP_FAILED || out == NULL)
+                    return 2;
+                if (movesig_next_token(1, text, len, 0, answer[0]) != MOVESIG_TEXT_TOO_LONG ||
+                    movesig_next_comment(1, text, len, 0, answer[1]) != MOVESIG_TEXT_TOO_LONG ||
+                    movesig_read(3, 1, text, len, 0, out, room, answer[2]) != MOVESIG_TEXT_TOO_LONG ||
+                    movesig_display(3, 1, text, len, 0, out, room, answer[3]) != MOVESIG_TEXT_TOO_LONG)
+                    return 3;
+                for (count = 0; count < 24; count++)
+                    if (answer[count / 6][count % 6] != 0)
+                        return 4;
+                free(out);
+                munmap(text, len);
+            }
+            return 0;
+        }"#;
+    fs::write(&source, code).expect("written");
+    compiler.arg("-std=c99");
+    run(&mut Command::new(program("huge", compiler, "c", &source)));
 }
 
 #[test]
@@ -147,7 +257,8 @@ fn names() {
         int main(void)
         {
             unsigned number;
-            printf("%d %d\n", movesig_version() == MOVESIG_VERSION, MOVESIG_STACK);
+            printf("%d %d\n", movesig_version() == MOVESIG_VERSION && MOVESIG_VERSION_SYMBOL == MOVESIG_VERSION,
+                   MOVESIG_STACK);
             for (number = 0; number < 300; number++)
                 printf("%s; %s; %s; %s\n", movesig_reason(number), movesig_item_name(number),
                        movesig_record_name(number), movesig_token_name(number));

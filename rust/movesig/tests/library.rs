@@ -349,8 +349,27 @@ fn longest_texts() {
     assert_eq!(more, Err(Refusal::TextTooLong));
 }
 
-fn outline(tree: Tree) -> String {
-    let children: Vec<String> = tree.children().map(outline).collect();
+/// A text that is far too long is refused, and room for its trees is no more than for the longest text. The
+/// 2 GB are pages that nobody touches.
+#[test]
+fn huge_texts() {
+    assert_eq!(tree_room(LONGEST - 1), 44_040_112);
+    for length in [LONGEST + 1, 2_000_000_000, usize::MAX] {
+        assert_eq!(tree_room(length), tree_room(LONGEST));
+    }
+    let text = vec![0; 2_000_000_000];
+    let mut buffer = vec![0; tree_room(text.len())];
+    let too_long = Some(Refusal::TextTooLong);
+    let (kind, edition) = (Kind::Type, Edition::One);
+    assert_eq!(read(kind, edition, &text, 0, &mut buffer).err(), too_long);
+    let line = display(kind, edition, &text, 0, &mut buffer);
+    assert_eq!(line.err(), too_long);
+    assert_eq!(next_token(edition, &text, 0).err(), too_long);
+    assert_eq!(next_comment(edition, &text, 0).err(), too_long);
+}
+
+fn shape(tree: Tree) -> String {
+    let children: Vec<String> = tree.children().map(shape).collect();
     let name = match tree.spelling() {
         Some(spelling) => String::from_utf8_lossy(spelling).into_owned(),
         None => tree.kind().to_string(),
@@ -361,8 +380,8 @@ fn outline(tree: Tree) -> String {
     }
 }
 
-fn outlined(kind: Kind, text: &[u8]) -> String {
-    outline(
+fn shape_of(kind: Kind, text: &[u8]) -> String {
+    shape(
         read(kind, Edition::One, text, 0, &mut [0; 1_000])
             .expect("this is accepted")
             .tree,
@@ -371,17 +390,17 @@ fn outlined(kind: Kind, text: &[u8]) -> String {
 
 #[test]
 fn trees() {
-    let name = |text: &[u8]| outlined(Kind::Name, text);
+    let name = |text: &[u8]| shape_of(Kind::Name, text);
     assert_eq!(name(b"a"), "a");
     assert_eq!(name(b"0x1::b"), "two-part chain[0x1 b]");
     assert_eq!(name(b"a::b::c"), "three-part chain[pair[a b] c]");
 
-    let value = |text: &[u8]| outlined(Kind::Value, text);
+    let value = |text: &[u8]| shape_of(Kind::Value, text);
     assert_eq!(value(b"@0x1"), "address value[0x1]");
     assert_eq!(value(b"true"), "true");
     assert_eq!(value(b"x\"00\""), "x\"00\"");
 
-    let types = |text: &[u8]| outlined(Kind::Type, text);
+    let types = |text: &[u8]| shape_of(Kind::Type, text);
     assert_eq!(types(b"( /* gap */ )"), "unit");
     assert_eq!(
         types(b"&mut (u8,)"),
@@ -392,13 +411,13 @@ fn trees() {
     assert_eq!(types(b"|u8| ()"), "function type[type[u8] unit]");
     assert_eq!(types(b"(&a, b)"), "tuple[reference[type[a]] type[b]]");
 
-    let binds = |text: &[u8]| outlined(Kind::BindList, text);
+    let binds = |text: &[u8]| shape_of(Kind::BindList, text);
     assert_eq!(
         binds(b"(x, S<u8> {f, g: y})"),
         "binding list[x struct with types[S type[u8] field[f f] field[g y]]]"
     );
     assert_eq!(
-        outlined(Kind::LambdaBindList, b"| |"),
+        shape_of(Kind::LambdaBindList, b"| |"),
         "lambda binding list"
     );
 }
@@ -420,6 +439,40 @@ fn tree_views() {
     );
     let numbers: Vec<u16> = (item.tree.children().map(|child| child.kind().number())).collect();
     assert_eq!(numbers, [10, 10]);
+    let records = item.tree.records();
+    let records: Vec<(usize, &[u8])> = records.map(|(level, tree)| (level, tree.text())).collect();
+    let due = [
+        (0, &b"(u8 , bool)"[..]),
+        (1, b"u8"),
+        (2, b"u8"),
+        (1, b"bool"),
+        (2, b"bool"),
+    ];
+    assert_eq!(records, due);
+}
+
+/// The deepest records of items of 64 levels are 130 levels below the first, which is less than what is
+/// indented.
+#[test]
+fn deepest_records() {
+    let deepest = |kind, text: &str| {
+        let mut buffer = vec![0; tree_room(text.len())];
+        let item = read(kind, Edition::One, text.as_bytes(), 0, &mut buffer).expect("accepted");
+        let levels = item.tree.records().map(|(level, _)| level).max();
+        levels.expect("it has a first record")
+    };
+    let nest = |open: &str, inside: &str, close: &str, levels| {
+        [&open.repeat(levels), inside, &close.repeat(levels)].concat()
+    };
+    let name = "a::b::c";
+    assert_eq!(deepest(Kind::Type, &nest("& ", name, "", 63)), 66);
+    assert_eq!(deepest(Kind::Type, &nest("a<", name, ">", 63)), 66);
+    let binds = nest("S{f:", &format!("{name}{{}}"), "}", 63);
+    assert_eq!(deepest(Kind::BindList, &binds), 130);
+    let lambda = format!("|{binds}|");
+    assert_eq!(deepest(Kind::LambdaBindList, &lambda), 130);
+    let types = nest("S{f:", "S<a::b::c>{}", "}", 62);
+    assert_eq!(deepest(Kind::BindList, &types), 129);
 }
 
 #[test]
@@ -488,8 +541,16 @@ fn versions() {
     assert!(changes.contains(&format!("\n## {}\n", env!("CARGO_PKG_VERSION"))));
     assert_eq!(defined("MOVESIG_LONGEST"), LONGEST);
     assert_eq!(defined("MOVESIG_LONGEST_LINE"), LONGEST_LINE);
-    assert!(header.contains("#define MOVESIG_TREE_ROOM(len) (4 + 42 * (size_t)(len))"));
+    assert!(header.contains(
+        "#define MOVESIG_TREE_ROOM(len) \\\n    \
+         (4 + 42 * ((size_t)(len) < MOVESIG_LONGEST ? (size_t)(len) : (size_t)MOVESIG_LONGEST))\n"
+    ));
     assert_eq!((tree_room(0), tree_room(LONGEST)), (4, 44_040_154));
+    // the names of the symbol that tells the version stand in the header's words
+    let symbol = format!("movesig_version_{major}_{minor}");
+    assert!(include_str!("../../../README.md").contains(&symbol));
+    assert_eq!(header.matches(&format!("{symbol},")).count(), 1);
+    assert_eq!(header.matches(&format!("{symbol}`")).count(), 1);
     assert_eq!(defined("MOVESIG_LEVELS"), LEVELS);
     assert_eq!(defined("MOVESIG_STACK"), STACK);
 }

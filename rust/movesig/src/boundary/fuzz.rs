@@ -338,7 +338,11 @@ fn with_a_buffer(seed: u64, ask: fn(u64, u64, &[u8], usize, &mut [u8]) -> Answer
     }
     assert!(too_long > 0);
     assert_eq!(wide > 0, tree, "{wide} wide trees");
-    assert_eq!(unprintable > 0, !tree, "{unprintable} displays refused with 18");
+    assert_eq!(
+        unprintable > 0,
+        !tree,
+        "{unprintable} displays refused with 18"
+    );
 }
 
 #[test]

@@ -20,8 +20,9 @@ const SECTIONS: [(&str, &str); 8] = [
   tokens       each token: its span, its kind and its spelling; the first of a
                line under the line's number
   comments     each doc comment: its span, its place and its text
-  read         the item as an outline: each record's kind, its span and, for a
-               leaf, its spelling; then the token that follows
+  read         the item as a tree: each record's kind, its span and, for a
+               leaf, its spelling, to the right of what it belongs to; then the
+               token that follows
   line         the item as one line; the token that follows is told on
                standard error
   help         this text
@@ -92,6 +93,8 @@ as four blanks, and what could deceive or disturb a terminal as \x1b or
 ones, more than four marks on a letter, and bytes that are not UTF-8. Where
 the widths of a line's characters are not certain, the line is shown once more,
 with escapes, above the marks. Spellings of more than 100 bytes are cut.
+Records of a tree are indented up to 136 levels below the first; deeper ones
+begin with the number of their level.
 
 Reports are coloured on a terminal, unless NO_COLOR is set.
 ",

@@ -3,8 +3,8 @@
 use crate::{
     due::Item,
     json::{self, Answer, Beside},
+    listing,
     notes::{self, Note},
-    outline,
     paint::Paint,
     places::Places,
     report::Report,
@@ -65,7 +65,7 @@ impl Job {
             let lines: Vec<&str> = said.output.lines().collect();
             let mut named = String::new();
             for line in lines {
-                outline::put_line(&mut named, 0, &format!("{}: {line}", self.name()));
+                listing::put_line(&mut named, &format!("{}: {line}", self.name()));
             }
             said.output = named;
         }
@@ -134,7 +134,7 @@ impl Job {
                 .map(|&token| json::token(self.file_bytes(), text, &places, token))
                 .collect();
         } else {
-            outline::tokens(text, &tokens, &mut said.output);
+            listing::tokens(text, &tokens, &mut said.output);
         }
         done
     }
@@ -148,7 +148,7 @@ impl Job {
                 .map(|&comment| json::comment(self.file_bytes(), text, &places, comment))
                 .collect();
         } else {
-            outline::comments(text, &comments, &mut said.output);
+            listing::comments(text, &comments, &mut said.output);
             if done.is_ok() && comments.is_empty() {
                 said.errors = format!("{}: no doc comments\n", self.name());
             }
@@ -181,14 +181,14 @@ impl Job {
             return;
         }
         let mut following = String::new();
-        outline::following(&text.bytes, beside.next, &mut following);
+        listing::following(&text.bytes, beside.next, &mut following);
         match answer {
             Answer::Tree(tree) => {
-                outline::tree(*tree, 0, &mut said.output);
+                listing::tree(*tree, &mut said.output);
                 said.output += &following;
             }
             Answer::Line(line) => {
-                outline::put_line(&mut said.output, 0, &visible::line(line));
+                listing::put_line(&mut said.output, &visible::line(line));
                 let name = if self.several {
                     self.name() + ": "
                 } else {
@@ -239,7 +239,7 @@ impl Beside {
 fn put_notes(report: &Report, notes: &[Note], said: &mut Said) {
     for note in notes {
         let line = format!("{}: note: {}", report.place(note.at), note.words);
-        outline::put_line(&mut said.errors, 0, &line);
+        listing::put_line(&mut said.errors, &line);
     }
 }
 

@@ -115,11 +115,7 @@ pub fn comment(file: &[u8], text: &[u8], places: &Places, comment: Comment) -> S
 pub fn item(file: &[u8], text: &[u8], item: Item, answer: &Answer, beside: &Beside) -> String {
     let object = Object::of(file).item(item);
     let object = match answer {
-        Answer::Tree(tree) => {
-            let mut records = String::new();
-            put_record(*tree, &mut records);
-            object.raw("tree", &records)
-        }
+        Answer::Tree(tree) => object.raw("tree", &records(*tree)),
         Answer::Line(line) => object.text("shown", line),
     };
     let next = following(beside.next, text);
@@ -146,24 +142,34 @@ fn following(token: Following, text: &[u8]) -> String {
         .end()
 }
 
-/// Writes each record once: a child is not copied again for every level above it.
-fn put_record(tree: Tree, to: &mut String) {
+/// The tree, its records inside one another. Each is written once, and in one loop: a tree may be as deep as
+/// it is long.
+fn records(tree: Tree) -> String {
+    let mut to = String::new();
+    // so many records are not closed yet
+    let mut open = 0;
+    for (level, record) in tree.records() {
+        if level < open {
+            to += &"]}".repeat(open - level);
+            to += ",";
+        }
+        put_record(record, &mut to);
+        open = level + 1;
+    }
+    to + &"]}".repeat(open)
+}
+
+/// A record up to its children.
+fn put_record(record: Tree, to: &mut String) {
     let object = Object::new()
-        .text("record", tree.kind().name().as_bytes())
-        .number("number", tree.kind().number().into())
-        .span(tree.span());
-    let object = match tree.spelling() {
+        .text("record", record.kind().name().as_bytes())
+        .number("number", record.kind().number().into())
+        .span(record.span());
+    let object = match record.spelling() {
         Some(spelling) => object.text("text", spelling),
         None => object,
     };
     *to += &["{", &object.0, ",\"children\":["].concat();
-    for (index, child) in tree.children().enumerate() {
-        if index > 0 {
-            *to += ",";
-        }
-        put_record(child, to);
-    }
-    *to += "]}";
 }
 
 /// That a file cannot be read.

@@ -186,7 +186,9 @@ fn label(text: &[u8], refusal: &Refusal, due: &str) -> String {
         Refusal::NoToken { .. } if text[start..].starts_with(b"\xef\xbb\xbf") => {
             "a byte order mark: Move has none".to_string()
         }
-        Refusal::NoToken { .. } | Refusal::StringNotAscii { .. } | Refusal::LineUnprintable { .. } => {
+        Refusal::NoToken { .. }
+        | Refusal::StringNotAscii { .. }
+        | Refusal::LineUnprintable { .. } => {
             let byte = text.get(start).copied().unwrap_or(0);
             format!("byte 0x{byte:02x}")
         }

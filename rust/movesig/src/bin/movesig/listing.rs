@@ -1,4 +1,4 @@
-//! What is accepted, as text for people.
+//! What is accepted, as text for people: tokens, doc comments and records of a tree, one a line.
 
 use crate::{places::Places, visible};
 use movesig::{Comment, Following, Token, Tree};
@@ -6,6 +6,11 @@ use std::fmt::Write;
 
 /// A spelling is shown up to so many bytes.
 const MOST: usize = 100;
+
+/// Records are indented up to so many levels below the first: more than an item of 64 levels has, which is
+/// 130. Where a tree has more, a line for each record with blanks for each level would be as long as the
+/// square of the text's length.
+const INDENTED: usize = 136;
 
 /// One line a token, in columns.
 pub fn tokens(text: &[u8], tokens: &[Token], to: &mut String) {
@@ -24,7 +29,7 @@ pub fn tokens(text: &[u8], tokens: &[Token], to: &mut String) {
         let (span, kind) = (token.span.to_string(), token.kind);
         let spelling = visible::cut(token.span.of(text), MOST);
         let line = format!("{line:numbers$}  {span:spans$}  {kind:names$}  {spelling}");
-        put_line(to, 0, line.trim_end());
+        put_line(to, line.trim_end());
     }
 }
 
@@ -43,22 +48,26 @@ pub fn comments(text: &[u8], comments: &[Comment], to: &mut String) {
         let (mut span, mut place) = (span.as_str(), place.as_str());
         for line in comment.text.of(text).split(|&byte| byte == b'\n') {
             let line = visible::source(line.strip_suffix(b"\r").unwrap_or(line));
-            put_line(to, 0, &format!("{span:spans$}  {place:widths$}  |{line}"));
+            put_line(to, &format!("{span:spans$}  {place:widths$}  |{line}"));
             (span, place) = ("", "");
         }
     }
 }
 
-/// The tree, each record a step to the right of the one that it belongs to.
-pub fn tree(tree: Tree, depth: usize, to: &mut String) {
-    let mut line = format!("{} {}", tree.kind(), tree.span());
-    if let Some(spelling) = tree.spelling() {
-        line += "  ";
-        line += &visible::cut(spelling, MOST);
-    }
-    put_line(to, depth, &line);
-    for child in tree.children() {
-        self::tree(child, depth + 1, to);
+/// The tree, each record a step to the right of the one that it belongs to. Those that are too deep for that
+/// stand at the left edge, with the number of their level. One loop, since a tree may be as deep as it is long.
+pub fn tree(tree: Tree, to: &mut String) {
+    for (level, record) in tree.records() {
+        let mut line = match level {
+            0..=INDENTED => "  ".repeat(level),
+            _ => format!("level {level}: "),
+        };
+        line += &format!("{} {}", record.kind(), record.span());
+        if let Some(spelling) = record.spelling() {
+            line += "  ";
+            line += &visible::cut(spelling, MOST);
+        }
+        put_line(to, &line);
     }
 }
 
@@ -66,10 +75,9 @@ pub fn tree(tree: Tree, depth: usize, to: &mut String) {
 pub fn following(text: &[u8], token: Following, to: &mut String) {
     let spelling = visible::cut(token.span.of(text), MOST);
     let line = format!("followed by {} {}  {spelling}", token.kind, token.span);
-    put_line(to, 0, line.trim_end());
+    put_line(to, line.trim_end());
 }
 
-pub fn put_line(to: &mut String, depth: usize, line: &str) {
-    let indent = 2 * depth;
-    writeln!(to, "{:indent$}{line}", "").expect("a string takes what it is given");
+pub fn put_line(to: &mut String, line: &str) {
+    writeln!(to, "{line}").expect("a string takes what it is given");
 }
