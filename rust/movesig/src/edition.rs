@@ -1,4 +1,5 @@
-/// The editions of Move that a text may be written in. They differ in numbers alone.
+/// The editions of Move that a text may be written in. They differ in numbers alone. A wrong one is not
+/// noticed: the value `65_535u16` read in edition 1 is `65`, followed by the name `_535u16`.
 #[derive(Clone, Copy, Debug, PartialEq, Eq, Hash)]
 #[repr(u8)]
 pub enum Edition {

@@ -80,7 +80,8 @@ pub struct Read<'t, 'b> {
 }
 
 /// Reads the item of the kind from `at` on into the buffer. Its tree takes the first bytes of
-/// the buffer; the others stay as they are, and all of them where the read is refused.
+/// the buffer; the others stay as they are, and all of them where the read is refused. A buffer of
+/// [`tree_room`](crate::tree_room) bytes has room for every tree of a text.
 ///
 /// # Errors
 ///
@@ -123,6 +124,9 @@ pub fn read<'t, 'b>(
 /// Writes the item of the kind from `at` on as one line into the buffer and gives its bytes,
 /// which are printable ASCII, 32 to 126. The buffer's other bytes stay as they are, and all of
 /// them where the display is refused.
+///
+/// It tells neither where the item ends nor what follows it: [`read`] from the same offset does, in
+/// [`Read::next`], from whose start to go on.
 ///
 /// # Errors
 ///
