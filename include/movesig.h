@@ -22,8 +22,8 @@
  * - `answer` is not null. `text` may be null, or any other pointer, where `len` is 0; `out` and `line` where
  *   `room` is 0.
  * - The edition is the one that the text is written in. A wrong one is not noticed: most texts are read alike
- *   in both, and where they are not the answer is another one and no refusal. The value `65_535u16` read in
- *   edition 1 is `65`, followed by the name `_535u16`.
+ *   in both, and another answer need be no refusal. The value `65_535u16` read in edition 1 is `65`, followed by
+ *   the name `_535u16`.
  * - Kind and edition stand in their order. Both are uint64_t, so a call with the two exchanged compiles, and
  *   where both numbers are 1 or 2 it is answered.
  * - The stack has room for the call: MOVESIG_STACK bytes are enough, beside what the thread needs itself.
