@@ -11,7 +11,6 @@ use Rattle.classes.specs.Bytes.{bytes}
 use Rattle.classes.proofs.Bools.{false-true}
 use Rattle.words.specs.Kinds.{NumValue, Identifier, Colon}
 use Rattle.tokens.specs.Refusals.{UnexpectedToken, TooDeep}
-use Rattle.tokens.specs.Answers.{refusal}
 use Rattle.tokens.specs.Calls.{nextToken}
 use Rattle.tokens.specs.declared.Refusal.{Refusal}
 use Rattle.tokens.specs.declared.Token.{Token as Answer}
@@ -19,7 +18,7 @@ use Rattle.tokens.specs.declared.Lexed.the-variants.{Found, Refused as Bad}
 use Rattle.records.specs.Kinds.{RecName, RecVariable, RecField}
 use Rattle.records.specs.Tree.{Tree, node, none, more}
 use Rattle.sources.specs.Source.{Source, Lexeme, after, LexResult, tok, bad, lex}
-use Rattle.answers.specs.Reading.{Ans, ok, no, then, look, when, leafOf, refusedAt, Reader}
+use Rattle.answers.specs.Reading.{Ans, ok, then, look, when, leafOf, Reader}
 use Rattle.grammar.specs.Types.{readType}
 use Rattle.grammar.specs.Binds.{unpacked, bindOver, fieldOver, readField, readBind}
 use Rattle.forms.specs.Forms.{markIn, spelt, laid, headed}
@@ -29,14 +28,14 @@ use Rattle.forms.proofs.Placing.{placed-as}
 use Rattle.forms.proofs.Constructs.{laid-field}
 use Rattle.parts.specs.declared.Parsed.{Parsed}
 use Rattle.parts.specs.declared.Parsed.the-variants.{Read, Refused}
-use Rattle.parts.specs.code.Meets.{Fits, held, refusedToken, Reads}
+use Rattle.parts.specs.code.Meets.{Fits, held, refusedToken, Contract, ReadsBy}
 use Rattle.parts.proofs.Held.{held-leaf, Next, next-found, look-found, look-refused}
-use Rattle.parts.proofs.Contracts.{reads-no, reads-read, reads-as}
+use Rattle.parts.proofs.Contracts.{reads-no, reads-token, reads-read, reads-as}
 use Rattle.chains.specs.code.Parts.{leafAt, begins}
-use Rattle.chains.proofs.Names.{leaf-laid, when-true, when-false, token-refused, read-to, chain-other, chain-bad}
+use Rattle.chains.proofs.Names.{leaf-laid, when-true, when-false, read-to, chain-other, chain-bad}
 use Rattle.type_walk.proofs.Types.{neither-left}
 use Rattle.bind_walk.specs.code.Pieces.{structKind, variableKinds, fieldAt, boundBy, fieldName, headedBy}
-use Rattle.bind_walk.proofs.Parted.{by-meets, front, closed-by}
+use Rattle.bind_walk.proofs.Parted.{front, closed-by}
 use Rattle.bind_walk.proofs.Structs.{unpack-unnamed}
 
 -- what the kinds of a binding's first two tokens say
@@ -65,25 +64,20 @@ when-then true (bad r) f y v k = refl
 when-then false l f y v k = refl
 
 module _ (f ed : ℕ) (text : List ℕ) (s : Spot) (l m : List ℕ) (a : Answer) where
-  -- the token itself is refused
-  pub itself : (n : ℕ) (x : Ans Tree) (r : Parsed) → (Fits text a → x ≡ no (refusedAt n (held ed text a))) → r ≡ refusedToken n a → Reads f ed text (Fits text a) x (a .end) s l r m
-  itself n x r h e =
-      subst (λ (y : Parsed). Reads f ed text (Fits text a) x (a .end) s l y m) (sym e) (reads-no f ed text (Fits text a) x (a .end) s l m (refusal n (a .start) (a .end)) (λ z. h z ∙ ap no (token-refused ed text n a z)))
-
   module _ (n : ℕ) where
     -- bindings, where n levels are left
     abbrev bind : Ans Tree
     bind = readBind n (held ed text a)
 
     abbrev Bind : Parsed → Type 0
-    Bind r = Reads f ed text (Fits text a) bind (a .end) s l r m
+    Bind r = Contract (laid f) ed text (Fits text a) bind (a .end) s l r m
 
     abbrev Unpack : Parsed → Type 0
-    Unpack r = Reads f ed text (Fits text a) (unpacked (readType (n - 1)) (fieldAt (n - 1)) (held ed text a)) (a .end) s l r m
+    Unpack r = ReadsBy (laid f) ed text (unpacked (readType (n - 1)) (fieldAt (n - 1))) a s l r m
 
     pub bind-deep : (r : Parsed) → n ≡ 0 → r ≡ refusedToken TooDeep a → Bind r
     unfolding readBind
-    bind-deep r h e = itself TooDeep bind r (λ _. rw h) e
+    bind-deep r h e = reads-token TooDeep a r (λ z. z) (λ _. rw h) e
 
     module _ (h : n ≡ 0 → ⊥) where
       bind-level : (z : Lexeme) → readBind n z ≡ bindOver (readType (n - 1)) (fieldAt (n - 1)) z
@@ -93,28 +87,27 @@ module _ (f ed : ℕ) (text : List ℕ) (s : Spot) (l m : List ℕ) (a : Answer)
       bind-other : (r : Parsed) → (a .kind ≡ Identifier → ⊥) → Unpack r → Bind r
       unfolding bindOver
       bind-other r k d =
-          reads-as f ed text (Fits text a) (Fits text a) bind (unpacked (readType (n - 1)) (fieldAt (n - 1)) (held ed text a)) (a .end) (a .end) s l m r (omega arith) (λ z. z)
+          reads-as (omega arith) (λ z. z)
           (λ _. bind-level (held ed text a) ∙ when-false (eqb (a .kind) Identifier) _ _ (ne-eqb (a .kind) Identifier k)) d
 
       module _ (k : a .kind ≡ Identifier) where
         bind-bad : (r : Refusal) → nextToken ed text (a .end) ≡ Bad r → Bind (Refused r)
         unfolding bindOver
         bind-bad r e =
-            reads-no f ed text (Fits text a) bind (a .end) s l m r
-            (λ z. bind-level (held ed text a) ∙ when-true (eqb (a .kind) Identifier) _ _ (eq-eqb (a .kind) Identifier k) ∙ look-refused ed text a z _ r e)
+            reads-no r (λ z. bind-level (held ed text a) ∙ when-true (eqb (a .kind) Identifier) _ _ (eq-eqb (a .kind) Identifier k) ∙ look-refused ed text a z _ r e)
 
         module _ (d : Answer) (e : nextToken ed text (a .end) ≡ Found d) (c : Bool) (g : c ≡ structKind (d .kind)) where
           bind-struct : (r : Parsed) → c ≡ true → Unpack r → Bind r
           unfolding bindOver
           bind-struct r b w =
-              reads-as f ed text (Fits text a) (Fits text a) bind (unpacked (readType (n - 1)) (fieldAt (n - 1)) (held ed text a)) (a .end) (a .end) s l m r (omega arith) (λ z. z)
+              reads-as (omega arith) (λ z. z)
               (λ z. bind-level (held ed text a) ∙ when-true (eqb (a .kind) Identifier) _ _ (eq-eqb (a .kind) Identifier k) ∙ look-found ed text a z _ d e
               ∙ when-true (structKind (d .kind)) _ _ (sym g ∙ b)) w
 
           bind-variable : (to : Spot) → c ≡ false → Placed l s (spelt f RecVariable (a .start) (a .end) (wordOf text a)) to m → Bind (Read (record { to = to; end = a .end; next = d }))
           unfolding bindOver
           bind-variable to b w =
-              reads-read f ed text (Fits text a) bind (a .end) s l m (leafAt RecVariable text a) (a .end) d to (omega arith)
+              reads-read (leafAt RecVariable text a) (a .end) d to (omega arith)
               (λ z. bind-level (held ed text a) ∙ when-true (eqb (a .kind) Identifier) _ _ (eq-eqb (a .kind) Identifier k) ∙ look-found ed text a z _ d e
               ∙ when-false (structKind (d .kind)) _ _ (sym g ∙ b) ∙ read-to ed text (leafOf RecVariable (held ed text a)) (leafAt RecVariable text a) a z (held-leaf ed text a z RecVariable)) e
               (placed-as l m (spelt f RecVariable (a .start) (a .end) (wordOf text a)) (laid f (leafAt RecVariable text a)) s to (sym (leaf-laid f text RecVariable a refl)) w)
@@ -145,11 +138,11 @@ module _ (f ed : ℕ) (text : List ℕ) (s : Spot) (l m : List ℕ) (a : Answer)
     field = fieldAt n (held ed text a)
 
     abbrev Field : Parsed → Type 0
-    Field r = Reads f ed text (Fits text a) field (a .end) s l r m
+    Field r = Contract (laid f) ed text (Fits text a) field (a .end) s l r m
 
     pub field-deep : (r : Parsed) → n ≡ 0 → r ≡ refusedToken TooDeep a → Field r
     unfolding readField
-    field-deep r h e = itself TooDeep field r (λ _. rw h) e
+    field-deep r h e = reads-token TooDeep a r (λ z. z) (λ _. rw h) e
 
     module _ (h : n ≡ 0 → ⊥) where
       field-level : (z : Lexeme) → fieldAt n z ≡ fieldOver (readBind n) z
@@ -158,14 +151,13 @@ module _ (f ed : ℕ) (text : List ℕ) (s : Spot) (l m : List ℕ) (a : Answer)
 
       pub field-other : (r : Parsed) → (a .kind ≡ Identifier → ⊥) → r ≡ refusedToken UnexpectedToken a → Field r
       unfolding fieldOver
-      field-other r k e = itself UnexpectedToken field r (λ _. field-level (held ed text a) ∙ when-false (eqb (a .kind) Identifier) _ _ (ne-eqb (a .kind) Identifier k)) e
+      field-other r k e = reads-token UnexpectedToken a r (λ z. z) (λ _. field-level (held ed text a) ∙ when-false (eqb (a .kind) Identifier) _ _ (ne-eqb (a .kind) Identifier k)) e
 
       module _ (k : a .kind ≡ Identifier) where
         pub field-bad : (r : Refusal) → nextToken ed text (a .end) ≡ Bad r → Field (Refused r)
         unfolding fieldOver
         field-bad r e =
-            reads-no f ed text (Fits text a) field (a .end) s l m r
-            (λ z. field-level (held ed text a) ∙ when-true (eqb (a .kind) Identifier) _ _ (eq-eqb (a .kind) Identifier k) ∙ look-refused ed text a z _ r e)
+            reads-no r (λ z. field-level (held ed text a) ∙ when-true (eqb (a .kind) Identifier) _ _ (eq-eqb (a .kind) Identifier k) ∙ look-refused ed text a z _ r e)
 
         module _ (d : Answer) (e : nextToken ed text (a .end) ≡ Found d) where
           abbrev fieldOf : Tree → ℕ → Tree
@@ -178,7 +170,7 @@ module _ (f ed : ℕ) (text : List ℕ) (s : Spot) (l m : List ℕ) (a : Answer)
               ∙ when-then (eqb (d .kind) Colon) (lex (after (held ed text d))) (readBind n) (leafOf RecVariable (held ed text a)) (after (held ed text a)) _
               ∙ ap (λ (t : Tree). then (boundBy n (held ed text a) (held ed text d)) (λ x u. ok (node RecField (a .start) (u .at) (more t (more x none))) u)) (held-leaf ed text a z RecName)
 
-          pub field-bound : length l ≤ last → (q : Spot) (l₂ m₂ : List ℕ) (p r : Parsed) → Placed l (inside f s) (fieldName f text a) q l₂ → Reads f ed text (Fits text a) (boundBy n (held ed text a) (held ed text d)) (a .end) q l₂ p m₂
+          pub field-bound : length l ≤ last → (q : Spot) (l₂ m₂ : List ℕ) (p r : Parsed) → Placed l (inside f s) (fieldName f text a) q l₂ → Contract (laid f) ed text (Fits text a) (boundBy n (held ed text a) (held ed text d)) (a .end) q l₂ p m₂
               → (r ≡ p) × (m ≡ headedBy f RecField (a .start) s p m₂) → Field r
           field-bound i q l₂ m₂ p r w j v =
               let name = leafAt RecName text a in
@@ -187,19 +179,19 @@ module _ (f ed : ℕ) (text : List ℕ) (s : Spot) (l m : List ℕ) (a : Answer)
               (record {
                 meets = λ z. closed-by (λ t. fieldName f text a ++ laid f t) f ed text field bound fieldOf RecField (a .start) s l m₂ m p i (field-is z)
                     (λ t u q _. laid-field f (a .start) q name t ∙ ap (headed f RecField (a .start) q) (sym (append-assoc (laid f name) (markIn f (bytes ": ")) (laid f t))))
-                    (front (laid f) ed text bound (fieldName f text a) (inside f s) q l l₂ m₂ p i w (by-meets f ed text bound q l₂ m₂ p (j .meets z))) (v .1);
+                    (front (laid f) ed text bound (fieldName f text a) (inside f s) q l l₂ m₂ p i w (j .meets z)) (v .1);
                 goes = j .goes;
               })
 
 -- what a field binds
 module _ (f ed : ℕ) (text : List ℕ) (s : Spot) (l m : List ℕ) (n : ℕ) (a d : Answer) (e : nextToken ed text (a .end) ≡ Found d) where
   abbrev Bound : Parsed → Type 0
-  Bound r = Reads f ed text (Fits text a) (boundBy n (held ed text a) (held ed text d)) (a .end) s l r m
+  Bound r = Contract (laid f) ed text (Fits text a) (boundBy n (held ed text a) (held ed text d)) (a .end) s l r m
 
   pub bound-short : (to : Spot) → (d .kind ≡ Colon → ⊥) → Placed l s (spelt f RecVariable (a .start) (a .end) (wordOf text a)) to m → Bound (Read (record { to = to; end = a .end; next = d }))
   unfolding boundBy
   bound-short to c w =
-      reads-read f ed text (Fits text a) (boundBy n (held ed text a) (held ed text d)) (a .end) s l m (leafAt RecVariable text a) (a .end) d to (omega arith)
+      reads-read (leafAt RecVariable text a) (a .end) d to (omega arith)
       (λ z. when-false (eqb (d .kind) Colon) _ _ (ne-eqb (d .kind) Colon c) ∙ read-to ed text (leafOf RecVariable (held ed text a)) (leafAt RecVariable text a) a z (held-leaf ed text a z RecVariable)) e
       (placed-as l m (spelt f RecVariable (a .start) (a .end) (wordOf text a)) (laid f (leafAt RecVariable text a)) s to (sym (leaf-laid f text RecVariable a refl)) w)
 
@@ -210,13 +202,11 @@ module _ (f ed : ℕ) (text : List ℕ) (s : Spot) (l m : List ℕ) (n : ℕ) (a
     pub bound-bad : (r : Refusal) → nextToken ed text (d .end) ≡ Bad r → Bound (Refused r)
     unfolding boundBy
     bound-bad r g =
-        reads-no f ed text (Fits text a) (boundBy n (held ed text a) (held ed text d)) (a .end) s l m r
-        (λ z. when-true (eqb (d .kind) Colon) _ _ (eq-eqb (d .kind) Colon c) ∙ look-refused ed text d (colon .fits) _ r g)
+        reads-no r (λ z. when-true (eqb (d .kind) Colon) _ _ (eq-eqb (d .kind) Colon c) ∙ look-refused ed text d (colon .fits) _ r g)
 
-    pub bound-bind : (b : Answer) → nextToken ed text (d .end) ≡ Found b → (r : Parsed) → Reads f ed text (Fits text b) (readBind n (held ed text b)) (b .end) s l r m → Bound r
+    pub bound-bind : (b : Answer) → nextToken ed text (d .end) ≡ Found b → (r : Parsed) → ReadsBy (laid f) ed text (readBind n) b s l r m → Bound r
     unfolding boundBy
     bound-bind b g r w =
         let y = next-found ed text (d .end) b g in
-        reads-as f ed text (Fits text a) (Fits text b) (boundBy n (held ed text a) (held ed text d)) (readBind n (held ed text b)) (a .end) (b .end) s l m r
-        (omega (arith, colon .from, colon .fits .1, y .from, y .fits .1)) (λ _. y .fits)
+        reads-as (omega (arith, colon .from, colon .fits .1, y .from, y .fits .1)) (λ _. y .fits)
         (λ z. when-true (eqb (d .kind) Colon) _ _ (eq-eqb (d .kind) Colon c) ∙ look-found ed text d (colon .fits) _ b g) w

@@ -10,7 +10,6 @@ use lib.ListN.{length}
 use Rattle.classes.specs.Bytes.{bytes}
 use Rattle.words.specs.Kinds.{Less, Greater, LBrace, RBrace}
 use Rattle.tokens.specs.Refusals.{UnexpectedToken}
-use Rattle.tokens.specs.Answers.{refusal}
 use Rattle.tokens.specs.Calls.{nextToken}
 use Rattle.tokens.specs.declared.Refusal.{Refusal}
 use Rattle.tokens.specs.declared.Token.{Token as Answer}
@@ -18,7 +17,7 @@ use Rattle.tokens.specs.declared.Lexed.the-variants.{Found}
 use Rattle.records.specs.Kinds.{RecStruct, RecStructTyped}
 use Rattle.records.specs.Tree.{Tree, node, Trees, more, joined}
 use Rattle.sources.specs.Source.{Source, opened, Lexeme, lex}
-use Rattle.answers.specs.Reading.{Ans, ok, no, then, look, when, listBehind}
+use Rattle.answers.specs.Reading.{Ans, ok, no, then, look, when, Reader, listBehind}
 use Rattle.grammar.specs.Names.{chain}
 use Rattle.grammar.specs.Types.{readType}
 use Rattle.grammar.specs.Binds.{fields, structOver, unpacked}
@@ -28,18 +27,19 @@ use Rattle.forms.specs.declared.Spot.{Spot}
 use Rattle.forms.proofs.Placing.{placed-both}
 use Rattle.forms.proofs.Constructs.{laid-struct, laid-struct-typed}
 use Rattle.frames.proofs.Told.{types-behind, fields-every}
+use Rattle.parts.specs.declared.Way.{Way}
 use Rattle.parts.specs.declared.Part.{Part}
 use Rattle.parts.specs.declared.Parsed.{Parsed}
 use Rattle.parts.specs.declared.Parsed.the-variants.{Read, Refused}
-use Rattle.parts.specs.code.Meets.{Fits, held, refusedToken, Had, Reads}
+use Rattle.parts.specs.code.Meets.{Fits, held, refusedToken, Had, Contract, ReadsBy}
 use Rattle.parts.proofs.Held.{Next, next-found}
-use Rattle.parts.proofs.Contracts.{reads-no, reads-had, reads-goes, reads-not, refuses-look}
+use Rattle.parts.proofs.Contracts.{reads-no, reads-token, reads-as, reads-had, reads-goes, reads-not, goes-from, refuses-look}
 use Rattle.lists.specs.declared.Listed.{Listed}
-use Rattle.lists.specs.code.Lists.{ReadsAll}
+use Rattle.lists.specs.code.Lists.{partOf, ListContract}
 use Rattle.chains.specs.code.Parts.{Past, ReadsBehind}
-use Rattle.chains.proofs.Names.{when-true, when-false, token-refused, past-from}
-use Rattle.bind_walk.specs.code.Pieces.{fieldAt, angled, braced, partOf, endedBy, markedBy, headedBy, HadBy, ReadsBy, TypesBehind}
-use Rattle.bind_walk.proofs.Parted.{then-ok, had-by, had-not, goes-by, goes-from, list-part, front, marked, closed-by, by-as, by-refused}
+use Rattle.chains.proofs.Names.{when-true, when-false, past-from}
+use Rattle.bind_walk.specs.code.Pieces.{fieldAt, angled, braced, endedBy, markedBy, headedBy, TypesBehind}
+use Rattle.bind_walk.proofs.Parted.{then-ok, front, marked, closed-by}
 
 -- looking at the token that stands at a place
 look-at : {B : Type 0} (ed : ℕ) (text : List ℕ) (q : ℕ) (b : Answer) (g : Lexeme → Ans B) → nextToken ed text q ≡ Found b → look (lex (opened ed text q)) g ≡ g (held ed text b)
@@ -52,25 +52,24 @@ joins a b c d e = simp append-assoc
 
 -- the types behind the `<` o
 pub types-enclosed : (f ed : ℕ) (text : List ℕ) (n : ℕ) (o : Answer) (s q : Spot) (l l₂ m₂ m : List ℕ) (t : Listed) (p r : Parsed) → length l ≤ last → Placed l s (markIn f (bytes "<")) q l₂
-    → ReadsAll f ed text (Fits text o) (listBehind (readType n) Greater (held ed text o)) (o .end) q l₂ t m₂ → p ≡ partOf t → (r ≡ endedBy f 62 p) × (m ≡ markedBy f 62 p m₂)
-    → ReadsBy (angled f) ed text (Fits text o) (listBehind (readType n) Greater (held ed text o)) (o .end) s l r m
+    → ListContract f ed text (readType n) Greater o q l₂ t m₂ → p ≡ partOf t → (r ≡ endedBy f 62 p) × (m ≡ markedBy f 62 p m₂)
+    → ReadsBy (angled f) ed text (listBehind (readType n) Greater) o s l r m
 types-enclosed f ed text n o s q l l₂ m₂ m t p r h g d e w =
-    let x = listBehind (readType n) Greater (held ed text o) in
-    marked (laidItems f) ed text x f 62 (bytes "<") (Fits text o) (o .end) s q l l₂ m₂ m p r h g (list-part f ed text (Fits text o) x (o .end) q l₂ m₂ t d p e) (w .0) (w .1)
+    let items : ReadsBy (laidItems f) ed text (listBehind (readType n) Greater) o q l₂ p m₂ = rw e (d .reads) in
+    marked f 62 (bytes "<") h g items (w .0) (w .1)
 
--- a name inside a record
-pub name-at : (f ed : ℕ) (text : List ℕ) (a d : Answer) (x : Ans Tree) (s i : Spot) (l : List ℕ) (r : Parsed) (m : List ℕ) → i ≡ inside f s → ReadsBehind f ed text a d x i l r m → ReadsBehind f ed text a d x (inside f s) l r m
-name-at f ed text a d x s i l r m e w = subst (λ (z : Spot). ReadsBehind f ed text a d x z l r m) e w
+-- a name at a place
+pub name-at : {w : Way} {text : List ℕ} {reader : Reader} {a d : Answer} {s i : Spot} {l m : List ℕ} {r : Parsed} → i ≡ s → ReadsBehind w text reader a d i l r m → ReadsBehind w text reader a d s l r m
+name-at {w} {text} {reader} {a} {d} {l = l} {m = m} {r = r} e v = subst (λ (z : Spot). ReadsBehind w text reader a d z l r m) e v
 
 -- the types, or none
-module _ (f ed : ℕ) (text : List ℕ) (n : ℕ) (p : Part) (l : List ℕ) where
-  pub behind-none : (p .next .kind ≡ Less → ⊥) → TypesBehind f ed text n p l (Read p) l
+module _ (w : Way) (text : List ℕ) (p : Part) (l : List ℕ) where
+  pub behind-none : (p .next .kind ≡ Less → ⊥) → TypesBehind w text p l (Read p) l
   unfolding Past
   behind-none k = record { plain = λ _. (refl, refl); typed = λ h. absurd (k h); past = omega arith }
 
-  pub behind-types : (r : Parsed) (m : List ℕ) → p .next .kind ≡ Less
-      → ReadsBy (angled f) ed text (Fits text (p .next)) (listBehind (readType n) Greater (held ed text (p .next))) (p .next .end) (p .to) l r m → TypesBehind f ed text n p l r m
-  behind-types r m k d = record { plain = λ h. absurd (h k); typed = λ _. d; past = past-from ed text (p .next .end) r (d .goes) }
+  pub behind-types : (r : Parsed) (m : List ℕ) → p .next .kind ≡ Less → ReadsBy (angled (w .form)) (w .edition) text (listBehind (readType (w .left)) Greater) (p .next) (p .to) l r m → TypesBehind w text p l r m
+  behind-types r m k d = record { plain = λ h. absurd (h k); typed = λ _. d; past = past-from (w .edition) text (p .next .end) r (d .goes) }
 
 module _ (f ed : ℕ) (text : List ℕ) (n : ℕ) where
   -- fields
@@ -79,42 +78,38 @@ module _ (f ed : ℕ) (text : List ℕ) (n : ℕ) where
     braces = fields (readType n) (fieldAt n) (held ed text b)
 
     abbrev Fields : Parsed → Type 0
-    Fields r = ReadsBy (braced f) ed text (Fits text b) braces (b .end) s l r m
+    Fields r = Contract (braced f) ed text (Fits text b) braces (b .end) s l r m
 
     pub fields-other : (r : Parsed) → (b .kind ≡ LBrace → ⊥) → r ≡ refusedToken UnexpectedToken b → Fields r
     unfolding fields
-    fields-other r k e =
-        subst (λ (y : Parsed). Fields y) (sym e)
-        (by-refused (braced f) ed text (Fits text b) braces (b .end) s l m (refusal UnexpectedToken (b .start) (b .end))
-        (λ z. when-false (eqb (b .kind) LBrace) _ _ (ne-eqb (b .kind) LBrace k) ∙ ap no (token-refused ed text UnexpectedToken b z)))
+    fields-other r k e = reads-token UnexpectedToken b r (λ z. z) (λ _. when-false (eqb (b .kind) LBrace) _ _ (ne-eqb (b .kind) LBrace k)) e
 
     pub fields-enclosed : (q : Spot) (l₂ m₂ : List ℕ) (t : Listed) (p r : Parsed) → length l ≤ last → b .kind ≡ LBrace → Placed l s (markIn f (bytes " {")) q l₂
-        → ReadsAll f ed text (Fits text b) (listBehind (fieldAt n) RBrace (held ed text b)) (b .end) q l₂ t m₂ → p ≡ partOf t → (r ≡ endedBy f 125 p) × (m ≡ markedBy f 125 p m₂) → Fields r
+        → ListContract f ed text (fieldAt n) RBrace b q l₂ t m₂ → p ≡ partOf t → (r ≡ endedBy f 125 p) × (m ≡ markedBy f 125 p m₂) → Fields r
     unfolding fields
     fields-enclosed q l₂ m₂ t p r h k g d e w =
-        let x = listBehind (fieldAt n) RBrace (held ed text b) in
-        by-as (braced f) ed text (Fits text b) braces x (b .end) s l m r (λ _. when-true (eqb (b .kind) LBrace) _ _ (eq-eqb (b .kind) LBrace k))
-        (marked (laidItems f) ed text x f 125 (bytes " {") (Fits text b) (b .end) s q l l₂ m₂ m p r h g (list-part f ed text (Fits text b) x (b .end) q l₂ m₂ t d p e) (w .0) (w .1))
+        let items : ReadsBy (laidItems f) ed text (listBehind (fieldAt n) RBrace) b q l₂ p m₂ = rw e (d .reads) in
+        reads-as (omega arith) (λ z. z) (λ _. when-true (eqb (b .kind) LBrace) _ _ (eq-eqb (b .kind) LBrace k)) (marked f 125 (bytes " {") h g items (w .0) (w .1))
 
   -- structs
-  module _ (a : Answer) (s i : Spot) (l l₁ : List ℕ) (c : Parsed) (d : Reads f ed text (Fits text a) (chain (held ed text a)) (a .end) i l c l₁) where
+  module _ (a : Answer) (s i : Spot) (l l₁ : List ℕ) (c : Parsed) (d : ReadsBy (laid f) ed text chain a i l c l₁) where
     abbrev struct : Ans Tree
     struct = unpacked (readType n) (fieldAt n) (held ed text a)
 
     abbrev Unpack : Parsed → List ℕ → Type 0
-    Unpack r m = Reads f ed text (Fits text a) struct (a .end) s l r m
+    Unpack r m = Contract (laid f) ed text (Fits text a) struct (a .end) s l r m
 
     -- the name is refused, or the token behind it
     pub unpack-unnamed : (r : Refusal) → c ≡ Refused r → Unpack (Refused r) l₁
     unfolding unpacked structOver
-    unpack-unnamed r e = reads-no f ed text (Fits text a) struct (a .end) s l l₁ r (λ z. refuses-look (chain (held ed text a)) r _ (reads-not f ed text (Fits text a) (chain (held ed text a)) (a .end) i l l₁ c d r e z))
+    unpack-unnamed r e = reads-no r (λ z. refuses-look (chain (held ed text a)) r _ (reads-not d r e z))
 
     module _ (p : Part) (e : c ≡ Read p) where
-      name-had : Fits text a → Had f ed text (chain (held ed text a)) i l p l₁
-      name-had = reads-had f ed text (Fits text a) (chain (held ed text a)) (a .end) i l l₁ c d p e
+      name-had : Fits text a → Had (laid f) ed text (chain (held ed text a)) i l p l₁
+      name-had = reads-had d p e
 
       name-goes : (a .end ≤ p .end) × (nextToken ed text (p .end) ≡ Found (p .next))
-      name-goes = reads-goes f ed text (Fits text a) (chain (held ed text a)) (a .end) i l l₁ c d p e
+      name-goes = reads-goes d p e
 
       abbrev here : Next ed text (p .end) (p .next)
       here = next-found ed text (p .end) (p .next) (name-goes .1)
@@ -134,7 +129,7 @@ module _ (f ed : ℕ) (text : List ℕ) (n : ℕ) where
 
       -- no types
       unpack-plain : length l ≤ last → i ≡ inside f s → (p .next .kind ≡ Less → ⊥) → (q r : Parsed) (m₂ m : List ℕ)
-          → ReadsBy (braced f) ed text (Fits text (p .next)) (fields (readType n) (fieldAt n) (held ed text (p .next))) (p .next .end) (p .to) l₁ q m₂ → (r ≡ q) × (m ≡ headedBy f RecStruct (a .start) s q m₂) → Unpack r m
+          → ReadsBy (braced f) ed text (fields (readType n) (fieldAt n)) (p .next) (p .to) l₁ q m₂ → (r ≡ q) × (m ≡ headedBy f RecStruct (a .start) s q m₂) → Unpack r m
       unpack-plain h j k q r m₂ m g w =
           let y = fields (readType n) (fieldAt n) (held ed text (p .next)) in
           subst (λ (x : Parsed). Unpack x m) (sym (w .0))
@@ -145,12 +140,12 @@ module _ (f ed : ℕ) (text : List ℕ) (n : ℕ) where
                 (is-named z ∙ when-false (eqb (p .next .kind) Less) _ _ (ne-eqb (p .next .kind) Less k))
                 (λ fs u x _. laid-struct f (a .start) x (v .what) fs)
                 (front (braced f) ed text y (laid f (v .what)) (inside f s) (p .to) l l₁ m₂ q h (subst (λ (x : Spot). Placed l x (laid f (v .what)) (p .to) l₁) j (v .bytes)) (g .meets (here .fits))) (w .1));
-            goes = goes-from ed text (p .next .end) q (g .goes) (a .end) (omega (arith, name-goes .0, here .from, here .fits .1));
+            goes = goes-from ed text (p .next .end) (a .end) q (omega (arith, name-goes .0, here .from, here .fits .1)) (g .goes);
           })
 
       -- types in `<` and `>`
       module _ (k : p .next .kind ≡ Less) (t : Parsed) (l₂ : List ℕ)
-          (g : ReadsBy (angled f) ed text (Fits text (p .next)) (listBehind (readType n) Greater (held ed text (p .next))) (p .next .end) (p .to) l₁ t l₂) where
+          (g : ReadsBy (angled f) ed text (listBehind (readType n) Greater) (p .next) (p .to) l₁ t l₂) where
         abbrev types : Ans Trees
         types = listBehind (readType n) Greater (held ed text (p .next))
 
@@ -159,14 +154,14 @@ module _ (f ed : ℕ) (text : List ℕ) (n : ℕ) where
 
         unpack-untyped : (r : Refusal) → t ≡ Refused r → Unpack (Refused r) l₂
         unpack-untyped r x =
-            reads-no f ed text (Fits text a) struct (a .end) s l l₂ r (λ z. is-typed z ∙ refuses-look types r _ (had-not (angled f) ed text types (p .to) l₁ t l₂ (g .meets (here .fits)) r x))
+            reads-no r (λ z. is-typed z ∙ refuses-look types r _ (reads-not g r x (here .fits)))
 
         module _ (q : Part) (x : t ≡ Read q) where
-          types-had : HadBy (angled f) ed text types (p .to) l₁ q l₂
-          types-had = had-by (angled f) ed text types (p .to) l₁ t l₂ (g .meets (here .fits)) q x
+          types-had : Had (angled f) ed text types (p .to) l₁ q l₂
+          types-had = reads-had g q x (here .fits)
 
           types-goes : (p .next .end ≤ q .end) × (nextToken ed text (q .end) ≡ Found (q .next))
-          types-goes = goes-by ed text (p .next .end) t (g .goes) q x
+          types-goes = reads-goes g q x
 
           abbrev there : Next ed text (q .end) (q .next)
           there = next-found ed text (q .end) (q .next) (types-goes .1)
@@ -189,7 +184,7 @@ module _ (f ed : ℕ) (text : List ℕ) (n : ℕ) where
               laid-struct-typed f (a .start) e y (types-had .what) fs (types-behind n (held ed text (p .next)) (types-had .what) (opened ed text (q .end)) (types-had .is)) (fields-every n (held ed text (q .next)) fs u o)
               ∙ ap (headed f RecStructTyped (a .start) e) (joins (laid f y) (markIn f (bytes "<")) (laidItems f (types-had .what)) (markIn f (bytes ">")) (braced f fs))
 
-          unpack-typed : length l ≤ last → i ≡ inside f s → (v r : Parsed) (m₂ m : List ℕ) → ReadsBy (braced f) ed text (Fits text (q .next)) rest (q .next .end) (q .to) l₂ v m₂
+          unpack-typed : length l ≤ last → i ≡ inside f s → (v r : Parsed) (m₂ m : List ℕ) → Contract (braced f) ed text (Fits text (q .next)) rest (q .next .end) (q .to) l₂ v m₂
               → (r ≡ v) × (m ≡ headedBy f RecStructTyped (a .start) s v m₂) → Unpack r m
           unpack-typed h j v r m₂ m o w =
               subst (λ (x : Parsed). Unpack x m) (sym (w .0))
@@ -200,11 +195,11 @@ module _ (f ed : ℕ) (text : List ℕ) (n : ℕ) where
                     closed-by (λ fs. before ++ braced f fs) f ed text struct rest (λ fs e. node RecStructTyped (a .start) e (more y (joined (types-had .what) fs))) RecStructTyped (a .start) s l m₂ m v h (is-both z)
                     (λ fs u e x. struct-laid y fs u e x)
                     (front (braced f) ed text rest before (inside f s) (q .to) l l₂ m₂ v h (both-laid h j z) (o .meets (there .fits))) (w .1));
-                goes = goes-from ed text (q .next .end) v (o .goes) (a .end) (omega (arith, name-goes .0, here .from, here .fits .1, types-goes .0, there .from, there .fits .1));
+                goes = goes-from ed text (q .next .end) (a .end) v (omega (arith, name-goes .0, here .from, here .fits .1, types-goes .0, there .from, there .fits .1)) (o .goes);
               })
 
       -- types or none
-      module _ (t : Parsed) (l₂ : List ℕ) (g : TypesBehind f ed text n p l₁ t l₂) where
+      module _ (t : Parsed) (l₂ : List ℕ) (g : TypesBehind (record { form = f; edition = ed; left = n }) text p l₁ t l₂) where
         pub unpack-bad : (r : Refusal) → t ≡ Refused r → Unpack (Refused r) l₂
         unpack-bad r x = go (eqb (p .next .kind) Less) refl
           where
@@ -216,7 +211,7 @@ module _ (f ed : ℕ) (text : List ℕ) (n : ℕ) where
                 absurd (omega arith)
 
         abbrev Fielded : Part → List ℕ → Parsed → List ℕ → Type 0
-        Fielded q k v m₂ = ReadsBy (braced f) ed text (Fits text (q .next)) (fields (readType n) (fieldAt n) (held ed text (q .next))) (q .next .end) (q .to) k v m₂
+        Fielded q k v m₂ = ReadsBy (braced f) ed text (fields (readType n) (fieldAt n)) (q .next) (q .to) k v m₂
 
         pub unpack-fields : length l ≤ last → i ≡ inside f s → (k : ℕ) → k ≡ cond (eqb (p .next .kind) Less) RecStructTyped RecStruct → (q : Part) → t ≡ Read q → (v r : Parsed) (m₂ m : List ℕ) → Fielded q l₂ v m₂
             → (r ≡ v) × (m ≡ headedBy f k (a .start) s v m₂) → Unpack r m

@@ -1,20 +1,18 @@
 // Bindings, their fields, and the two lists of bindings, laid down in the form that the caller asks for.
 ghost use mathlib.Core.Path.{_≡_};
-ghost use mathlib.Core.Bool.{true, cond};
+ghost use mathlib.Core.Bool.{cond};
 ghost use lib.Dec.{eqb};
 ghost use Rattle.words.specs.Kinds.{Less, Greater, RBrace};
-ghost use Rattle.tokens.specs.Calls.{nextToken};
-ghost use Rattle.tokens.specs.declared.Lexed.the-variants.{Found};
 ghost use Rattle.records.specs.Kinds.{RecStruct, RecStructTyped};
 ghost use Rattle.answers.specs.Reading.{listBehind};
 ghost use Rattle.grammar.specs.Types.{readType};
 ghost use Rattle.grammar.specs.Names.{chain};
 ghost use Rattle.grammar.specs.Binds.{fields, unpacked, readBind, readBindList, readLambdaList};
 ghost use Rattle.forms.specs.code.Spots.{inside, Placed};
-ghost use Rattle.parts.specs.code.Meets.{Fits, held, Reads};
-ghost use Rattle.lists.specs.code.Lists.{nextItem, Steps, ReadsAll};
-ghost use Rattle.chains.specs.code.Parts.{begins, ReadsBehind};
-ghost use Rattle.bind_walk.specs.code.Pieces.{structKind, variableKinds, fieldAt, boundBy, fieldName, angled, braced, partOf, endedBy, markedBy, headedBy, ReadsBy, TypesBehind};
+ghost use Rattle.parts.specs.code.Meets.{ReadsBy, Reads};
+ghost use Rattle.lists.specs.code.Lists.{StepsAt, partOf, ReadsList};
+ghost use Rattle.chains.specs.code.Parts.{ReadsNamed, ReadsBehind};
+ghost use Rattle.bind_walk.specs.code.Pieces.{structKind, variableKinds, fieldAt, fieldName, angled, braced, endedBy, markedBy, headedBy, ReadsBound, TypesBehind};
 use forms::Spot;
 use lists::Listed;
 use lists::Step;
@@ -138,7 +136,7 @@ fn put_field_name(w: Way, text: &[u8], a: Token, out: &mut [u8], s: Spot) -> Spo
 
 // The types of a struct, between the `<` o and `>`.
 fn types_at(w: Way, text: &[u8], o: Token, out: &mut [u8], s: Spot) -> Parsed
-    ensures { λ r. ⌜ ReadsBy (angled (w .form)) (w .edition) (now (text .entry)) (Fits (now (text .entry)) o) (listBehind (readType (w .left)) Greater (held (w .edition) (now (text .entry)) o)) (o .end) s (now (out .entry)) r (now (out .exit)) ⌝ }
+    ensures { λ r. ⌜ ReadsBy (angled (w .form)) (w .edition) (now (text .entry)) (listBehind (readType (w .left)) Greater) o s (now (out .entry)) r (now (out .exit)) ⌝ }
 {
     let p = forms::put_mark(w.form, b'<', out, s);
     let l = type_walk::parse_type_args(w, text, o, out, p);
@@ -147,7 +145,7 @@ fn types_at(w: Way, text: &[u8], o: Token, out: &mut [u8], s: Spot) -> Parsed
 
 // The types of a struct behind its name, which is p: in `<` and `>`, or none.
 fn types_behind(w: Way, text: &[u8], p: Part, out: &mut [u8]) -> Parsed
-    ensures { λ r. ⌜ TypesBehind (w .form) (w .edition) (now (text .entry)) (w .left) p (now (out .entry)) r (now (out .exit)) ⌝ }
+    ensures { λ r. ⌜ TypesBehind w (now (text .entry)) p (now (out .entry)) r (now (out .exit)) ⌝ }
 {
     if p.next.kind != LESS {
         return Parsed::Read(p);
@@ -157,7 +155,7 @@ fn types_behind(w: Way, text: &[u8], p: Part, out: &mut [u8]) -> Parsed
 
 // The name of the struct that starts at s, whose first token is a, and n the one behind it.
 fn name_inside(w: Way, text: &[u8], a: Token, n: Token, out: &mut [u8], s: Spot) -> Parsed
-    ensures { λ r. ⌜ ReadsBehind (w .form) (w .edition) (now (text .entry)) a n (chain (held (w .edition) (now (text .entry)) a)) (inside (w .form) s) (now (out .entry)) r (now (out .exit)) ⌝ }
+    ensures { λ r. ⌜ ReadsBehind w (now (text .entry)) chain a n (inside (w .form) s) (now (out .entry)) r (now (out .exit)) ⌝ }
 {
     let i = forms::step_inside(w.form, s);
     chains::name_behind(w, text, a, n, out, i)
@@ -165,7 +163,7 @@ fn name_inside(w: Way, text: &[u8], a: Token, n: Token, out: &mut [u8], s: Spot)
 
 // The binding whose first token is a; the levels that are left count its own.
 fn parse_bind(w: Way, text: &[u8], a: Token, out: &mut [u8], s: Spot) -> Parsed
-    ensures { λ r. ⌜ Reads (w .form) (w .edition) (now (text .entry)) (Fits (now (text .entry)) a) (readBind (w .left) (held (w .edition) (now (text .entry)) a)) (a .end) s (now (out .entry)) r (now (out .exit)) ⌝ }
+    ensures { λ r. ⌜ Reads w (now (text .entry)) (readBind (w .left)) a s (now (out .entry)) r (now (out .exit)) ⌝ }
 {
     if w.left == 0 {
         return parts::too_deep(a);
@@ -198,7 +196,7 @@ fn parse_bind(w: Way, text: &[u8], a: Token, out: &mut [u8], s: Spot) -> Parsed
 // The struct that the name at a begins, with its types, if any, and its fields; n is the token behind a. The
 // levels that are left count those of a type and of a field.
 fn unpack_at(w: Way, text: &[u8], a: Token, n: Token, out: &mut [u8], s: Spot) -> Parsed
-    ensures { λ r. ⌜ (nextToken (w .edition) (now (text .entry)) (a .end) ≡ Found n → begins a ≡ true → Reads (w .form) (w .edition) (now (text .entry)) (Fits (now (text .entry)) a) (unpacked (readType (w .left)) (fieldAt (w .left)) (held (w .edition) (now (text .entry)) a)) (a .end) s (now (out .entry)) r (now (out .exit))) ⌝ }
+    ensures { λ r. ⌜ ReadsNamed w (now (text .entry)) (unpacked (readType (w .left)) (fieldAt (w .left))) a n s (now (out .entry)) r (now (out .exit)) ⌝ }
 {
     let c = name_inside(w, text, a, n, out, s);
     match c {
@@ -219,7 +217,7 @@ fn unpack_at(w: Way, text: &[u8], a: Token, n: Token, out: &mut [u8], s: Spot) -
 
 // The fields in the braces that b opens.
 fn fields_at(w: Way, text: &[u8], b: Token, out: &mut [u8], s: Spot) -> Parsed
-    ensures { λ r. ⌜ ReadsBy (braced (w .form)) (w .edition) (now (text .entry)) (Fits (now (text .entry)) b) (fields (readType (w .left)) (fieldAt (w .left)) (held (w .edition) (now (text .entry)) b)) (b .end) s (now (out .entry)) r (now (out .exit)) ⌝ }
+    ensures { λ r. ⌜ ReadsBy (braced (w .form)) (w .edition) (now (text .entry)) (fields (readType (w .left)) (fieldAt (w .left))) b s (now (out .entry)) r (now (out .exit)) ⌝ }
 {
     if b.kind != L_BRACE {
         return parts::unexpected(b);
@@ -231,7 +229,7 @@ fn fields_at(w: Way, text: &[u8], b: Token, out: &mut [u8], s: Spot) -> Parsed
 
 // The list of fields that o opens, its items one behind the other (parse_comma_list of the Rust).
 fn field_list(w: Way, text: &[u8], o: Token, out: &mut [u8], s: Spot) -> Listed
-    ensures { λ r. ⌜ ReadsAll (w .form) (w .edition) (now (text .entry)) (Fits (now (text .entry)) o) (listBehind (fieldAt (w .left)) RBrace (held (w .edition) (now (text .entry)) o)) (o .end) s (now (out .entry)) r (now (out .exit)) ⌝ }
+    ensures { λ r. ⌜ ReadsList w (now (text .entry)) (fieldAt (w .left)) RBrace o s (now (out .entry)) r (now (out .exit)) ⌝ }
 {
     let mut i = o.end;
     let mut to = forms::move_by(s, 0);
@@ -267,7 +265,7 @@ fn field_step(
     out: &mut [u8],
     s: Spot,
 ) -> Step
-    ensures { λ r. ⌜ Steps (w .form) (w .edition) (now (text .entry)) (fieldAt (w .left)) RBrace o first s (now (out .entry)) (nextItem RBrace (nextToken (w .edition) (now (text .entry)) at)) r (now (out .exit)) ⌝ }
+    ensures { λ r. ⌜ StepsAt w (now (text .entry)) (fieldAt (w .left)) RBrace o at first s (now (out .entry)) r (now (out .exit)) ⌝ }
 {
     let b = lists::next_item(w.edition, R_BRACE, text, at);
     match b {
@@ -283,7 +281,7 @@ fn field_step(
 
 // The field whose first token is a. Its level is tested before its name is read, and its binding adds none.
 fn parse_bind_field(w: Way, text: &[u8], a: Token, out: &mut [u8], s: Spot) -> Parsed
-    ensures { λ r. ⌜ Reads (w .form) (w .edition) (now (text .entry)) (Fits (now (text .entry)) a) (fieldAt (w .left) (held (w .edition) (now (text .entry)) a)) (a .end) s (now (out .entry)) r (now (out .exit)) ⌝ }
+    ensures { λ r. ⌜ Reads w (now (text .entry)) (fieldAt (w .left)) a s (now (out .entry)) r (now (out .exit)) ⌝ }
 {
     if w.left == 0 { // also where the field binds its own name
         return parts::too_deep(a);
@@ -305,7 +303,7 @@ fn parse_bind_field(w: Way, text: &[u8], a: Token, out: &mut [u8], s: Spot) -> P
 // What the field named a binds, n being the token behind its name: behind `:` a binding, else a variable of
 // the same name.
 fn field_bind(w: Way, text: &[u8], a: Token, n: Token, out: &mut [u8], s: Spot) -> Parsed
-    ensures { λ r. ⌜ (nextToken (w .edition) (now (text .entry)) (a .end) ≡ Found n → Reads (w .form) (w .edition) (now (text .entry)) (Fits (now (text .entry)) a) (boundBy (w .left) (held (w .edition) (now (text .entry)) a) (held (w .edition) (now (text .entry)) n)) (a .end) s (now (out .entry)) r (now (out .exit))) ⌝ }
+    ensures { λ r. ⌜ ReadsBound w (now (text .entry)) a n s (now (out .entry)) r (now (out .exit)) ⌝ }
 {
     if n.kind != COLON {
         let to = forms::put_leaf(w.form, REC_VARIABLE, text, a, out, s);
@@ -325,7 +323,7 @@ fn field_bind(w: Way, text: &[u8], a: Token, n: Token, out: &mut [u8], s: Spot) 
 // The list of bindings that o opens and a token of the kind `close` ends, its items one behind the other
 // (parse_comma_list of the Rust).
 fn bind_list(w: Way, close: u8, text: &[u8], o: Token, out: &mut [u8], s: Spot) -> Listed
-    ensures { λ r. ⌜ ReadsAll (w .form) (w .edition) (now (text .entry)) (Fits (now (text .entry)) o) (listBehind (readBind (w .left)) close (held (w .edition) (now (text .entry)) o)) (o .end) s (now (out .entry)) r (now (out .exit)) ⌝ }
+    ensures { λ r. ⌜ ReadsList w (now (text .entry)) (readBind (w .left)) close o s (now (out .entry)) r (now (out .exit)) ⌝ }
 {
     let mut i = o.end;
     let mut to = forms::move_by(s, 0);
@@ -362,7 +360,7 @@ fn bind_step(
     out: &mut [u8],
     s: Spot,
 ) -> Step
-    ensures { λ r. ⌜ Steps (w .form) (w .edition) (now (text .entry)) (readBind (w .left)) close o first s (now (out .entry)) (nextItem close (nextToken (w .edition) (now (text .entry)) at)) r (now (out .exit)) ⌝ }
+    ensures { λ r. ⌜ StepsAt w (now (text .entry)) (readBind (w .left)) close o at first s (now (out .entry)) r (now (out .exit)) ⌝ }
 {
     let b = lists::next_item(w.edition, close, text, at);
     match b {
@@ -378,7 +376,7 @@ fn bind_step(
 
 // The bindings in brackets, or the one binding, whose first token is a. The levels begin here.
 pub fn parse_bind_list(w: Way, text: &[u8], a: Token, out: &mut [u8], s: Spot) -> Parsed
-    ensures { λ r. ⌜ Reads (w .form) (w .edition) (now (text .entry)) (Fits (now (text .entry)) a) (readBindList (held (w .edition) (now (text .entry)) a)) (a .end) s (now (out .entry)) r (now (out .exit)) ⌝ }
+    ensures { λ r. ⌜ Reads w (now (text .entry)) readBindList a s (now (out .entry)) r (now (out .exit)) ⌝ }
 {
     let outermost = Way {
         form: w.form,
@@ -399,7 +397,7 @@ pub fn parse_bind_list(w: Way, text: &[u8], a: Token, out: &mut [u8], s: Spot) -
 
 // The bindings of a lambda, between the `|` a and the next. The levels begin here.
 pub fn parse_lambda_bind_list(w: Way, text: &[u8], a: Token, out: &mut [u8], s: Spot) -> Parsed
-    ensures { λ r. ⌜ Reads (w .form) (w .edition) (now (text .entry)) (Fits (now (text .entry)) a) (readLambdaList (held (w .edition) (now (text .entry)) a)) (a .end) s (now (out .entry)) r (now (out .exit)) ⌝ }
+    ensures { λ r. ⌜ Reads w (now (text .entry)) readLambdaList a s (now (out .entry)) r (now (out .exit)) ⌝ }
 {
     if a.kind != PIPE {
         return parts::unexpected(a);

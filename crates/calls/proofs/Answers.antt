@@ -40,7 +40,7 @@ use Rattle.forms.proofs.Sizes.{narrow-size, wide-size}
 use Rattle.parts.specs.declared.Part.{Part}
 use Rattle.parts.specs.declared.Parsed.{Parsed}
 use Rattle.parts.specs.declared.Parsed.the-variants.{Read, Refused}
-use Rattle.parts.specs.code.Meets.{Fits, held, Refuses, Had, Meets, Follows, Reads}
+use Rattle.parts.specs.code.Meets.{Fits, held, Refuses, Had, Meets, Follows, ReadsBy}
 use Rattle.parts.proofs.Held.{held-end, next-found, next-refused}
 use Rattle.calls.specs.declared.Answer.{Answer}
 use Rattle.calls.specs.declared.Answer.the-variants.{Item as Accepted, Refused as Rejected}
@@ -75,12 +75,9 @@ module _ (kind : ℕ) (a : Lexeme) where
         unfolding readKind when
         kind-lambda k = rw (ne-eqb kind 1 k₁, ne-eqb kind 2 k₂, ne-eqb kind 3 k₃, ne-eqb kind 4 k)
 
-pub reads-by : (form ed : ℕ) (text : List ℕ) (fits : Type 0) (x y : Ans Tree) (from : ℕ) (s : Spot) (l m : List ℕ) (r : Parsed) → x ≡ y → Reads form ed text fits y from s l r m → Reads form ed text fits x from s l r m
-reads-by form ed text fits x y from s l m r e d = subst (λ (z : Ans Tree). Reads form ed text fits z from s l r m) (sym e) d
-
 -- an item behind what stands in front
 pub laid-down : (form : ℕ) (ask : Asked) (a : First) (l k m : List ℕ) (s q : Spot) (r : Parsed) → length l ≤ last → s ≡ atStart → Placed l s (front form) q k
-    → Reads form (ask .edition) (ask .text) (Fits (ask .text) a) (readFrom ask a) (a .end) q k r m → LaidDown form ask a l r m
+    → ReadsBy (laid form) (ask .edition) (ask .text) (readKind (ask .kind)) a q k r m → LaidDown form ask a l r m
 laid-down form ask a l k m s q r h e d w = record { from = q; fronted = k; short = h; inFront = subst (λ (z : Spot). Placed l z (front form) q k) e d; reads = w }
 
 -- the item by what the walk answers
@@ -103,7 +100,7 @@ module _ (form : ℕ) (ask : Asked) (a : First) (l m : List ℕ) (f : Fits (ask 
   item-laid : (p : Part) → LaidDown form ask a l (Read p) m → Laid p
   unfolding Meets Follows finished followed written
   item-laid p d =
-      let h : Had form (ask .edition) (ask .text) (readFrom ask a) (d .from) (d .fronted) p m = d .reads .meets f in
+      let h : Had (laid form) (ask .edition) (ask .text) (readFrom ask a) (d .from) (d .fronted) p m = d .reads .meets f in
       let n = next-found (ask .edition) (ask .text) (p .end) (p .next) (d .reads .goes .1) in
       let e = held-end (ask .edition) (ask .text) (p .next) (n .fits) in
       record {

@@ -10,10 +10,10 @@ use Rattle.records.specs.Tree.{Tree}
 use Rattle.records.specs.Stored.{stored, unspelled, records}
 use Rattle.sources.specs.Source.{Lexeme}
 use Rattle.grammar.specs.Items.{item, Asked, readItem}
-use Rattle.forms.specs.Forms.{FormNarrow, FormWide, front, written, narrowLimit, formOf, treeRoom, Fitting}
+use Rattle.forms.specs.Forms.{FormNarrow, FormWide, front, written, narrowLimit, formOf, treeRoom}
 use Rattle.forms.proofs.Constructs.{written-stored}
 use Rattle.forms.proofs.Apart.{form-narrow, form-cases, narrow-begins, wide-begins}
-use Rattle.frames.proofs.Faithful.{item-room, item-fitting, item-faithful}
+use Rattle.frames.proofs.Faithful.{item-room, item-faithful}
 use Rattle.calls.specs.Calls.{roomed, filled, read, readBuffer}
 use Rattle.calls.proofs.Room.{roomed-fits, room-for}
 
@@ -44,10 +44,7 @@ module _ (q : Asked) (x : Tree) (t : Lexeme) where
     λ e. ap (λ (f : ℕ). take 4 (written f x)) e ∙ wide-begins x,
   )
 
-  -- each number fits its bytes, and `treeRoom` bytes are room enough
-  pub read-fitting : (room : ℕ) → read q room ≡ item x t → Fitting (formOf (q .text) x) x
-  read-fitting room e = item-fitting q x t (read-item room e)
-
+  -- `treeRoom` bytes are room enough
   pub room-enough : (room : ℕ) → readItem q ≡ item x t → treeRoom (length (q .text)) ≤ room → read q room ≡ item x t
   unfolding read
   room-enough room e h = ap (roomed (formOf (q .text)) room) e ∙ room-for (formOf (q .text)) room x t (omega (arith, item-room q x t e, h))

@@ -5,10 +5,11 @@ ghost use Prim.Native.Nat.{_-_, _≤_};
 ghost use lib.ListN.{length};
 ghost use Rattle.tokens.specs.Calls.{nextToken};
 ghost use Rattle.grammar.specs.Items.{readKind, asked, noKind, faultOf};
-ghost use Rattle.forms.specs.Forms.{narrowLimit};
-ghost use Rattle.parts.specs.code.Meets.{Fits, held, Reads};
+ghost use Rattle.forms.specs.Forms.{narrowLimit, laid};
+ghost use Rattle.parts.specs.code.Meets.{ReadsBy};
 ghost use Rattle.calls.specs.Calls.{answered, readBuffer, displayed, displayBuffer};
-ghost use Rattle.calls.specs.code.Given.{refusedWith, atStart, firstForm, roomIn, shownEnd, unprintableValue, unprintableAt, replacedBy, UnprintableFrom, LaidDown, Widens, Longer, Lays, answerOf, bufferOf, Calls, Displays};
+ghost use Rattle.calls.specs.code.Given.{refusedWith, atStart, firstForm, roomIn, LaidDown, Widens, Longer, Lays, answerOf, bufferOf, Calls};
+ghost use Rattle.calls.specs.code.Given.{shownEnd, unprintableValue, unprintableAt, replacedBy, UnprintableFrom, Displays};
 use classes::SHOWN;
 use forms::FORM_LINE;
 use forms::FORM_NARROW;
@@ -78,7 +79,7 @@ fn parse_item(
     out: &mut [u8],
     s: Spot,
 ) -> Parsed
-    ensures { λ r. ⌜ Reads form edition (now (text .entry)) (Fits (now (text .entry)) a) (readKind kind (held edition (now (text .entry)) a)) (a .end) s (now (out .entry)) r (now (out .exit)) ⌝ }
+    ensures { λ r. ⌜ ReadsBy (laid form) edition (now (text .entry)) (readKind kind) a s (now (out .entry)) r (now (out .exit)) ⌝ }
 {
     let w = Way {
         form: form,

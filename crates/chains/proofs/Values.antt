@@ -12,7 +12,6 @@ use lib.Seq.{getD-drop}
 use Rattle.classes.specs.Bytes.{bytes}
 use Rattle.words.specs.Kinds.{Identifier, NumValue, NumTypedValue, ByteStringValue, ColonColon, False, True, AtSign}
 use Rattle.tokens.specs.Refusals.{UnexpectedToken, NoValue}
-use Rattle.tokens.specs.Answers.{refusal}
 use Rattle.tokens.specs.Calls.{nextToken}
 use Rattle.tokens.specs.declared.Refusal.{Refusal}
 use Rattle.tokens.specs.declared.Token.{Token}
@@ -20,7 +19,7 @@ use Rattle.tokens.specs.declared.Lexed.the-variants.{Found, Refused as Bad}
 use Rattle.records.specs.Kinds.{RecName, RecAddress, RecAddressValue, RecUnit}
 use Rattle.records.specs.Tree.{node, none, more}
 use Rattle.sources.specs.Source.{start, end}
-use Rattle.answers.specs.Reading.{no, leafOf}
+use Rattle.answers.specs.Reading.{leafOf}
 use Rattle.grammar.specs.Names.{firstPart}
 use Rattle.grammar.specs.Values.{leafKind, valueKind, leafValue, addressValue, value}
 use Rattle.forms.specs.Forms.{markIn, spelt, laid, headed}
@@ -30,11 +29,11 @@ use Rattle.forms.proofs.Placing.{placed-as, placed-both, placed-headed}
 use Rattle.forms.proofs.Constructs.{laid-address}
 use Rattle.parts.specs.declared.Parsed.{Parsed}
 use Rattle.parts.specs.declared.Parsed.the-variants.{Read, Refused}
-use Rattle.parts.specs.code.Meets.{Fits, held, refusedToken, followedBy, Reads}
+use Rattle.parts.specs.code.Meets.{Fits, held, refusedToken, followedBy, ReadsBy}
 use Rattle.parts.proofs.Held.{held-end, held-leaf, next-found, look-found, look-refused}
-use Rattle.parts.proofs.Contracts.{reads-no, reads-read, reads-finished, reads-as}
+use Rattle.parts.proofs.Contracts.{reads-no, reads-token, reads-read, reads-finished, reads-as}
 use Rattle.chains.specs.code.Parts.{leafAt, firstAt, addressAt}
-use Rattle.chains.proofs.Names.{first-other, leaf-laid, when-true, when-false, token-refused, read-to, other}
+use Rattle.chains.proofs.Names.{first-other, leaf-laid, when-true, when-false, read-to}
 
 -- the first byte of a word
 first-taken : (n : ℕ) (l : List ℕ) → 0 < n → getD (take n l) 0 0 ≡ getD l 0 0
@@ -98,46 +97,42 @@ address-placed f text c a b l m₁ m₂ m s i p r h g x z y d =
 module _ (f ed : ℕ) (text : List ℕ) (s : Spot) (l m : List ℕ) (a : Token) where
   -- behind `@`
   abbrev Address : Parsed → Type 0
-  Address r = Reads f ed text (Fits text a) (addressValue (held ed text a)) (a .end) s l r m
+  Address r = ReadsBy (laid f) ed text addressValue a s l r m
 
   pub address-bad : (r : Refusal) → nextToken ed text (a .end) ≡ Bad r → Address (Refused r)
   unfolding addressValue
-  address-bad r h = reads-no f ed text (Fits text a) (addressValue (held ed text a)) (a .end) s l m r (λ z. look-refused ed text a z _ r h)
+  address-bad r h = reads-no r (λ z. look-refused ed text a z _ r h)
 
   module _ (b : Token) (h : nextToken ed text (a .end) ≡ Found b) (c : Bool) (g : c ≡ (eqb (b .kind) Identifier || eqb (b .kind) NumValue)) where
     pub address-other : (r : Parsed) → c ≡ false → r ≡ refusedToken UnexpectedToken b → Address r
     unfolding addressValue
     address-other r k e =
-        other f ed text s l m (Fits text a) (addressValue (held ed text a)) (a .end) b r (next-found ed text (a .end) b h .fits)
+        reads-token UnexpectedToken b r (λ _. next-found ed text (a .end) b h .fits)
         (λ z. look-found ed text a z _ b h ∙ when-false (eqb (b .kind) Identifier || eqb (b .kind) NumValue) _ _ (sym g ∙ k)) e
 
     pub address-read : (to : Spot) (r : Parsed) → c ≡ true → Placed l s (laid f (addressAt text a b)) to m → r ≡ followedBy to (b .end) (nextToken ed text (b .end)) → Address r
     unfolding addressValue
     address-read to r k w e =
         let n = next-found ed text (a .end) b h in
-        reads-finished f ed text (Fits text a) (addressValue (held ed text a)) (a .end) s l m (addressAt text a b) (b .end) to r (omega (arith, n .from, n .fits .1)) (λ z. (n .fits .0, n .fits .2))
+        reads-finished (addressAt text a b) (b .end) to r (omega (arith, n .from, n .fits .1)) (λ z. (n .fits .0, n .fits .2))
         (λ z. look-found ed text a z _ b h ∙ when-true (eqb (b .kind) Identifier || eqb (b .kind) NumValue) _ _ (sym g ∙ k)
         ∙ read-to ed text (node RecAddressValue (start (held ed text a)) (end (held ed text b)) (more (firstPart (held ed text b)) none)) (addressAt text a b) b (n .fits) (rw (held-end ed text b (n .fits)))) w e
 
   -- by the first token
   abbrev Value : Parsed → Type 0
-  Value r = Reads f ed text (Fits text a) (value (held ed text a)) (a .end) s l r m
+  Value r = ReadsBy (laid f) ed text value a s l r m
 
   pub value-address : (r : Parsed) → a .kind ≡ AtSign → Address r → Value r
   unfolding value
-  value-address r k w = reads-as f ed text (Fits text a) (Fits text a) (value (held ed text a)) (addressValue (held ed text a)) (a .end) (a .end) s l m r (omega arith) (λ z. z) (λ z. when-true (eqb (a .kind) AtSign) _ _ (eq-eqb (a .kind) AtSign k)) w
-
-  -- a refusal of the token itself
-  itself-refused : (r : Parsed) → (Fits text a → value (held ed text a) ≡ no (refusal NoValue (a .start) (a .end))) → r ≡ refusedToken NoValue a → Value r
-  itself-refused r h e = subst (λ (y : Parsed). Reads f ed text (Fits text a) (value (held ed text a)) (a .end) s l y m) (sym e) (reads-no f ed text (Fits text a) (value (held ed text a)) (a .end) s l m (refusal NoValue (a .start) (a .end)) h)
+  value-address r k w = reads-as (omega arith) (λ z. z) (λ z. when-true (eqb (a .kind) AtSign) _ _ (eq-eqb (a .kind) AtSign k)) w
 
   module _ (k : (a .kind ≡ AtSign → ⊥)) (b c : ℕ) (i : b ≡ getD text (a .start) 0) (j : c ≡ leafKind (a .kind) b) where
     pub value-none : (r : Parsed) → c ≡ 0 → r ≡ refusedToken NoValue a → Value r
     unfolding value
     value-none r n e =
-        itself-refused r
+        reads-token NoValue a r (λ z. z)
         (λ z. when-false (eqb (a .kind) AtSign) _ _ (ne-eqb (a .kind) AtSign k)
-        ∙ when-true (eqb (valueKind (held ed text a)) 0) _ _ (ap (λ (x : ℕ). eqb x 0) (value-kind ed text a b c z i j) ∙ eq-eqb c 0 n) ∙ ap no (token-refused ed text NoValue a z)) e
+        ∙ when-true (eqb (valueKind (held ed text a)) 0) _ _ (ap (λ (x : ℕ). eqb x 0) (value-kind ed text a b c z i j) ∙ eq-eqb c 0 n)) e
 
     module _ (n : (c ≡ 0 → ⊥)) where
       -- the value that the token is by itself
@@ -147,18 +142,18 @@ module _ (f ed : ℕ) (text : List ℕ) (s : Spot) (l m : List ℕ) (a : Token) 
 
       pub value-bad : (r : Refusal) → nextToken ed text (a .end) ≡ Bad r → Value (Refused r)
       unfolding leafValue
-      value-bad r h = reads-no f ed text (Fits text a) (value (held ed text a)) (a .end) s l m r (λ z. alone z ∙ look-refused ed text a z _ r h)
+      value-bad r h = reads-no r (λ z. alone z ∙ look-refused ed text a z _ r h)
 
       module _ (d : Token) (h : nextToken ed text (a .end) ≡ Found d) (t : Bool) (g : t ≡ (eqb (a .kind) NumValue && eqb (d .kind) ColonColon)) where
         pub value-colons : (r : Parsed) → t ≡ true → r ≡ refusedToken NoValue a → Value r
         unfolding leafValue
         value-colons r o e =
-            itself-refused r (λ z. alone z ∙ look-found ed text a z _ d h ∙ when-true (eqb (a .kind) NumValue && eqb (d .kind) ColonColon) _ _ (sym g ∙ o) ∙ ap no (token-refused ed text NoValue a z)) e
+            reads-token NoValue a r (λ z. z) (λ z. alone z ∙ look-found ed text a z _ d h ∙ when-true (eqb (a .kind) NumValue && eqb (d .kind) ColonColon) _ _ (sym g ∙ o)) e
 
         pub value-leaf : (to : Spot) → t ≡ false → Placed l s (spelt f c (a .start) (a .end) (wordOf text a)) to m → Value (Read (record { to = to; end = a .end; next = d }))
         unfolding leafValue
         value-leaf to o w =
-            reads-read f ed text (Fits text a) (value (held ed text a)) (a .end) s l m (leafAt c text a) (a .end) d to (omega arith)
+            reads-read (leafAt c text a) (a .end) d to (omega arith)
             (λ z. alone z ∙ look-found ed text a z _ d h ∙ when-false (eqb (a .kind) NumValue && eqb (d .kind) ColonColon) _ _ (sym g ∙ o)
             ∙ read-to ed text (leafOf (valueKind (held ed text a)) (held ed text a)) (leafAt c text a) a z (held-leaf ed text a z (valueKind (held ed text a)) ∙ ap (λ (x : ℕ). leafAt x text a) (value-kind ed text a b c z i j))) h
             (placed-as l m (spelt f c (a .start) (a .end) (wordOf text a)) (laid f (leafAt c text a)) s to (sym (leaf-laid f text c a (ap (λ (x : ℕ). eqb x RecUnit) j ∙ leaf-other (a .kind) b))) w)

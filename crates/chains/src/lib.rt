@@ -9,8 +9,8 @@ ghost use Rattle.grammar.specs.Names.{lastPart, thirdPart, secondPart, chain};
 ghost use Rattle.grammar.specs.Values.{leafKind, addressValue, value};
 ghost use Rattle.forms.specs.Forms.{laid};
 ghost use Rattle.forms.specs.code.Spots.{Placed};
-ghost use Rattle.parts.specs.code.Meets.{Fits, held, refusedToken, Reads};
-ghost use Rattle.chains.specs.code.Parts.{pairBytes, threeAt, addressAt, dueAt, ReadsBehind};
+ghost use Rattle.parts.specs.code.Meets.{refusedToken, Reads};
+ghost use Rattle.chains.specs.code.Parts.{pairBytes, threeAt, addressAt, dueAt, Reads₂, Reads₃, ReadsBehind};
 use forms::Spot;
 use parts::Parsed;
 use parts::Part;
@@ -105,7 +105,7 @@ fn put_three(w: Way, text: &[u8], a: Token, b: Token, c: Token, out: &mut [u8], 
 
 // Behind the second `::`, which is d: the third part of a name whose parts are a and b.
 fn last_part(w: Way, text: &[u8], a: Token, b: Token, d: Token, out: &mut [u8], s: Spot) -> Parsed
-    ensures { λ r. ⌜ Reads (w .form) (w .edition) (now (text .entry)) (Fits (now (text .entry)) a × Fits (now (text .entry)) b × Fits (now (text .entry)) d) (lastPart (held (w .edition) (now (text .entry)) a) (held (w .edition) (now (text .entry)) b) (held (w .edition) (now (text .entry)) d)) (d .end) s (now (out .entry)) r (now (out .exit)) ⌝ }
+    ensures { λ r. ⌜ Reads₃ w (now (text .entry)) lastPart a b d s (now (out .entry)) r (now (out .exit)) ⌝ }
 {
     let l = tokens::next_token(w.edition, text, d.end);
     match l {
@@ -122,7 +122,7 @@ fn last_part(w: Way, text: &[u8], a: Token, b: Token, d: Token, out: &mut [u8], 
 
 // Behind the second part b: a third, or the end of the name that a begins.
 fn third_part(w: Way, text: &[u8], a: Token, b: Token, out: &mut [u8], s: Spot) -> Parsed
-    ensures { λ r. ⌜ Reads (w .form) (w .edition) (now (text .entry)) (Fits (now (text .entry)) a × Fits (now (text .entry)) b) (thirdPart (held (w .edition) (now (text .entry)) a) (held (w .edition) (now (text .entry)) b)) (b .end) s (now (out .entry)) r (now (out .exit)) ⌝ }
+    ensures { λ r. ⌜ Reads₂ w (now (text .entry)) thirdPart a b s (now (out .entry)) r (now (out .exit)) ⌝ }
 {
     let l = tokens::next_token(w.edition, text, b.end);
     match l {
@@ -143,7 +143,7 @@ fn third_part(w: Way, text: &[u8], a: Token, b: Token, out: &mut [u8], s: Spot) 
 
 // Behind the first `::`, which is d: the second part of a name that a begins.
 fn second_part(w: Way, text: &[u8], a: Token, d: Token, out: &mut [u8], s: Spot) -> Parsed
-    ensures { λ r. ⌜ Reads (w .form) (w .edition) (now (text .entry)) (Fits (now (text .entry)) a × Fits (now (text .entry)) d) (secondPart (held (w .edition) (now (text .entry)) a) (held (w .edition) (now (text .entry)) d)) (d .end) s (now (out .entry)) r (now (out .exit)) ⌝ }
+    ensures { λ r. ⌜ Reads₂ w (now (text .entry)) secondPart a d s (now (out .entry)) r (now (out .exit)) ⌝ }
 {
     let l = tokens::next_token(w.edition, text, d.end);
     match l {
@@ -160,7 +160,7 @@ fn second_part(w: Way, text: &[u8], a: Token, d: Token, out: &mut [u8], s: Spot)
 // The name whose first token is a, by the token d behind it. Who has read that token already, since it tells
 // what else begins with a name, does not read it again.
 pub fn name_behind(w: Way, text: &[u8], a: Token, d: Token, out: &mut [u8], s: Spot) -> Parsed
-    ensures { λ r. ⌜ ReadsBehind (w .form) (w .edition) (now (text .entry)) a d (chain (held (w .edition) (now (text .entry)) a)) s (now (out .entry)) r (now (out .exit)) ⌝ }
+    ensures { λ r. ⌜ ReadsBehind w (now (text .entry)) chain a d s (now (out .entry)) r (now (out .exit)) ⌝ }
 {
     if d.kind == COLON_COLON {
         return second_part(w, text, a, d, out, s);
@@ -178,7 +178,7 @@ pub fn name_behind(w: Way, text: &[u8], a: Token, d: Token, out: &mut [u8], s: S
 
 // The name whose first token is a.
 pub fn parse_name_access_chain(w: Way, text: &[u8], a: Token, out: &mut [u8], s: Spot) -> Parsed
-    ensures { λ r. ⌜ Reads (w .form) (w .edition) (now (text .entry)) (Fits (now (text .entry)) a) (chain (held (w .edition) (now (text .entry)) a)) (a .end) s (now (out .entry)) r (now (out .exit)) ⌝ }
+    ensures { λ r. ⌜ Reads w (now (text .entry)) chain a s (now (out .entry)) r (now (out .exit)) ⌝ }
 {
     if !is_first(a.kind) {
         return parts::unexpected(a);
@@ -259,7 +259,7 @@ fn put_address(w: Way, text: &[u8], a: Token, b: Token, out: &mut [u8], s: Spot)
 
 // The address behind the `@` a.
 fn address_value(w: Way, text: &[u8], a: Token, out: &mut [u8], s: Spot) -> Parsed
-    ensures { λ r. ⌜ Reads (w .form) (w .edition) (now (text .entry)) (Fits (now (text .entry)) a) (addressValue (held (w .edition) (now (text .entry)) a)) (a .end) s (now (out .entry)) r (now (out .exit)) ⌝ }
+    ensures { λ r. ⌜ Reads w (now (text .entry)) addressValue a s (now (out .entry)) r (now (out .exit)) ⌝ }
 {
     let l = tokens::next_token(w.edition, text, a.end);
     match l {
@@ -276,7 +276,7 @@ fn address_value(w: Way, text: &[u8], a: Token, out: &mut [u8], s: Spot) -> Pars
 
 // The value whose first token is a.
 pub fn maybe_parse_value(w: Way, text: &[u8], a: Token, out: &mut [u8], s: Spot) -> Parsed
-    ensures { λ r. ⌜ Reads (w .form) (w .edition) (now (text .entry)) (Fits (now (text .entry)) a) (value (held (w .edition) (now (text .entry)) a)) (a .end) s (now (out .entry)) r (now (out .exit)) ⌝ }
+    ensures { λ r. ⌜ Reads w (now (text .entry)) value a s (now (out .entry)) r (now (out .exit)) ⌝ }
 {
     if a.kind == AT_SIGN {
         return address_value(w, text, a, out, s);

@@ -60,23 +60,45 @@ pub data Part : Type 0 where
   one : Sort → Part
   many : Sort → ℕ → Part
 
--- the records: sort, kind and parts, the last part first
+-- parts in the order of the text: one more behind those before it. What is read last comes first in the list, so that a walk over the
+-- parts takes that one off
+infixl 5 _▸_
+abbrev pub _▸_ : List Part → Part → List Part
+r ▸ p = p ∷ r
+
+-- 01's list of records, "Stored tree", one row for each way to write a record that has children: what is read, the record's kind, and what
+-- stands in the text, from left to right. Its children are what the parts leave in the tree: marks leave nothing, `many` leaves its items.
+-- A type, a field or a binding has one level less left for what stands inside it. The leaves are not in the table: 1, 2, 3 and 20 are
+-- those of `Role`, 31 to 35 are values of one token (`Literal`); nor are brackets round types, 14 and 15, which their number decides
+-- (`brackets`), and a field that binds its own name (`Short`)
 pub data Rule : Sort → ℕ → List Part → Type 0 where
-  pair : Rule aPair RecPair (leaf name ∷ mark ColonColon ∷ leaf first ∷ [])
-  two : Rule aName RecTwoPart (leaf name ∷ mark ColonColon ∷ leaf first ∷ [])
-  three : Rule aName RecThreePart (leaf name ∷ mark ColonColon ∷ one aPair ∷ [])
-  address : Rule aValue RecAddressValue (leaf first ∷ mark AtSign ∷ [])
-  shared : {n : ℕ} → Rule (aType (suc n)) RecRef (one (aType n) ∷ mark Amp ∷ [])
-  mutable : {n : ℕ} → Rule (aType (suc n)) RecRefMut (one (aType n) ∷ mark AmpMut ∷ [])
-  function : {n : ℕ} → Rule (aType (suc n)) RecFunction (one (aType n) ∷ many (aType n) Pipe ∷ mark Pipe ∷ [])
-  plain : {n : ℕ} → Rule (aType (suc n)) RecType (one aName ∷ [])
-  applied : {n : ℕ} → Rule (aType (suc n)) RecType (many (aType n) Greater ∷ mark Less ∷ one aName ∷ [])
-  struct : {n : ℕ} → Rule (aBind (suc n)) RecStruct (many (aField n) RBrace ∷ mark LBrace ∷ one aName ∷ [])
-  typed : {n : ℕ} → Rule (aBind (suc n)) RecStructTyped (many (aField n) RBrace ∷ mark LBrace ∷ many (aType n) Greater ∷ mark Less ∷ one aName ∷ [])
-  field : {n : ℕ} → Rule (aField (suc n)) RecField (one (aBind (suc n)) ∷ mark Colon ∷ leaf name ∷ [])
-  several : Rule aBindList RecBindList (many (aBind levels) RParen ∷ mark LParen ∷ [])
-  alone : Rule aBindList RecBindList (one (aBind levels) ∷ [])
-  lambda : Rule aLambdaList RecLambdaBindList (many (aBind levels) Pipe ∷ mark Pipe ∷ [])
+  -- 4 two-part (first, name): `a::b`
+  two : Rule aName RecTwoPart ([] ▸ leaf first ▸ mark ColonColon ▸ leaf name)
+  -- 5 three-part (pair, name): `a::b::c`
+  three : Rule aName RecThreePart ([] ▸ one aPair ▸ mark ColonColon ▸ leaf name)
+  -- 6 pair (first, name): the `a::b` of `a::b::c`
+  pair : Rule aPair RecPair ([] ▸ leaf first ▸ mark ColonColon ▸ leaf name)
+  -- 10 type (chain, arguments): `T`, and `T<a, b>`
+  plain : {n : ℕ} → Rule (aType (suc n)) RecType ([] ▸ one aName)
+  applied : {n : ℕ} → Rule (aType (suc n)) RecType ([] ▸ one aName ▸ mark Less ▸ many (aType n) Greater)
+  -- 11 `&` (one type), 12 `&mut` (one type)
+  shared : {n : ℕ} → Rule (aType (suc n)) RecRef ([] ▸ mark Amp ▸ one (aType n))
+  mutable : {n : ℕ} → Rule (aType (suc n)) RecRefMut ([] ▸ mark AmpMut ▸ one (aType n))
+  -- 13 function (arguments, result last): `|a, b| r`
+  function : {n : ℕ} → Rule (aType (suc n)) RecFunction ([] ▸ mark Pipe ▸ many (aType n) Pipe ▸ one (aType n))
+  -- 21 struct without `<` (chain, fields): `S {f: x}`
+  struct : {n : ℕ} → Rule (aBind (suc n)) RecStruct ([] ▸ one aName ▸ mark LBrace ▸ many (aField n) RBrace)
+  -- 22 struct with `<` (chain, types, fields): `S<u8> {f: x}`
+  typed : {n : ℕ} → Rule (aBind (suc n)) RecStructTyped ([] ▸ one aName ▸ mark Less ▸ many (aType n) Greater ▸ mark LBrace ▸ many (aField n) RBrace)
+  -- 24 field (name, binding): `f: x`; its binding has as many levels as the field
+  field : {n : ℕ} → Rule (aField (suc n)) RecField ([] ▸ leaf name ▸ mark Colon ▸ one (aBind (suc n)))
+  -- 25 binding list (bindings): `(x, y)`, and one binding alone
+  several : Rule aBindList RecBindList ([] ▸ mark LParen ▸ many (aBind levels) RParen)
+  alone : Rule aBindList RecBindList ([] ▸ one (aBind levels))
+  -- 26 lambda list (bindings): `|x, y|`
+  lambda : Rule aLambdaList RecLambdaBindList ([] ▸ mark Pipe ▸ many (aBind levels) Pipe)
+  -- 30 address value (first): `@a`
+  address : Rule aValue RecAddressValue ([] ▸ mark AtSign ▸ leaf first)
 
 -- what is chosen. `tree s a a₂ u u₂`: read from the tokens a and a₂ on, up to the sources u and u₂; `row r a a₂ u u₂`: so far the parts r of a
 -- record; `items s close u u₂ v v₂`: of a list, from u and u₂ up to v and v₂, behind the mark that closes it. `wrap`: what the readers on the

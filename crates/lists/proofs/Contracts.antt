@@ -4,25 +4,43 @@ use mathlib.Core.List.{List}
 use Prim.Native.Nat.{ℕ, _≤_}
 use Rattle.tokens.specs.Calls.{nextToken}
 use Rattle.tokens.specs.declared.Refusal.{Refusal}
+use Rattle.tokens.specs.declared.Token.{Token as Answer}
 use Rattle.tokens.specs.declared.Lexed.the-variants.{Found}
 use Rattle.records.specs.Tree.{Trees}
-use Rattle.answers.specs.Reading.{Ans}
+use Rattle.sources.specs.Source.{Source}
+use Rattle.answers.specs.Reading.{Ans, ok, Reader, listBehind}
+use Rattle.forms.specs.Forms.{laidItems}
 use Rattle.forms.specs.declared.Spot.{Spot}
-use Rattle.parts.specs.code.Meets.{Refuses}
-use Rattle.lists.specs.code.Lists.{HadAll, MeetsAll, FollowsAll, ReadsAll}
+use Rattle.parts.specs.declared.Parsed.the-variants.{Read, Refused as Wrong}
+use Rattle.parts.specs.code.Meets.{Fits, held, Refuses, Had}
+use Rattle.parts.proofs.Contracts.{reads-had, reads-goes, reads-not}
+use Rattle.lists.specs.code.Lists.{countOf, asPart, partOf, Counts, ListContract}
 use Rattle.lists.specs.declared.Items.{Items}
 use Rattle.lists.specs.declared.Listed.{Listed}
 use Rattle.lists.specs.declared.Listed.the-variants.{All, Refused as Broken}
 
-module _ (form ed : ℕ) (text : List ℕ) (fits : Type 0) (x : Ans Trees) (from : ℕ) (s : Spot) (l m : List ℕ) (r : Listed) (d : ReadsAll form ed text fits x from s l r m) where
-  pub all-had : (p : Items) → r ≡ All p → fits → HadAll form ed text x s l p m
-  unfolding MeetsAll
-  all-had p e f = subst (λ (y : Listed). MeetsAll form ed text x s l y m) e (d .meets f)
+module _ (r : Listed) where
+  pub part-all : (n : Items) → r ≡ All n → partOf r ≡ Read (asPart n)
+  unfolding partOf
+  part-all n e = rw e
 
-  pub all-goes : (p : Items) → r ≡ All p → (from ≤ p .end) × (nextToken ed text (p .end) ≡ Found (p .next))
-  unfolding FollowsAll
-  all-goes p e = subst (λ (y : Listed). FollowsAll ed text from y) e (d .goes)
+  pub part-broken : (q : Refusal) → r ≡ Broken q → partOf r ≡ Wrong q
+  unfolding partOf
+  part-broken q e = rw e
 
-  pub all-not : (q : Refusal) → r ≡ Broken q → fits → Refuses x q
-  unfolding MeetsAll
-  all-not q e f = subst (λ (y : Listed). MeetsAll form ed text x s l y m) e (d .meets f)
+module _ {form ed : ℕ} {text : List ℕ} {item : Reader} {close : ℕ} {o : Answer} {s : Spot} {l m : List ℕ} {r : Listed} (d : ListContract form ed text item close o s l r m) where
+  abbrev whole : Ans Trees
+  whole = listBehind item close (held ed text o)
+
+  pub all-had : (n : Items) → r ≡ All n → Fits text o → Had (laidItems form) ed text whole s l (asPart n) m
+  all-had n e = reads-had (d .reads) (asPart n) (part-all r n e)
+
+  pub all-goes : (n : Items) → r ≡ All n → (o .end ≤ n .end) × (nextToken ed text (n .end) ≡ Found (n .next))
+  all-goes n e = reads-goes (d .reads) (asPart n) (part-all r n e)
+
+  pub all-not : (q : Refusal) → r ≡ Broken q → Fits text o → Refuses whole q
+  all-not q e = reads-not (d .reads) q (part-broken r q e)
+
+  pub all-counts : (n : Items) → r ≡ All n → Fits text o → (ts : Trees) (u : Source) → whole ≡ ok ts u → n .count ≡ countOf ts
+  unfolding Counts
+  all-counts n e f = subst (Counts whole) e (d .counts f)

@@ -43,8 +43,8 @@ count-behind (more u none) t = refl
 count-behind (more u (more v ts)) t = refl
 
 -- a list in bars, by how many items it has
-pub bars-laid : (f : ℕ) (ts : Trees) → inBars f ts ≡ markIn f (bytes "|") ++ (laidItems f ts ++ markIn f (cond (eqb (countOf ts) 0) (bytes " |") (bytes "|")))
+pub bars-laid : (f : ℕ) (ts : Trees) (n : ℕ) → n ≡ countOf ts → markIn f (bytes "|") ++ (laidItems f ts ++ markIn f (cond (eqb n 0) (bytes " |") (bytes "|"))) ≡ inBars f ts
 unfolding inBars laidItems countOf
-bars-laid f none = refl
-bars-laid f (more u none) = refl
-bars-laid f (more u (more v ts)) = refl
+bars-laid f none n e = rw e
+bars-laid f (more u none) n e = rw e
+bars-laid f (more u (more v ts)) n e = rw e

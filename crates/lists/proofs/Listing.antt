@@ -25,13 +25,13 @@ use Rattle.forms.specs.Forms.{markIn, laid, laidItems}
 use Rattle.forms.specs.code.Spots.{last, movedBy, Placed}
 use Rattle.forms.specs.declared.Spot.{Spot}
 use Rattle.forms.proofs.Placing.{capped, moved-twice, placed-long, placed-as, placed-both}
-use Rattle.parts.specs.code.Meets.{Fits, held, Refuses, Reads}
+use Rattle.parts.specs.code.Meets.{Fits, held, followedBy, Contract, ReadsBy}
 use Rattle.parts.specs.declared.Part.{Part}
 use Rattle.parts.specs.declared.Parsed.{Parsed}
 use Rattle.parts.specs.declared.Parsed.the-variants.{Read, Refused as Wrong}
 use Rattle.parts.proofs.Held.{past-opened, held-after, Next, next-found, next-refused}
-use Rattle.parts.proofs.Contracts.{reads-had, reads-goes, reads-not, refuses-look}
-use Rattle.lists.specs.code.Lists.{endingAt, beforeItem, nextItem, behindItem, afterItem, Itemed, Steps, countOf, oneMore, closedAt, MeetsAll, FollowsAll, ReadsAll}
+use Rattle.parts.proofs.Contracts.{reads-no, reads-finished, reads-had, reads-goes, reads-not, refuses-look}
+use Rattle.lists.specs.code.Lists.{endingAt, beforeItem, nextItem, behindItem, afterItem, Itemed, Steps, countOf, oneMore, closedAt, partOf, Counts, ListContract}
 use Rattle.lists.specs.declared.Listed.{Listed}
 use Rattle.lists.specs.declared.Listed.the-variants.{Refused as Broken}
 use Rattle.lists.specs.declared.Ending.{Ending}
@@ -180,13 +180,13 @@ module _ (ed : ℕ) (text : List ℕ) (item : Reader) (close : ℕ) (o : Answer)
           )
       stepped-by Not false g j = rw j (λ f. rest-found f ∙ closed-as ed text close (p .next) (behind-it .fits) _ _ Not g ∙ rw j)
 
-    stepped : (fits : Type 0) → fits → (r : Parsed) → Reads form ed text fits x from s l r m → Stepped (afterItem close o r)
+    stepped : (fits : Type 0) → fits → (r : Parsed) → Contract (laid form) ed text fits x from s l r m → Stepped (afterItem close o r)
     unfolding afterItem Stepped
     stepped fits fit (Read p) d =
-        let w = reads-had form ed text fits x from s l m (Read p) d p refl fit in
-        let v = reads-goes form ed text fits x from s l m (Read p) d p refl in
+        let w = reads-had d p refl fit in
+        let v = reads-goes d p refl in
         stepped-by (w .what) p (w .is) (w .bytes) (v .0) (v .1) (endingAt close (p .next)) (eqb (p .next .kind) Comma) refl refl
-    stepped fits fit (Wrong r) d = λ f. refuses-look x r _ (reads-not form ed text fits x from s l m (Wrong r) d r refl fit)
+    stepped fits fit (Wrong r) d = λ f. refuses-look x r _ (reads-not d r refl fit)
 
 -- the first token of an item
 pub item-there : (ed : ℕ) (text : List ℕ) (close at : ℕ) (a : Answer) → nextItem close (nextToken ed text at) ≡ Item a → Next ed text at a
@@ -269,36 +269,44 @@ module _ (form ed : ℕ) (text : List ℕ) (item : Reader) (close : ℕ) (o : An
           within = λ fit. fit .2;
         }
 
+    abbrev Answers : Listed → List ℕ → Type 0
+    Answers r m = ListContract form ed text item close o s l₀ r m
+
     -- the list closes before q
+    closed-part : (q n : ℕ) (w : Spot) (y : Lexed) → partOf (closedAt q n w y) ≡ followedBy w q y
+    unfolding closedAt partOf followedBy
+    closed-part q n w (Found t) = refl
+    closed-part q n w (Bad r) = refl
+
+    closed-counts : (x : Ans Trees) (ts : Trees) (v : Source) (q n : ℕ) (w : Spot) (y : Lexed) → x ≡ ok ts v → n ≡ countOf ts → Counts x (closedAt q n w y)
+    unfolding closedAt Counts
+    closed-counts x ts v q n w (Found t) e c = λ us u d. (let same : ts ≡ us = cc in c ∙ ap countOf same)
+    closed-counts x ts v q n w (Bad r) e c = tt
+
     closes-by : (ts : Trees) (q n : ℕ) (w : Spot) (m : List ℕ) (r : Listed) → (Fits text o → whole ≡ ok ts (opened ed text q)) → n ≡ countOf ts → Placed l₀ s₀ (laidItems form ts) w m → o .end ≤ q → q ≤ length text
-        → r ≡ closedAt q n w (nextToken ed text q) → ReadsAll form ed text (Fits text o) whole (o .end) s l₀ r m
-    unfolding closedAt MeetsAll FollowsAll Refuses
-    closes-by ts q n w m r e c b g i x = subst (λ (y : Listed). ReadsAll form ed text (Fits text o) whole (o .end) s l₀ y m) (sym x) (go (nextToken ed text q) refl)
-      where
-        go : (y : Lexed) → nextToken ed text q ≡ y → ReadsAll form ed text (Fits text o) whole (o .end) s l₀ (closedAt q n w y) m
-        go (Found t) v =
-            record {
-              meets = λ fit. record { what = ts; is = e fit; counts = c; bytes = start-placed l₀ m (laidItems form ts) s s₀ w h z b };
-              goes = (g, v);
-            }
-        go (Bad u) v = record { meets = λ fit. subst (λ (y : Ans Trees). Refuses y u) (sym (e fit)) (next-refused ed text q (fit .0) i u v); goes = tt }
+        → r ≡ closedAt q n w (nextToken ed text q) → Answers r m
+    closes-by ts q n w m r e c b g i x =
+        record {
+          reads = reads-finished ts q w (partOf r) g (λ fit. (fit .0, i)) e (start-placed l₀ m (laidItems form ts) s s₀ w h z b) (ap partOf x ∙ closed-part q n w (nextToken ed text q));
+          counts = λ fit. subst (Counts whole) (sym x) (closed-counts whole ts (opened ed text q) q n w (nextToken ed text q) (e fit) c);
+        }
 
     -- the list is refused
-    stops-by : (m : List ℕ) (r : Refusal) → (Fits text o → whole ≡ no r) → ReadsAll form ed text (Fits text o) whole (o .end) s l₀ (Broken r) m
-    unfolding MeetsAll FollowsAll Refuses
-    stops-by m r e = record { meets = λ fit. subst (λ (y : Ans Trees). Refuses y r) (sym (e fit)) refl; goes = tt }
+    stops-by : (m : List ℕ) (r : Refusal) → (Fits text o → whole ≡ no r) → Answers (Broken r) m
+    unfolding partOf Counts
+    stops-by m r e = record { reads = reads-no r e; counts = λ fit. tt }
 
     module _ (i n : ℕ) (to : Spot) (l : List ℕ) (g : Going s₀ l₀ i to n l) where
       abbrev turn : Turn
       turn = nextItem close (nextToken ed text i)
 
-      list-refused : (r : Refusal) → turn ≡ Faulty r → ReadsAll form ed text (Fits text o) whole (o .end) s l₀ (Broken r) l
+      list-refused : (r : Refusal) → turn ≡ Faulty r → Answers (Broken r) l
       unfolding Turned then
       list-refused r e =
           let d = subst (Turned ed text item close o i) e (turned ed text item close o i) in
           stops-by l r (λ fit. g .is fit ∙ rw (d (fit .0) (g .within fit) (g .fuel)))
 
-      list-closes : (q : ℕ) (r : Listed) → turn ≡ Closes q → r ≡ closedAt q n to (nextToken ed text q) → ReadsAll form ed text (Fits text o) whole (o .end) s l₀ r l
+      list-closes : (q : ℕ) (r : Listed) → turn ≡ Closes q → r ≡ closedAt q n to (nextToken ed text q) → Answers r l
       unfolding Turned then
       list-closes q r e x =
           let d = subst (Turned ed text item close o i) e (turned ed text item close o i) in
@@ -308,7 +316,7 @@ module _ (form ed : ℕ) (text : List ℕ) (item : Reader) (close : ℕ) (o : An
 
       -- an item, which was laid down behind what parts it from the one before it
       module _ (a : Answer) (e : turn ≡ Item a) (p : Spot) (k : List ℕ) (y : Placed l to (cond (eqb n 0) [] (markIn form (bytes ", "))) p k) (t : Parsed) (m : List ℕ)
-          (w : Reads form ed text (Fits text a) (item (held ed text a)) (a .end) p k t m) where
+          (w : ReadsBy (laid form) ed text item a p k t m) where
         abbrev item-here : Next ed text i a
         item-here = item-there ed text close i a e
 
@@ -335,14 +343,14 @@ module _ (form ed : ℕ) (text : List ℕ) (item : Reader) (close : ℕ) (o : An
         one-count : (x : Tree) (j : ℕ) → j ≡ oneMore n → j ≡ countOf (behind (g .seen) x)
         one-count x j c = c ∙ ap oneMore (g .counts) ∙ sym (count-behind (g .seen) x)
 
-        list-stopped : (r : Refusal) → afterItem close o t ≡ Stopped r → ReadsAll form ed text (Fits text o) whole (o .end) s l₀ (Broken r) m
+        list-stopped : (r : Refusal) → afterItem close o t ≡ Stopped r → Answers (Broken r) m
         unfolding Stepped then
         list-stopped r c =
             let d = subst Done c done in
             stops-by m r (λ fit. g .is fit ∙ rw (item-is (g .fuel) ∙ d (g .fuel)))
 
         module _ (v : Spot) (q j : ℕ) (b : j ≡ oneMore n) where
-          list-last : (r : Listed) → afterItem close o t ≡ Last v q → r ≡ closedAt q j v (nextToken ed text q) → ReadsAll form ed text (Fits text o) whole (o .end) s l₀ r m
+          list-last : (r : Listed) → afterItem close o t ≡ Last v q → r ≡ closedAt q j v (nextToken ed text q) → Answers r m
           unfolding Stepped then
           list-last r c x =
               let d = subst Done c done in
@@ -376,28 +384,28 @@ module _ (form ed : ℕ) (text : List ℕ) (item : Reader) (close : ℕ) (o : An
         abbrev Is : Turn → Type 0
         Is b = Steps form ed text item close o (eqb n 0) to l b c m
 
-        pub step-stopped : (r : Refusal) → Is turn → c ≡ Stopped r → ReadsAll form ed text (Fits text o) whole (o .end) s l₀ (Broken r) m
+        pub step-stopped : (r : Refusal) → Is turn → c ≡ Stopped r → Answers (Broken r) m
         unfolding Steps
         step-stopped r d e = go turn refl d
           where
-            go : (b : Turn) → turn ≡ b → Is b → ReadsAll form ed text (Fits text o) whole (o .end) s l₀ (Broken r) m
+            go : (b : Turn) → turn ≡ b → Is b → Answers (Broken r) m
             go (Item a) k w = list-stopped a k (w .from) (w .parted) (w .between) (w .part) m (w .reads) r (sym (w .is) ∙ e)
             go (Closes q) k w = let x : Shut q ≡ Stopped r = sym (w .0) ∙ e in let y : _≡_ {A = ℕ} 0 1 = cc in absurd (omega arith)
             go (Faulty x) k w =
                 let y : Stopped x ≡ Stopped r = sym (w .0) ∙ e in
                 let u : x ≡ r = cc in
-                subst (λ (v : List ℕ). ReadsAll form ed text (Fits text o) whole (o .end) s l₀ (Broken r) v) (sym (w .1)) (list-refused r (k ∙ ap Faulty u))
+                subst (λ (v : List ℕ). Answers (Broken r) v) (sym (w .1)) (list-refused r (k ∙ ap Faulty u))
 
-        pub step-closes : (q : ℕ) (r : Listed) → Is turn → c ≡ Shut q → r ≡ closedAt q n to (nextToken ed text q) → ReadsAll form ed text (Fits text o) whole (o .end) s l₀ r m
+        pub step-closes : (q : ℕ) (r : Listed) → Is turn → c ≡ Shut q → r ≡ closedAt q n to (nextToken ed text q) → Answers r m
         unfolding Steps Stepped
         step-closes q r d e x = go turn refl d
           where
-            go : (b : Turn) → turn ≡ b → Is b → ReadsAll form ed text (Fits text o) whole (o .end) s l₀ r m
+            go : (b : Turn) → turn ≡ b → Is b → Answers r m
             go (Item a) k w = absurd (subst (Done a k (w .from) (w .parted) (w .between) (w .part) m (w .reads)) (sym (w .is) ∙ e) (done a k (w .from) (w .parted) (w .between) (w .part) m (w .reads)))
             go (Closes q₂) k w =
                 let y : Shut q₂ ≡ Shut q = sym (w .0) ∙ e in
                 let u : q₂ ≡ q = cc in
-                subst (λ (v : List ℕ). ReadsAll form ed text (Fits text o) whole (o .end) s l₀ r v) (sym (w .1)) (list-closes q r (k ∙ ap Closes u) x)
+                subst (λ (v : List ℕ). Answers r v) (sym (w .1)) (list-closes q r (k ∙ ap Closes u) x)
             go (Faulty y) k w = let u : Stopped y ≡ Shut q = sym (w .0) ∙ e in let v : _≡_ {A = ℕ} 0 1 = cc in absurd (omega arith)
 
         -- an item was read
@@ -417,7 +425,7 @@ module _ (form ed : ℕ) (text : List ℕ) (item : Reader) (close : ℕ) (o : An
             go (Faulty x) k w = absurd (subst Took (sym e ∙ w .0) t)
 
         module _ (v : Spot) (q j : ℕ) (b : j ≡ oneMore n) (d : Is turn) where
-          pub step-last : (r : Listed) → c ≡ Last v q → r ≡ closedAt q j v (nextToken ed text q) → ReadsAll form ed text (Fits text o) whole (o .end) s l₀ r m
+          pub step-last : (r : Listed) → c ≡ Last v q → r ≡ closedAt q j v (nextToken ed text q) → Answers r m
           unfolding Took
           step-last r e x =
               let y = had (Last v q) tt d e in

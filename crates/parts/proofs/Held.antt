@@ -5,6 +5,7 @@ use Prim.Native.Nat.{ℕ, zero, suc, _+_, _-_, _<_, _≤_, min}
 use native.Mathlib.Omega.{arith}
 use lib.ListN.{length, length-drop}
 use lib.Seq.{drop-drop}
+use Rattle.tokens.specs.Answers.{refusal}
 use Rattle.tokens.specs.Calls.{textLimit, nextToken}
 use Rattle.tokens.specs.declared.Refusal.{Refusal}
 use Rattle.tokens.specs.declared.Token.{Token as Answer}
@@ -14,7 +15,7 @@ use Rattle.tokens.proofs.Again.{found-fits}
 use Rattle.records.specs.Tree.{leaf}
 use Rattle.sources.specs.Source.{Source, opened, past, Lexeme, start, end, after, LexResult, tok, bad, lex, tokenOf, answerOf}
 use Rattle.sources.proofs.Standing.{Standing, Sound, lex-sound, next-token-same}
-use Rattle.answers.specs.Reading.{Ans, no, look, leafOf}
+use Rattle.answers.specs.Reading.{Ans, no, look, leafOf, refusedAt}
 use Rattle.forms.specs.code.Spots.{wordOf}
 use Rattle.parts.specs.code.Meets.{Fits, held}
 
@@ -32,6 +33,9 @@ module _ (ed : ℕ) (text : List ℕ) where
 
     pub held-after : after (held ed text a) ≡ opened ed text (a .end)
     held-after = past-opened (a .end - a .start) (a .start) (a .end) held-to
+
+    pub token-refused : (n : ℕ) → refusedAt n (held ed text a) ≡ refusal n (a .start) (a .end)
+    token-refused n = rw held-to
 
     pub held-leaf : (c : ℕ) → leafOf c (held ed text a) ≡ leaf c (a .start) (a .end) (wordOf text a)
     held-leaf c = rw held-to

@@ -12,7 +12,6 @@ use Rattle.classes.specs.Bytes.{bytes}
 use Rattle.classes.proofs.Bools.{false-true}
 use Rattle.words.specs.Kinds.{NumValue, Identifier, Amp, AmpMut, LParen, RParen, Less, Greater, Pipe}
 use Rattle.tokens.specs.Refusals.{UnexpectedToken, TooDeep}
-use Rattle.tokens.specs.Answers.{refusal}
 use Rattle.tokens.specs.Calls.{nextToken}
 use Rattle.tokens.specs.declared.Refusal.{Refusal}
 use Rattle.tokens.specs.declared.Token.{Token as Answer}
@@ -20,7 +19,7 @@ use Rattle.tokens.specs.declared.Lexed.the-variants.{Found, Refused as Bad}
 use Rattle.records.specs.Kinds.{RecType, RecRef, RecRefMut, RecFunction}
 use Rattle.records.specs.Tree.{Tree, node, Trees, none, more, behind}
 use Rattle.sources.specs.Source.{Source, opened, Lexeme, start, tok, lex}
-use Rattle.answers.specs.Reading.{Ans, ok, no, then, look, when, Reader, listBehind}
+use Rattle.answers.specs.Reading.{Ans, ok, then, look, when, Reader, listBehind}
 use Rattle.grammar.specs.Names.{chain}
 use Rattle.grammar.specs.Types.{spanned, bracketed, brackets, reference, function, withArguments, named, typeOver, readType}
 use Rattle.forms.specs.Forms.{markIn, laid, headed, laidItems, inBars, inAngles}
@@ -31,17 +30,17 @@ use Rattle.forms.proofs.Constructs.{laid-ref, laid-ref-mut, laid-unit, laid-bra
 use Rattle.parts.specs.declared.Part.{Part}
 use Rattle.parts.specs.declared.Parsed.{Parsed}
 use Rattle.parts.specs.declared.Parsed.the-variants.{Read, Refused}
-use Rattle.parts.specs.code.Meets.{Fits, held, refusedToken, Refuses, Had, Reads}
+use Rattle.parts.specs.code.Meets.{Fits, held, refusedToken, Refuses, Had, Contract, ReadsBy}
 use Rattle.parts.proofs.Held.{Next, next-found, look-found, look-refused}
-use Rattle.parts.proofs.Contracts.{reads-no, reads-refused, reads-built, reads-as, reads-had, reads-goes, reads-not, refuses-ok, refuses-look}
+use Rattle.parts.proofs.Contracts.{reads-no, reads-token, reads-refused, reads-built, reads-as, reads-had, reads-goes, reads-not, refuses-ok, refuses-look}
 use Rattle.lists.specs.declared.Items.{Items}
 use Rattle.lists.specs.declared.Listed.{Listed}
 use Rattle.lists.specs.declared.Listed.the-variants.{All, Refused as Broken}
-use Rattle.lists.specs.code.Lists.{countOf, HadAll, ReadsAll}
+use Rattle.lists.specs.code.Lists.{countOf, asPart, ListContract}
 use Rattle.lists.proofs.Laying.{bars-laid}
-use Rattle.lists.proofs.Contracts.{all-had, all-goes, all-not}
+use Rattle.lists.proofs.Contracts.{all-had, all-goes, all-not, all-counts}
 use Rattle.chains.specs.code.Parts.{begins}
-use Rattle.chains.proofs.Names.{placed-parted, when-true, when-false, token-refused, chain-other, chain-bad}
+use Rattle.chains.proofs.Names.{placed-parted, when-true, when-false, chain-other, chain-bad}
 use Rattle.type_walk.specs.code.Types.{bracketsKind, Angled}
 
 -- what is read, by what its parts are
@@ -95,32 +94,31 @@ module _ (f : ℕ) (empty : Bool) (l : List ℕ) (s b r : Spot) where
 
 module _ (f ed : ℕ) (text : List ℕ) (item : Reader) (a : Answer) (s : Spot) (l : List ℕ) where
   abbrev Is : Ans Tree → Parsed → List ℕ → Type 0
-  Is x r m = Reads f ed text (Fits text a) x (a .end) s l r m
+  Is x r m = Contract (laid f) ed text (Fits text a) x (a .end) s l r m
 
   -- brackets
-  module _ (p : Spot) (m₁ m₂ : List ℕ) (t : Listed) (w : ReadsAll f ed text (Fits text a) (listBehind item RParen (held ed text a)) (a .end) p m₁ t m₂) where
+  module _ (p : Spot) (m₁ m₂ : List ℕ) (t : Listed) (w : ListContract f ed text item RParen a p m₁ t m₂) where
     abbrev types : Ans Trees
     types = listBehind item RParen (held ed text a)
 
     pub brackets-refused : (r : Refusal) → t ≡ Broken r → Is (brackets item (held ed text a)) (Refused r) m₂
     unfolding brackets
     brackets-refused r e =
-        reads-refused f ed text (Fits text a) (brackets item (held ed text a)) (a .end) s l m₂ r
-        (λ fit. refuses-ok types r (λ xs u. bracketed (held ed text a) u xs) (all-not f ed text (Fits text a) types (a .end) p m₁ m₂ t w r e fit))
+        reads-refused r (λ fit. refuses-ok types r (λ xs u. bracketed (held ed text a) u xs) (all-not w r e fit))
 
     module _ (n : Items) (e : t ≡ All n) (h : length l ≤ last) (i : Spot) (g : i ≡ inside f s) (y : Placed l i (markIn f (bytes "(")) p m₁) where
       pub brackets-read : (to : Spot) (m₃ m : List ℕ) (k : ℕ) → Placed m₂ (n .to) (markIn f (bytes ")")) to m₃ → k ≡ bracketsKind (n .count) → m ≡ sealed f k (a .start) (n .end) s to m₃
           → Is (brackets item (held ed text a)) (Read (record { to = to; end = n .end; next = n .next })) m
       unfolding brackets then
       brackets-read to m₃ m k v c d =
-          let goes = all-goes f ed text (Fits text a) types (a .end) p m₁ m₂ t w n e in
-          reads-built f ed text (Fits text a) (brackets item (held ed text a)) (a .end) s l m (record { to = to; end = n .end; next = n .next }) built (goes .0) (goes .1)
+          let goes = all-goes w n e in
+          reads-built (record { to = to; end = n .end; next = n .next }) built (goes .0) (goes .1)
         where
-          built : Fits text a → Had f ed text (brackets item (held ed text a)) s l (record { to = to; end = n .end; next = n .next }) m
+          built : Fits text a → Had (laid f) ed text (brackets item (held ed text a)) s l (record { to = to; end = n .end; next = n .next }) m
           built fit =
-              let z = all-had f ed text (Fits text a) types (a .end) p m₁ m₂ t w n e fit in
+              let z = all-had w n e fit in
               let what = bracketed (held ed text a) (opened ed text (n .end)) (z .what) in
-              let same = ap (λ (x : ℕ). headed f x (a .start) (n .end) (markIn f (bytes "(") ++ (laidItems f (z .what) ++ markIn f (bytes ")")))) (c ∙ ap bracketsKind (z .counts)) in
+              let same = ap (λ (x : ℕ). headed f x (a .start) (n .end) (markIn f (bytes "(") ++ (laidItems f (z .what) ++ markIn f (bytes ")")))) (c ∙ ap bracketsKind (all-counts w n e fit (z .what) _ (z .is))) in
               record {
                 what = what;
                 is = ap (λ (x : Ans Trees). then x (λ xs u. ok (bracketed (held ed text a) u xs) u)) (z .is);
@@ -136,9 +134,9 @@ module _ (f ed : ℕ) (text : List ℕ) (item : Reader) (a : Answer) (s : Spot) 
 
     pub reference-bad : (m : List ℕ) (r : Refusal) → nextToken ed text (a .end) ≡ Bad r → Is refer (Refused r) m
     unfolding reference
-    reference-bad m r h = reads-no f ed text (Fits text a) refer (a .end) s l m r (λ fit. look-refused ed text a fit _ r h)
+    reference-bad m r h = reads-no r (λ fit. look-refused ed text a fit _ r h)
 
-    module _ (c : Answer) (h : nextToken ed text (a .end) ≡ Found c) (q : Spot) (m₁ m₂ : List ℕ) (t : Parsed) (w : Reads f ed text (Fits text c) (item (held ed text c)) (c .end) q m₁ t m₂) where
+    module _ (c : Answer) (h : nextToken ed text (a .end) ≡ Found c) (q : Spot) (m₁ m₂ : List ℕ) (t : Parsed) (w : ReadsBy (laid f) ed text item c q m₁ t m₂) where
       abbrev next : Next ed text (a .end) c
       next = next-found ed text (a .end) c h
 
@@ -148,21 +146,20 @@ module _ (f ed : ℕ) (text : List ℕ) (item : Reader) (a : Answer) (s : Spot) 
 
       pub reference-refused : (r : Refusal) → t ≡ Refused r → Is refer (Refused r) m₂
       reference-refused r e =
-          reads-refused f ed text (Fits text a) refer (a .end) s l m₂ r
-          (λ fit. subst (λ (x : Ans Tree). Refuses x r) (sym (refer-is fit))
-          (refuses-ok (item (held ed text c)) r (λ x u. spanned (cond b RecRefMut RecRef) (held ed text a) u (more x none)) (reads-not f ed text (Fits text c) (item (held ed text c)) (c .end) q m₁ m₂ t w r e (next .fits))))
+          reads-refused r (λ fit. subst (λ (x : Ans Tree). Refuses x r) (sym (refer-is fit))
+          (refuses-ok (item (held ed text c)) r (λ x u. spanned (cond b RecRefMut RecRef) (held ed text a) u (more x none)) (reads-not w r e (next .fits))))
 
       pub reference-read : (p : Part) → t ≡ Read p → length l ≤ last → (i : Spot) → i ≡ inside f s → Placed l i (markIn f (cond b (bytes "&mut ") (bytes "& "))) q m₁ → (m : List ℕ) (k : ℕ) → k ≡ cond b RecRefMut RecRef
           → m ≡ sealed f k (a .start) (p .end) s (p .to) m₂ → Is refer (Read p) m
       unfolding then
       reference-read p e g i z y m k c₁ d =
-          let v = reads-had f ed text (Fits text c) (item (held ed text c)) (c .end) q m₁ m₂ t w p e (next .fits) in
-          let goes = reads-goes f ed text (Fits text c) (item (held ed text c)) (c .end) q m₁ m₂ t w p e in
+          let v = reads-had w p e (next .fits) in
+          let goes = reads-goes w p e in
           let marks = markIn f (cond b (bytes "&mut ") (bytes "& ")) in
           let what = node (cond b RecRefMut RecRef) (a .start) (p .end) (more (v .what) none) in
           let body = placed-both l m₁ m₂ marks (laid f (v .what)) i q (p .to) g y (v .bytes) in
           let all = placed-headed f k (a .start) (p .end) l m₂ m (marks ++ laid f (v .what)) s (p .to) g (subst (λ (x : Spot). Placed l x (marks ++ laid f (v .what)) (p .to) m₂) z body) d in
-          reads-built f ed text (Fits text a) refer (a .end) s l m p
+          reads-built p
           (λ fit. record {
             what = what;
             is = refer-is fit ∙ ap (λ (x : Ans Tree). then x (λ x u. ok (spanned (cond b RecRefMut RecRef) (held ed text a) u (more x none)) u)) (v .is);
@@ -171,7 +168,7 @@ module _ (f ed : ℕ) (text : List ℕ) (item : Reader) (a : Answer) (s : Spot) 
           (omega (arith, next .from, next .fits .1, goes .0)) (goes .1)
 
   -- functions
-  module _ (p : Spot) (m₁ m₂ : List ℕ) (t : Listed) (w : ReadsAll f ed text (Fits text a) (listBehind item Pipe (held ed text a)) (a .end) p m₁ t m₂) where
+  module _ (p : Spot) (m₁ m₂ : List ℕ) (t : Listed) (w : ListContract f ed text item Pipe a p m₁ t m₂) where
     abbrev arguments : Ans Trees
     arguments = listBehind item Pipe (held ed text a)
 
@@ -181,44 +178,42 @@ module _ (f ed : ℕ) (text : List ℕ) (item : Reader) (a : Answer) (s : Spot) 
     pub function-refused : (r : Refusal) → t ≡ Broken r → Is (function item (held ed text a)) (Refused r) m₂
     unfolding function
     function-refused r e =
-        reads-no f ed text (Fits text a) (function item (held ed text a)) (a .end) s l m₂ r
-        (λ fit. refuses-look arguments r _ (all-not f ed text (Fits text a) arguments (a .end) p m₁ m₂ t w r e fit))
+        reads-no r (λ fit. refuses-look arguments r _ (all-not w r e fit))
 
-    module _ (n : Items) (e : t ≡ All n) (d : Spot) (m₄ m₅ : List ℕ) (x : Parsed) (v : Reads f ed text (Fits text (n .next)) (item (held ed text (n .next))) (n .next .end) d m₄ x m₅) where
+    module _ (n : Items) (e : t ≡ All n) (d : Spot) (m₄ m₅ : List ℕ) (x : Parsed) (v : ReadsBy (laid f) ed text item (n .next) d m₄ x m₅) where
       abbrev goes : (a .end ≤ n .end) × (nextToken ed text (n .end) ≡ Found (n .next))
-      goes = all-goes f ed text (Fits text a) arguments (a .end) p m₁ m₂ t w n e
+      goes = all-goes w n e
 
       abbrev next-one : Next ed text (n .end) (n .next)
       next-one = next-found ed text (n .end) (n .next) (goes .1)
 
-      abbrev had-all : Fits text a → HadAll f ed text arguments p m₁ n m₂
-      had-all fit = all-had f ed text (Fits text a) arguments (a .end) p m₁ m₂ t w n e fit
+      abbrev had-all : Fits text a → Had (laidItems f) ed text arguments p m₁ (asPart n) m₂
+      had-all fit = all-had w n e fit
 
       function-is : (fit : Fits text a) → function item (held ed text a) ≡ then (item (held ed text (n .next))) (result (had-all fit .what))
       function-is fit = function-of item (held ed text a) (had-all fit .what) (opened ed text (n .end)) (held ed text (n .next)) (had-all fit .is) (next-one .is)
 
       pub result-refused : (r : Refusal) → x ≡ Refused r → Is (function item (held ed text a)) (Refused r) m₅
       result-refused r z =
-          reads-refused f ed text (Fits text a) (function item (held ed text a)) (a .end) s l m₅ r
-          (λ fit. subst (λ (y : Ans Tree). Refuses y r) (sym (function-is fit))
+          reads-refused r (λ fit. subst (λ (y : Ans Tree). Refuses y r) (sym (function-is fit))
           (refuses-ok (item (held ed text (n .next))) r (λ y u. spanned RecFunction (held ed text a) u (behind (had-all fit .what) y))
-          (reads-not f ed text (Fits text (n .next)) (item (held ed text (n .next))) (n .next .end) d m₄ m₅ x v r z (next-one .fits))))
+          (reads-not v r z (next-one .fits))))
 
       pub function-read : (y : Part) → x ≡ Read y → length l ≤ last → (i c : Spot) (m₃ : List ℕ) → i ≡ inside f s → Placed l i (markIn f (bytes "|")) p m₁
           → Placed m₂ (n .to) (markIn f (cond (eqb (n .count) 0) (bytes " |") (bytes "|"))) c m₃ → Placed m₃ c (markIn f (bytes " ")) d m₄ → (m : List ℕ) → m ≡ sealed f RecFunction (a .start) (y .end) s (y .to) m₅
           → Is (function item (held ed text a)) (Read y) m
       unfolding then
       function-read y z h i c m₃ g bar close blank m seal =
-          let had = reads-had f ed text (Fits text (n .next)) (item (held ed text (n .next))) (n .next .end) d m₄ m₅ x v y z (next-one .fits) in
-          let on = reads-goes f ed text (Fits text (n .next)) (item (held ed text (n .next))) (n .next .end) d m₄ m₅ x v y z in
-          reads-built f ed text (Fits text a) (function item (held ed text a)) (a .end) s l m y
+          let had = reads-had v y z (next-one .fits) in
+          let on = reads-goes v y z in
+          reads-built y
           (λ fit.
           let all = had-all fit in
           let end = markIn f (cond (eqb (n .count) 0) (bytes " |") (bytes "|")) in
           let what = node RecFunction (a .start) (y .end) (behind (all .what) (had .what)) in
           let i₁ = placed-long l m₁ (markIn f (bytes "|")) i p bar in
           let items = placed-both m₁ m₂ m₃ (laidItems f (all .what)) end p (n .to) c (omega (arith, h, i₁)) (all .bytes) close in
-          let named : markIn f (bytes "|") ++ (laidItems f (all .what) ++ end) ≡ inBars f (all .what) = ap (λ (k : ℕ). markIn f (bytes "|") ++ (laidItems f (all .what) ++ markIn f (cond (eqb k 0) (bytes " |") (bytes "|")))) (all .counts) ∙ sym (bars-laid f (all .what)) in
+          let named = bars-laid f (all .what) (n .count) (all-counts w n e fit (all .what) _ (all .is)) in
           let bars = placed-as l m₃ _ (inBars f (all .what)) i c named (placed-both l m₁ m₃ (markIn f (bytes "|")) (laidItems f (all .what) ++ end) i p c h bar items) in
           record {
             what = what;
@@ -230,22 +225,21 @@ module _ (f ed : ℕ) (text : List ℕ) (item : Reader) (a : Answer) (s : Spot) 
           (omega (arith, goes .0, next-one .from, next-one .fits .1, on .0)) (on .1)
 
   -- names
-  module _ (i : Spot) (m₁ : List ℕ) (t : Parsed) (w : Reads f ed text (Fits text a) (chain (held ed text a)) (a .end) i l t m₁) where
+  module _ (i : Spot) (m₁ : List ℕ) (t : Parsed) (w : ReadsBy (laid f) ed text chain a i l t m₁) where
     pub named-refused : (r : Refusal) → t ≡ Refused r → Is (named item (held ed text a)) (Refused r) m₁
     unfolding named withArguments
     named-refused r e =
-        reads-no f ed text (Fits text a) (named item (held ed text a)) (a .end) s l m₁ r
-        (λ fit. refuses-look (chain (held ed text a)) r _ (reads-not f ed text (Fits text a) (chain (held ed text a)) (a .end) i l m₁ t w r e fit))
+        reads-no r (λ fit. refuses-look (chain (held ed text a)) r _ (reads-not w r e fit))
 
     module _ (p : Part) (e : t ≡ Read p) where
       abbrev on : (a .end ≤ p .end) × (nextToken ed text (p .end) ≡ Found (p .next))
-      on = reads-goes f ed text (Fits text a) (chain (held ed text a)) (a .end) i l m₁ t w p e
+      on = reads-goes w p e
 
       abbrev after-name : Next ed text (p .end) (p .next)
       after-name = next-found ed text (p .end) (p .next) (on .1)
 
-      abbrev name : Fits text a → Had f ed text (chain (held ed text a)) i l p m₁
-      name fit = reads-had f ed text (Fits text a) (chain (held ed text a)) (a .end) i l m₁ t w p e fit
+      abbrev name : Fits text a → Had (laid f) ed text (chain (held ed text a)) i l p m₁
+      name fit = reads-had w p e fit
 
       abbrev argued : Ans Trees
       argued = listBehind item Greater (held ed text (p .next))
@@ -257,7 +251,7 @@ module _ (f ed : ℕ) (text : List ℕ) (item : Reader) (a : Answer) (s : Spot) 
       pub named-alone : (p .next .kind ≡ Less → ⊥) → length l ≤ last → i ≡ inside f s → (m : List ℕ) → m ≡ sealed f RecType (a .start) (p .end) s (p .to) m₁ → Is (named item (held ed text a)) (Read p) m
       unfolding inAngles
       named-alone k h g m d =
-          reads-built f ed text (Fits text a) (named item (held ed text a)) (a .end) s l m p
+          reads-built p
           (λ fit.
           let c = name fit in
           let what = node RecType (a .start) (p .end) (more (c .what) none) in
@@ -270,28 +264,27 @@ module _ (f ed : ℕ) (text : List ℕ) (item : Reader) (a : Answer) (s : Spot) 
           })
           (on .0) (on .1)
 
-      module _ (k : p .next .kind ≡ Less) (j : Spot) (m₂ : List ℕ) (x : Listed) (v : ReadsAll f ed text (Fits text (p .next)) argued (p .next .end) j m₁ x m₂) where
+      module _ (k : p .next .kind ≡ Less) (j : Spot) (m₂ : List ℕ) (x : Listed) (v : ListContract f ed text item Greater (p .next) j m₁ x m₂) where
         argued-is : (fit : Fits text a) → named item (held ed text a) ≡ then argued (λ xs u. ok (spanned RecType (held ed text a) u (more (name fit .what) xs)) u)
         argued-is fit = named-is fit ∙ when-true (eqb (p .next .kind) Less) _ _ (eq-eqb (p .next .kind) Less k)
 
         pub arguments-refused : (r : Refusal) → x ≡ Broken r → Is (named item (held ed text a)) (Refused r) m₂
         arguments-refused r z =
-            reads-refused f ed text (Fits text a) (named item (held ed text a)) (a .end) s l m₂ r
-            (λ fit. subst (λ (y : Ans Tree). Refuses y r) (sym (argued-is fit))
-            (refuses-ok argued r (λ xs u. spanned RecType (held ed text a) u (more (name fit .what) xs)) (all-not f ed text (Fits text (p .next)) argued (p .next .end) j m₁ m₂ x v r z (after-name .fits))))
+            reads-refused r (λ fit. subst (λ (y : Ans Tree). Refuses y r) (sym (argued-is fit))
+            (refuses-ok argued r (λ xs u. spanned RecType (held ed text a) u (more (name fit .what) xs)) (all-not v r z (after-name .fits))))
 
         pub named-read : (n : Items) → x ≡ All n → length l ≤ last → i ≡ inside f s → j ≡ movedBy (p .to) (length (markIn f (bytes "<"))) → (to : Spot) (m₃ m : List ℕ) → Angled f (eqb (n .count) 0) m₂ (p .to) (n .to) to m₃
             → m ≡ sealed f RecType (a .start) (n .end) s to m₃ → Is (named item (held ed text a)) (Read (record { to = to; end = n .end; next = n .next })) m
         unfolding then
         named-read n z h g q to m₃ m y d =
-            let all = all-had f ed text (Fits text (p .next)) argued (p .next .end) j m₁ m₂ x v n z (after-name .fits) in
-            let goes = all-goes f ed text (Fits text (p .next)) argued (p .next .end) j m₁ m₂ x v n z in
-            reads-built f ed text (Fits text a) (named item (held ed text a)) (a .end) s l m (record { to = to; end = n .end; next = n .next })
+            let all = all-had v n z (after-name .fits) in
+            let goes = all-goes v n z in
+            reads-built (record { to = to; end = n .end; next = n .next })
             (λ fit.
             let c = name fit in
             let what = node RecType (a .start) (n .end) (more (c .what) (all .what)) in
             let i₁ = placed-long l m₁ (laid f (c .what)) i (p .to) (c .bytes) in
-            let angles = angled-placed f m₁ m₂ m₃ (p .to) j (n .to) to (omega (arith, h, i₁)) q (all .what) (all .bytes) (subst (λ (b : ℕ). Angled f (eqb b 0) m₂ (p .to) (n .to) to m₃) (all .counts) y) in
+            let angles = angled-placed f m₁ m₂ m₃ (p .to) j (n .to) to (omega (arith, h, i₁)) q (all .what) (all .bytes) (subst (λ (b : ℕ). Angled f (eqb b 0) m₂ (p .to) (n .to) to m₃) (all-counts v n z (after-name .fits) (all .what) _ (all .is)) y) in
             let body = placed-both l m₁ m₃ (laid f (c .what)) (inAngles f (all .what)) i (p .to) to h (c .bytes) angles in
             record {
               what = what;
@@ -378,10 +371,10 @@ begins-some a e = begins-kind a (λ k. 0 < k) (omega arith) (omega arith) e
 
 module _ (f ed : ℕ) (text : List ℕ) (item : Reader) (a : Answer) (s : Spot) (l m : List ℕ) (r : Parsed) where
   abbrev Whole : Ans Tree → Type 0
-  Whole x = Reads f ed text (Fits text a) x (a .end) s l r m
+  Whole x = Contract (laid f) ed text (Fits text a) x (a .end) s l r m
 
   over-as : (x : Ans Tree) → typeOver item (held ed text a) ≡ x → Whole x → Whole (typeOver item (held ed text a))
-  over-as x e d = reads-as f ed text (Fits text a) (Fits text a) (typeOver item (held ed text a)) x (a .end) (a .end) s l m r (omega arith) (λ fit. fit) (λ fit. e) d
+  over-as x e d = reads-as (omega arith) (λ fit. fit) (λ fit. e) d
 
   pub marked-brackets : a .kind ≡ LParen → Whole (brackets item (held ed text a)) → Whole (typeOver item (held ed text a))
   marked-brackets e d = over-as (brackets item (held ed text a)) (over-brackets item (held ed text a) e) d
@@ -399,7 +392,7 @@ module _ (f ed : ℕ) (text : List ℕ) (item : Reader) (a : Answer) (s : Spot) 
       pub marked-other : (a .kind ≡ Pipe → ⊥) → begins a ≡ false → r ≡ refusedToken UnexpectedToken a → Whole (typeOver item (held ed text a))
       marked-other e b d =
           over-as (named item (held ed text a)) (over-named item (held ed text a) k₁ k₂ k₃ e)
-          (subst (λ (y : Parsed). Reads f ed text (Fits text a) (named item (held ed text a)) (a .end) s l y m) (sym d)
+          (subst (λ (y : Parsed). ReadsBy (laid f) ed text (named item) a s l y m) (sym d)
           (named-refused f ed text item a s l s m r (chain-other f ed text s l m a (begins a) r refl b d) _ d))
 
   -- a name begins it
@@ -413,22 +406,20 @@ module _ (f ed : ℕ) (text : List ℕ) (item : Reader) (a : Answer) (s : Spot) 
         b refl) d
 
 pub begun-bad : (f ed : ℕ) (text : List ℕ) (item : Reader) (a : Answer) (s : Spot) (l m : List ℕ) (r : Refusal) → begins a ≡ true → nextToken ed text (a .end) ≡ Bad r
-    → Reads f ed text (Fits text a) (typeOver item (held ed text a)) (a .end) s l (Refused r) m
+    → ReadsBy (laid f) ed text (typeOver item) a s l (Refused r) m
 begun-bad f ed text item a s l m r b h =
     begun-named f ed text item a s l m (Refused r) b (named-refused f ed text item a s l s m (Refused r) (chain-bad f ed text s l m a (begins a) refl b r h) r refl)
 
 module _ (f ed : ℕ) (text : List ℕ) (left : ℕ) (a : Answer) (s : Spot) (l m : List ℕ) (r : Parsed) where
   abbrev Levelled : Ans Tree → Type 0
-  Levelled x = Reads f ed text (Fits text a) x (a .end) s l r m
+  Levelled x = Contract (laid f) ed text (Fits text a) x (a .end) s l r m
 
   pub type-deep : left ≡ 0 → r ≡ refusedToken TooDeep a → Levelled (readType left (held ed text a))
   unfolding readType
-  type-deep h e =
-      subst (λ (y : Parsed). Reads f ed text (Fits text a) (readType left (held ed text a)) (a .end) s l y m) (sym e)
-      (reads-no f ed text (Fits text a) (readType left (held ed text a)) (a .end) s l m (refusal TooDeep (a .start) (a .end)) (λ fit. rw h (ap no (token-refused ed text TooDeep a fit))))
+  type-deep h e = reads-token TooDeep a r (λ fit. fit) (λ _. rw h) e
 
   pub type-over : 0 < left → Levelled (typeOver (readType (left - 1)) (held ed text a)) → Levelled (readType left (held ed text a))
   unfolding readType
   type-over h d =
       let e : left ≡ suc (left - 1) = omega (arith, h) in
-      reads-as f ed text (Fits text a) (Fits text a) (readType left (held ed text a)) (typeOver (readType (left - 1)) (held ed text a)) (a .end) (a .end) s l m r (omega arith) (λ fit. fit) (λ fit. ap (λ (n : ℕ). readType n (held ed text a)) e) d
+      reads-as (omega arith) (λ fit. fit) (λ fit. ap (λ (n : ℕ). readType n (held ed text a)) e) d

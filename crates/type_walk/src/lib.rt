@@ -1,16 +1,14 @@
 // Types and lists of types, laid down in the form that the caller asks for.
 ghost use mathlib.Core.Path.{_≡_};
-ghost use mathlib.Core.Bool.{true, false, cond, _||_};
+ghost use mathlib.Core.Bool.{false, cond, _||_};
 ghost use lib.Dec.{eqb};
 ghost use Rattle.words.specs.Kinds.{Amp, AmpMut, Greater};
 ghost use Rattle.tokens.specs.Calls.{nextToken};
-ghost use Rattle.tokens.specs.declared.Lexed.the-variants.{Found};
 ghost use Rattle.records.specs.Kinds.{RecRef, RecRefMut};
-ghost use Rattle.answers.specs.Reading.{listBehind};
 ghost use Rattle.grammar.specs.Types.{brackets, reference, function, named, typeOver, readType};
-ghost use Rattle.parts.specs.code.Meets.{Fits, held, Reads};
-ghost use Rattle.lists.specs.code.Lists.{nextItem, Itemed, Steps, ReadsAll};
-ghost use Rattle.chains.specs.code.Parts.{begins};
+ghost use Rattle.parts.specs.code.Meets.{Reads};
+ghost use Rattle.lists.specs.code.Lists.{StepsAt, ItemAt, ReadsList};
+ghost use Rattle.chains.specs.code.Parts.{begins, ReadsNamed};
 ghost use Rattle.type_walk.specs.code.Types.{Angled, bracketsKind};
 use forms::Spot;
 use lists::Listed;
@@ -91,7 +89,7 @@ fn close_angles(form: u8, none: bool, out: &mut [u8], s: Spot, b: Spot) -> Spot
 
 // The type whose first token is a; the levels that are left count its own.
 pub fn parse_type(w: Way, text: &[u8], a: Token, out: &mut [u8], s: Spot) -> Parsed
-    ensures { λ r. ⌜ Reads (w .form) (w .edition) (now (text .entry)) (Fits (now (text .entry)) a) (readType (w .left) (held (w .edition) (now (text .entry)) a)) (a .end) s (now (out .entry)) r (now (out .exit)) ⌝ }
+    ensures { λ r. ⌜ Reads w (now (text .entry)) (readType (w .left)) a s (now (out .entry)) r (now (out .exit)) ⌝ }
 {
     if w.left == 0 {
         return parts::too_deep(a);
@@ -113,7 +111,7 @@ pub fn parse_type(w: Way, text: &[u8], a: Token, out: &mut [u8], s: Spot) -> Par
 
 // The type that a begins, which begins no name.
 fn marked_at(w: Way, text: &[u8], a: Token, out: &mut [u8], s: Spot) -> Parsed
-    ensures { λ r. ⌜ (begins a ≡ false → Reads (w .form) (w .edition) (now (text .entry)) (Fits (now (text .entry)) a) (typeOver (readType (w .left)) (held (w .edition) (now (text .entry)) a)) (a .end) s (now (out .entry)) r (now (out .exit))) ⌝ }
+    ensures { λ r. ⌜ (begins a ≡ false → Reads w (now (text .entry)) (typeOver (readType (w .left))) a s (now (out .entry)) r (now (out .exit))) ⌝ }
 {
     if a.kind == L_PAREN {
         return brackets_at(w, text, a, out, s);
@@ -129,7 +127,7 @@ fn marked_at(w: Way, text: &[u8], a: Token, out: &mut [u8], s: Spot) -> Parsed
 
 // The brackets that a opens round none, one or more types.
 fn brackets_at(w: Way, text: &[u8], a: Token, out: &mut [u8], s: Spot) -> Parsed
-    ensures { λ r. ⌜ Reads (w .form) (w .edition) (now (text .entry)) (Fits (now (text .entry)) a) (brackets (readType (w .left)) (held (w .edition) (now (text .entry)) a)) (a .end) s (now (out .entry)) r (now (out .exit)) ⌝ }
+    ensures { λ r. ⌜ Reads w (now (text .entry)) (brackets (readType (w .left))) a s (now (out .entry)) r (now (out .exit)) ⌝ }
 {
     let i = forms::step_inside(w.form, s);
     let p = forms::put_mark(w.form, b'(', out, i);
@@ -151,7 +149,7 @@ fn brackets_at(w: Way, text: &[u8], a: Token, out: &mut [u8], s: Spot) -> Parsed
 
 // The reference that a begins.
 fn reference_at(w: Way, mutable: bool, text: &[u8], a: Token, out: &mut [u8], s: Spot) -> Parsed
-    ensures { λ r. ⌜ Reads (w .form) (w .edition) (now (text .entry)) (Fits (now (text .entry)) a) (reference (readType (w .left)) (cond mutable RecRefMut RecRef) (held (w .edition) (now (text .entry)) a)) (a .end) s (now (out .entry)) r (now (out .exit)) ⌝ }
+    ensures { λ r. ⌜ Reads w (now (text .entry)) (reference (readType (w .left)) (cond mutable RecRefMut RecRef)) a s (now (out .entry)) r (now (out .exit)) ⌝ }
 {
     let l = tokens::next_token(w.edition, text, a.end);
     match l {
@@ -181,7 +179,7 @@ fn reference_at(w: Way, mutable: bool, text: &[u8], a: Token, out: &mut [u8], s:
 
 // The function type that the `|` a begins: its arguments, then its result.
 fn function_at(w: Way, text: &[u8], a: Token, out: &mut [u8], s: Spot) -> Parsed
-    ensures { λ r. ⌜ Reads (w .form) (w .edition) (now (text .entry)) (Fits (now (text .entry)) a) (function (readType (w .left)) (held (w .edition) (now (text .entry)) a)) (a .end) s (now (out .entry)) r (now (out .exit)) ⌝ }
+    ensures { λ r. ⌜ Reads w (now (text .entry)) (function (readType (w .left))) a s (now (out .entry)) r (now (out .exit)) ⌝ }
 {
     let i = forms::step_inside(w.form, s);
     let q = forms::put_mark(w.form, b'|', out, i);
@@ -206,7 +204,7 @@ fn function_at(w: Way, text: &[u8], a: Token, out: &mut [u8], s: Spot) -> Parsed
 
 // The type that the name at a begins, with its arguments; n is the token behind a.
 fn named_at(w: Way, text: &[u8], a: Token, n: Token, out: &mut [u8], s: Spot) -> Parsed
-    ensures { λ r. ⌜ (nextToken (w .edition) (now (text .entry)) (a .end) ≡ Found n → begins a ≡ true → Reads (w .form) (w .edition) (now (text .entry)) (Fits (now (text .entry)) a) (named (readType (w .left)) (held (w .edition) (now (text .entry)) a)) (a .end) s (now (out .entry)) r (now (out .exit))) ⌝ }
+    ensures { λ r. ⌜ ReadsNamed w (now (text .entry)) (named (readType (w .left))) a n s (now (out .entry)) r (now (out .exit)) ⌝ }
 {
     let i = forms::step_inside(w.form, s);
     let c = chains::name_behind(w, text, a, n, out, i);
@@ -239,7 +237,7 @@ fn named_at(w: Way, text: &[u8], a: Token, n: Token, out: &mut [u8], s: Spot) ->
 // The list of types that o opens and a token of the kind `close` ends, its items one behind the other
 // (parse_comma_list of the Rust).
 fn type_list(w: Way, close: u8, text: &[u8], o: Token, out: &mut [u8], s: Spot) -> Listed
-    ensures { λ r. ⌜ ReadsAll (w .form) (w .edition) (now (text .entry)) (Fits (now (text .entry)) o) (listBehind (readType (w .left)) close (held (w .edition) (now (text .entry)) o)) (o .end) s (now (out .entry)) r (now (out .exit)) ⌝ }
+    ensures { λ r. ⌜ ReadsList w (now (text .entry)) (readType (w .left)) close o s (now (out .entry)) r (now (out .exit)) ⌝ }
 {
     let mut i = o.end;
     let mut to = forms::move_by(s, 0);
@@ -276,7 +274,7 @@ fn type_step(
     out: &mut [u8],
     s: Spot,
 ) -> Step
-    ensures { λ r. ⌜ Steps (w .form) (w .edition) (now (text .entry)) (readType (w .left)) close o first s (now (out .entry)) (nextItem close (nextToken (w .edition) (now (text .entry)) at)) r (now (out .exit)) ⌝ }
+    ensures { λ r. ⌜ StepsAt w (now (text .entry)) (readType (w .left)) close o at first s (now (out .entry)) r (now (out .exit)) ⌝ }
 {
     let b = lists::next_item(w.edition, close, text, at);
     match b {
@@ -297,7 +295,7 @@ fn type_item(
     out: &mut [u8],
     s: Spot,
 ) -> Step
-    ensures { λ r. ⌜ Itemed (w .form) (w .edition) (now (text .entry)) (readType (w .left)) close o first s (now (out .entry)) a r (now (out .exit)) ⌝ }
+    ensures { λ r. ⌜ ItemAt w (now (text .entry)) (readType (w .left)) close o a first s (now (out .entry)) r (now (out .exit)) ⌝ }
 {
     let p = forms::put_between(w.form, first, out, s);
     let t = parse_type(w, text, a, out, p);
@@ -307,7 +305,7 @@ fn type_item(
 // The type arguments behind the `<` o, up to `>`, or to the first byte of `>>`: the items alone, without the
 // marks. The levels that are left count each argument's own.
 pub fn parse_type_args(w: Way, text: &[u8], o: Token, out: &mut [u8], s: Spot) -> Listed
-    ensures { λ r. ⌜ ReadsAll (w .form) (w .edition) (now (text .entry)) (Fits (now (text .entry)) o) (listBehind (readType (w .left)) Greater (held (w .edition) (now (text .entry)) o)) (o .end) s (now (out .entry)) r (now (out .exit)) ⌝ }
+    ensures { λ r. ⌜ ReadsList w (now (text .entry)) (readType (w .left)) Greater o s (now (out .entry)) r (now (out .exit)) ⌝ }
 {
     type_list(w, GREATER, text, o, out, s)
 }

@@ -1,4 +1,4 @@
--- Pieces of bindings as they are laid down, and what a function answers that reads a part of a binding.
+-- Pieces of bindings as they are laid down, and contracts of functions that read a part of a binding.
 use Prim.Native.Nat.{ℕ}
 use mathlib.Core.Path.{_≡_}
 use mathlib.Core.Bool.{Bool, false, cond, not, _||_}
@@ -8,23 +8,24 @@ use lib.ListN.{length}
 use lib.Seq.{sets}
 use Rattle.classes.specs.Bytes.{bytes}
 use Rattle.words.specs.Kinds.{Identifier, Colon, ColonColon, Less, Greater, LBrace}
+use Rattle.tokens.specs.Calls.{nextToken}
 use Rattle.tokens.specs.declared.Token.{Token}
+use Rattle.tokens.specs.declared.Lexed.the-variants.{Found}
 use Rattle.records.specs.Kinds.{RecName, RecVariable}
 use Rattle.records.specs.Tree.{Tree, Trees}
-use Rattle.sources.specs.Source.{opened, Lexeme, after, lex}
+use Rattle.sources.specs.Source.{Lexeme, after, lex}
 use Rattle.answers.specs.Reading.{Ans, ok, look, when, leafOf, Reader, listBehind}
 use Rattle.grammar.specs.Types.{readType}
 use Rattle.grammar.specs.Binds.{readField, readBind}
 use Rattle.forms.specs.Forms.{markIn, laid, laidItems}
-use Rattle.forms.specs.code.Spots.{movedBy, sealed, Placed}
+use Rattle.forms.specs.code.Spots.{movedBy, sealed}
 use Rattle.forms.specs.declared.Spot.{Spot}
 use Rattle.parts.specs.declared.Part.{Part}
 use Rattle.parts.specs.declared.Parsed.{Parsed}
 use Rattle.parts.specs.declared.Parsed.the-variants.{Read, Refused}
-use Rattle.parts.specs.code.Meets.{Fits, held, Refuses, Follows}
+use Rattle.parts.specs.declared.Way.{Way}
+use Rattle.parts.specs.code.Meets.{held, Reads, ReadsBy}
 use Rattle.chains.specs.code.Parts.{leafAt, Past}
-use Rattle.lists.specs.declared.Listed.{Listed}
-use Rattle.lists.specs.declared.Listed.the-variants.{All, Refused as Broken}
 
 -- the kind of the token behind an identifier: the binding is no variable
 abbrev pub structKind : ℕ → Bool
@@ -56,11 +57,6 @@ angled f ts = enclosed f (bytes "<") 62 (laidItems f ts)
 abbrev pub braced : ℕ → Trees → List ℕ
 braced f fs = enclosed f (bytes " {") 125 (laidItems f fs)
 
--- a list, as a part of a record
-unfoldable pub partOf : Listed → Parsed
-partOf (All n) = Read (record { to = n .to; end = n .end; next = n .next })
-partOf (Broken r) = Refused r
-
 -- a part with a mark of one byte behind it: the answer, and the buffer
 unfoldable pub endedBy : ℕ → ℕ → Parsed → Parsed
 endedBy f b (Read p) = Read (record { to = movedBy (p .to) (length (markIn f (b ∷ []))); end = p .end; next = p .next })
@@ -75,22 +71,12 @@ unfoldable pub headedBy : ℕ → ℕ → ℕ → Spot → Parsed → List ℕ �
 headedBy f k start s (Read p) l = sealed f k start (p .end) s (p .to) l
 headedBy f k start s (Refused r) l = l
 
--- a contract as `Reads`, of what is laid down by `lay`
-pub record HadBy {A : Type 0} (lay : A → List ℕ) (ed : ℕ) (text : List ℕ) (x : Ans A) (s : Spot) (l : List ℕ) (p : Part) (m : List ℕ) : Type 0 where
-  pub what : A
-  pub is : x ≡ ok what (opened ed text (p .end))
-  pub bytes : Placed l s (lay what) (p .to) m
-
-unfoldable pub MeetsBy : {A : Type 0} → (A → List ℕ) → ℕ → List ℕ → Ans A → Spot → List ℕ → Parsed → List ℕ → Type 0
-MeetsBy lay ed text x s l (Read p) m = HadBy lay ed text x s l p m
-MeetsBy lay ed text x s l (Refused r) m = Refuses x r
-
-pub record ReadsBy {A : Type 0} (lay : A → List ℕ) (ed : ℕ) (text : List ℕ) (fits : Type 0) (x : Ans A) (from : ℕ) (s : Spot) (l : List ℕ) (r : Parsed) (m : List ℕ) : Type 0 where
-  pub meets : (fits → MeetsBy lay ed text x s l r m)
-  pub goes : Follows ed text from r
+-- the contract of a function that is given a field's name a, and n: what the field binds, where n stands behind a
+abbrev pub ReadsBound : Way → List ℕ → Token → Token → Spot → List ℕ → Parsed → List ℕ → Type 0
+ReadsBound w text a n s l r m = nextToken (w .edition) text (a .end) ≡ Found n → Reads w text (λ t. boundBy (w .left) t (held (w .edition) text n)) a s l r m
 
 -- the types of a struct behind its name p: none where no `<` stands there; and, whatever stands there, reading does not go on before it
-pub record TypesBehind (f ed : ℕ) (text : List ℕ) (n : ℕ) (p : Part) (l : List ℕ) (r : Parsed) (m : List ℕ) : Type 0 where
+pub record TypesBehind (w : Way) (text : List ℕ) (p : Part) (l : List ℕ) (r : Parsed) (m : List ℕ) : Type 0 where
   pub plain : ((p .next .kind ≡ Less → ⊥) → (r ≡ Read p) × (m ≡ l))
-  pub typed : (p .next .kind ≡ Less → ReadsBy (angled f) ed text (Fits text (p .next)) (listBehind (readType n) Greater (held ed text (p .next))) (p .next .end) (p .to) l r m)
+  pub typed : (p .next .kind ≡ Less → ReadsBy (angled (w .form)) (w .edition) text (listBehind (readType (w .left)) Greater) (p .next) (p .to) l r m)
   pub past : Past (p .next .end) r

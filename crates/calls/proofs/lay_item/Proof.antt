@@ -17,13 +17,25 @@ lays : (form : ℕ) (q : Asked) (a : Token) (l made m : List ℕ) (d : Made) (r 
 lays form q a l made m d r m₂ h e f = rw (e, f) h
 
 returns : tie.Need-returns
-returns c = let x = c .before .before .before .before .before .before .before .before .before .before .before .before .before .before .before .args in lays (x .form) (asked (x .kind) (x .edition) (now (x .text)) (x .a .start)) (x .a) _ _ _ _ _ _ (c .before .before .before .before .before .before .before .before .lay-over .ensures) (c .before .before .copied .ensures .0) (c .before .before .copied .ensures .1)
+returns c =
+    let c₁ = c .before .before in
+    let c₂ = c₁ .before .before .before .before .before .before in
+    let x = c₂ .before .before .before .before .before .before .before .args in
+    lays (x .form) (asked (x .kind) (x .edition) (now (x .text)) (x .a .start)) (x .a) _ _ _ _ _ _ (c₂ .lay-over .ensures) (c₁ .copied .ensures .0) (c₁ .copied .ensures .1)
 
 returns-2 : tie.Need-returns-2
-returns-2 c = let x = c .before .before .before .before .before .before .before .before .before .before .before .before .before .before .before .before .args in lays (x .form) (asked (x .kind) (x .edition) (now (x .text)) (x .a .start)) (x .a) _ _ _ _ _ _ (c .before .before .before .before .before .before .before .before .lay-over2 .ensures) (c .before .before .copied2 .ensures .0) (c .before .before .copied2 .ensures .1)
+returns-2 c =
+    let c₁ = c .before .before in
+    let c₂ = c₁ .before .before .before .before .before .before in
+    let x = c₂ .before .before .before .before .before .before .before .before .args in
+    lays (x .form) (asked (x .kind) (x .edition) (now (x .text)) (x .a .start)) (x .a) _ _ _ _ _ _ (c₂ .lay-over2 .ensures) (c₁ .copied2 .ensures .0) (c₁ .copied2 .ensures .1)
 
 returns-3 : tie.Need-returns-3
-returns-3 c = let x = c .before .before .before .before .before .before .before .before .before .before .before .before .before .before .before .before .args in lays (x .form) (asked (x .kind) (x .edition) (now (x .text)) (x .a .start)) (x .a) _ _ _ _ _ _ (c .before .before .before .before .before .before .before .before .lay-over3 .ensures) (c .before .before .copied3 .ensures .0) (c .before .before .copied3 .ensures .1)
+returns-3 c =
+    let c₁ = c .before .before in
+    let c₂ = c₁ .before .before .before .before .before .before in
+    let x = c₂ .before .before .before .before .before .before .before .before .args in
+    lays (x .form) (asked (x .kind) (x .edition) (now (x .text)) (x .a .start)) (x .a) _ _ _ _ _ _ (c₂ .lay-over3 .ensures) (c₁ .copied3 .ensures .0) (c₁ .copied3 .ensures .1)
 
 pub lay-item-spec : {M : Type 1} → statement M
 lay-item-spec =

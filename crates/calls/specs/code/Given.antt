@@ -21,11 +21,11 @@ use Rattle.records.specs.Stored.{records}
 use Rattle.sources.specs.Source.{Lexeme, tokenOf}
 use Rattle.answers.specs.Reading.{Ans}
 use Rattle.grammar.specs.Items.{Item, item, refused, readKind, finished, Asked, readItem}
-use Rattle.forms.specs.Forms.{FormNarrow, FormWide, isLine, front, written, narrowLimit}
+use Rattle.forms.specs.Forms.{FormNarrow, FormWide, isLine, front, laid, written, narrowLimit}
 use Rattle.forms.specs.code.Spots.{last, cap, Placed}
 use Rattle.forms.specs.declared.Spot.{Spot}
 use Rattle.parts.specs.declared.Parsed.{Parsed}
-use Rattle.parts.specs.code.Meets.{Fits, held, Reads}
+use Rattle.parts.specs.code.Meets.{Fits, held, ReadsBy}
 use Rattle.calls.specs.Calls.{lineLimit, roomed, filled, answeredIn, display, displayBuffer, displayed}
 use Rattle.calls.specs.declared.Answer.{Answer}
 use Rattle.calls.specs.declared.Answer.the-variants.{Item as Accepted, Refused}
@@ -72,7 +72,7 @@ pub record LaidDown (form : ℕ) (q : Asked) (a : First) (l : List ℕ) (r : Par
   pub fronted : List ℕ
   pub short : length l ≤ last
   pub inFront : Placed l atStart (front form) from fronted
-  pub reads : Reads form (q .edition) (q .text) (Fits (q .text) a) (readFrom q a) (a .end) from fronted r m
+  pub reads : ReadsBy (laid form) (q .edition) (q .text) (readKind (q .kind)) a from fronted r m
 
 -- the answer for an item i in a form and a room, over a buffer l that becomes m
 pub record Gives (form : Tree → ℕ) (room : ℕ) (i : Item) (l : List ℕ) (r : Answer) (m : List ℕ) : Type 0 where

@@ -13,13 +13,15 @@ use Rattle.tokens.specs.declared.Token.{Token}
 use Rattle.tokens.specs.declared.Lexed.the-variants.{Found}
 use Rattle.records.specs.Kinds.{RecName, RecAddress, RecThreePart, RecPair, RecAddressValue}
 use Rattle.records.specs.Tree.{Tree, leaf, node, none, more}
-use Rattle.answers.specs.Reading.{Ans}
+use Rattle.sources.specs.Source.{Lexeme}
+use Rattle.answers.specs.Reading.{Reader}
 use Rattle.forms.specs.Forms.{markIn, laid, headed}
 use Rattle.forms.specs.code.Spots.{wordOf}
 use Rattle.forms.specs.declared.Spot.{Spot}
 use Rattle.parts.specs.declared.Parsed.{Parsed}
 use Rattle.parts.specs.declared.Parsed.the-variants.{Read, Refused}
-use Rattle.parts.specs.code.Meets.{Fits, Reads}
+use Rattle.parts.specs.declared.Way.{Way}
+use Rattle.parts.specs.code.Meets.{Fits, held, Contract, Reads}
 
 abbrev pub leafAt : ℕ → List ℕ → Token → Tree
 leafAt c text a = leaf c (a .start) (a .end) (wordOf text a)
@@ -53,8 +55,19 @@ unfoldable pub Past : ℕ → Parsed → Type 0
 Past e (Read p) = e ≤ p .next .end
 Past e (Refused r) = Unit {0}
 
--- a contract, as `Reads`, of a function that is given the token d behind its first one: where d is that token and a name may begin with
--- a the answer is what x says; and, whatever they are, reading does not go on before the end of d
-pub record ReadsBehind (form ed : ℕ) (text : List ℕ) (a d : Token) (x : Ans Tree) (s : Spot) (l : List ℕ) (r : Parsed) (m : List ℕ) : Type 0 where
-  pub reads : (nextToken ed text (a .end) ≡ Found d → begins a ≡ true → Reads form ed text (Fits text a) x (a .end) s l r m)
+-- contracts of functions that are given two or three tokens of what the reader reads, and go on behind the last
+abbrev pub Reads₂ : Way → List ℕ → (Lexeme → Reader) → Token → Token → Spot → List ℕ → Parsed → List ℕ → Type 0
+Reads₂ w text reader a b s l r m = Contract (laid (w .form)) (w .edition) text (Fits text a × Fits text b) (reader (held (w .edition) text a) (held (w .edition) text b)) (b .end) s l r m
+
+abbrev pub Reads₃ : Way → List ℕ → (Lexeme → Lexeme → Reader) → Token → Token → Token → Spot → List ℕ → Parsed → List ℕ → Type 0
+Reads₃ w text reader a b c s l r m =
+    Contract (laid (w .form)) (w .edition) text (Fits text a × Fits text b × Fits text c) (reader (held (w .edition) text a) (held (w .edition) text b) (held (w .edition) text c)) (c .end) s l r m
+
+-- of one that is given the first token, a, and d: what the reader says, where d stands behind a and a name may begin with a
+abbrev pub ReadsNamed : Way → List ℕ → Reader → Token → Token → Spot → List ℕ → Parsed → List ℕ → Type 0
+ReadsNamed w text reader a d s l r m = nextToken (w .edition) text (a .end) ≡ Found d → begins a ≡ true → Reads w text reader a s l r m
+
+-- and, whatever they are, reading does not go on before the end of d
+pub record ReadsBehind (w : Way) (text : List ℕ) (reader : Reader) (a d : Token) (s : Spot) (l : List ℕ) (r : Parsed) (m : List ℕ) : Type 0 where
+  pub reads : ReadsNamed w text reader a d s l r m
   pub past : Past (d .end) r

@@ -1,5 +1,5 @@
--- What the functions of lists answer; and what a function that reads a list answers for what `list` says, and what it lays down.
-use Prim.Native.Nat.{ℕ, _+_, _≤_, min}
+-- What the functions of lists answer; and the contract of a function that reads a list.
+use Prim.Native.Nat.{ℕ, _+_, min}
 use mathlib.Core.Path.{_≡_}
 use mathlib.Core.Bool.{Bool, cond, _&&_}
 use mathlib.Core.List.{List, []}
@@ -14,12 +14,14 @@ use Rattle.tokens.specs.declared.Token.{Token as Answer}
 use Rattle.tokens.specs.declared.Lexed.{Lexed}
 use Rattle.tokens.specs.declared.Lexed.the-variants.{Found, Refused as Bad}
 use Rattle.records.specs.Tree.{Trees, none, more}
-use Rattle.sources.specs.Source.{opened}
-use Rattle.answers.specs.Reading.{Ans, ok, Reader}
-use Rattle.forms.specs.Forms.{markIn, laidItems}
+use Rattle.sources.specs.Source.{Source}
+use Rattle.answers.specs.Reading.{Ans, ok, Reader, listBehind}
+use Rattle.forms.specs.Forms.{markIn, laid, laidItems}
 use Rattle.forms.specs.code.Spots.{Placed}
 use Rattle.forms.specs.declared.Spot.{Spot}
-use Rattle.parts.specs.code.Meets.{Fits, held, Refuses, Reads}
+use Rattle.parts.specs.code.Meets.{Fits, held, ReadsBy}
+use Rattle.parts.specs.declared.Way.{Way}
+use Rattle.parts.specs.declared.Part.{Part}
 use Rattle.parts.specs.declared.Parsed.{Parsed}
 use Rattle.parts.specs.declared.Parsed.the-variants.{Read, Refused as Wrong}
 use Rattle.lists.specs.declared.Items.{Items}
@@ -65,7 +67,7 @@ module _ (form ed : ℕ) (text : List ℕ) (item : Reader) (close : ℕ) (o : An
     pub parted : List ℕ
     pub between : Placed l s (cond first [] (markIn form (bytes ", "))) from parted
     pub part : Parsed
-    pub reads : Reads form ed text (Fits text a) (item (held ed text a)) (a .end) from parted part m
+    pub reads : ReadsBy (laid form) ed text item a from parted part m
     pub is : r ≡ afterItem close o part
 
   -- by what stands before the item
@@ -73,6 +75,13 @@ module _ (form ed : ℕ) (text : List ℕ) (item : Reader) (close : ℕ) (o : An
   Steps (Item a) r m = Itemed a r m
   Steps (Closes q) r m = (r ≡ Shut q) × (m ≡ l)
   Steps (Faulty x) r m = (r ≡ Stopped x) × (m ≡ l)
+
+-- the same on the way w: the step where an item is due at the offset `at`, and the one that takes the item whose first token is a
+abbrev pub StepsAt : Way → List ℕ → Reader → ℕ → Answer → ℕ → Bool → Spot → List ℕ → Step → List ℕ → Type 0
+StepsAt w text item close o at first s l r m = Steps (w .form) (w .edition) text item close o first s l (nextItem close (nextToken (w .edition) text at)) r m
+
+abbrev pub ItemAt : Way → List ℕ → Reader → ℕ → Answer → Answer → Bool → Spot → List ℕ → Step → List ℕ → Type 0
+ItemAt w text item close o a first s l r m = Itemed (w .form) (w .edition) text item close o first s l a r m
 
 -- how many items: none, one, or more, which is 2; and one more of them
 unfoldable pub countOf : Trees → ℕ
@@ -88,23 +97,24 @@ unfoldable pub closedAt : ℕ → ℕ → Spot → Lexed → Listed
 closedAt q n s (Found t) = All (record { to = s; count = n; end = q; next = t })
 closedAt q n s (Bad r) = Broken r
 
--- the list is `what`, and its items were laid down from the place s on
-pub record HadAll (form ed : ℕ) (text : List ℕ) (x : Ans Trees) (s : Spot) (l : List ℕ) (p : Items) (m : List ℕ) : Type 0 where
-  pub what : Trees
-  pub is : x ≡ ok what (opened ed text (p .end))
-  pub counts : p .count ≡ countOf what
-  pub bytes : Placed l s (laidItems form what) (p .to) m
+-- a list, as a part of a record
+abbrev pub asPart : Items → Part
+asPart n = record { to = n .to; end = n .end; next = n .next }
 
-unfoldable pub MeetsAll : ℕ → ℕ → List ℕ → Ans Trees → Spot → List ℕ → Listed → List ℕ → Type 0
-MeetsAll form ed text x s l (All p) m = HadAll form ed text x s l p m
-MeetsAll form ed text x s l (Broken r) m = Refuses x r
+unfoldable pub partOf : Listed → Parsed
+partOf (All n) = Read (asPart n)
+partOf (Broken r) = Wrong r
 
--- reading goes on at `end`, which is not before `from`, with the token that stands there
-unfoldable pub FollowsAll : ℕ → List ℕ → ℕ → Listed → Type 0
-FollowsAll ed text from (All p) = (from ≤ p .end) × (nextToken ed text (p .end) ≡ Found (p .next))
-FollowsAll ed text from (Broken r) = Unit {0}
+-- how many items the answer counts: as many as the list has that x says
+unfoldable pub Counts : Ans Trees → Listed → Type 0
+Counts x (All n) = (ts : Trees) (u : Source) → x ≡ ok ts u → n .count ≡ countOf ts
+Counts x (Broken r) = Unit {0}
 
--- a contract, as `Reads`: where the tokens fit the answer is what x says; and, whatever they are, reading goes on behind `from`
-pub record ReadsAll (form ed : ℕ) (text : List ℕ) (fits : Type 0) (x : Ans Trees) (from : ℕ) (s : Spot) (l : List ℕ) (r : Listed) (m : List ℕ) : Type 0 where
-  pub meets : (fits → MeetsAll form ed text x s l r m)
-  pub goes : FollowsAll ed text from r
+-- the contract of a function that lays down the items of the list which o opens: that of a part, and beside it how many items there are
+pub record ListContract (form ed : ℕ) (text : List ℕ) (item : Reader) (close : ℕ) (o : Answer) (s : Spot) (l : List ℕ) (r : Listed) (m : List ℕ) : Type 0 where
+  pub reads : ReadsBy (laidItems form) ed text (listBehind item close) o s l (partOf r) m
+  pub counts : (Fits text o → Counts (listBehind item close (held ed text o)) r)
+
+-- the same on the way w
+abbrev pub ReadsList : Way → List ℕ → Reader → ℕ → Answer → Spot → List ℕ → Listed → List ℕ → Type 0
+ReadsList w text item close o s l r m = ListContract (w .form) (w .edition) text item close o s l r m

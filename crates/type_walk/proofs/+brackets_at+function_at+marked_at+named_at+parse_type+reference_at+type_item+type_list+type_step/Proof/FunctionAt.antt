@@ -45,7 +45,7 @@ parse-type-requires t c κs =
     let c₁ = c .before .before .before .before .before .before .before .before .before .before .before .before in
     let c₂ = c₁ .before .before .before .before in
     let c₃ = c₂ .before .before .before .before .before .before .before .before .before in
-    let g = all-goes _ _ _ _ _ _ _ _ _ _ (c₂ .type-list .ensures) _ (c₁ .l2 .given .1) in
+    let g = all-goes (c₂ .type-list .ensures) _ (c₁ .l2 .given .1) in
     let d = next-found _ _ _ _ (g .1) in
     (omega (arith, c₃ .pre .0, g .0, d .from, d .fits .1, d .fits .2), tt)
 
