@@ -455,13 +455,6 @@ pub fn open<'a>(text: &'a [u8], at: usize) -> Reader<'a>
     Reader { text, at }
 }
 
-// The reader of the same text at another offset.
-pub fn moved<'a>(r: Reader<'a>, at: usize) -> Reader<'a>
-    ensures { λ q. ⌜ (q .text ≡ r .entry .text) × (q .at ≡ at) ⌝ }
-{
-    Reader { text: r.text, at }
-}
-
 // The next token where the reader stands: the token call on slice and offset.
 pub fn next<'a>(r: Reader<'a>, edition: u64) -> Lexed
     ensures { λ l. ⌜ l ≡ nextToken edition (now (r .entry .text)) (r .entry .at) ⌝ }
