@@ -33,6 +33,8 @@
  * A text has at most MOVESIG_LONGEST (1,048,575) bytes, a line at most MOVESIG_LONGEST_LINE (65,535). An
  * item has at most MOVESIG_LEVELS (64) levels. A tree is limited by its buffer alone, and
  * MOVESIG_TREE_ROOM(len) bytes are enough for every tree of a text of `len` bytes.
+ * The tree of a type that spans n bytes, from its first byte to its last, has at most n + 1 records, and
+ * MOVESIG_TYPE_ROOM(n, len) bytes are enough for it; who does not know n yet takes `len - at`.
  *
  * SPANS
  *
@@ -97,6 +99,17 @@ extern "C" {
 #define MOVESIG_TREE_ROOM(len) \
     (4 + 42 * ((size_t)(len) < MOVESIG_LONGEST ? (size_t)(len) : (size_t)MOVESIG_LONGEST))
 
+/* Room for the tree of a type that spans `n` bytes, or fewer, in a text of `len` bytes: at most n + 1 records.
+ * They have 8 bytes each, and for every n from 4 to 8,190 there is a type that takes all of that. In a text of
+ * more than 65,535 bytes every tree is wide, and that of a type of more than 8,190 bytes may be: records of 14
+ * bytes, and four bytes in front; 14,680,068 bytes for the longest text and for every `n` above. For
+ * MOVESIG_TYPE alone: the other kinds need MOVESIG_TREE_ROOM. A constant where `n` and `len` are; else `n` is
+ * evaluated up to three times. */
+#define MOVESIG_TYPE_ROOM(n, len) \
+    ((size_t)(len) <= 65535 && (size_t)(n) <= 8190 \
+         ? 8 * ((size_t)(n) + 1) \
+         : 4 + 14 * (((size_t)(n) < MOVESIG_LONGEST ? (size_t)(n) : (size_t)MOVESIG_LONGEST) + 1))
+
 /* The most levels of an item. */
 #define MOVESIG_LEVELS 64
 
@@ -111,13 +124,13 @@ extern "C" {
  * A station can compare it when it is compiled: the calls take an edition from MINOR 5 on, and trees may be
  * wide from MINOR 6 on. */
 #define MOVESIG_VERSION_MAJOR 0
-#define MOVESIG_VERSION_MINOR 7
+#define MOVESIG_VERSION_MINOR 8
 #define MOVESIG_VERSION (MOVESIG_VERSION_MAJOR * 65536 + MOVESIG_VERSION_MINOR)
 
-/* The library has its version in the name of a symbol too, movesig_version_0_7, whose value is
+/* The library has its version in the name of a symbol too, movesig_version_0_8, whose value is
  * MOVESIG_VERSION. What includes this header and is compiled by gcc or clang refers to that symbol: with a
  * library of another version, whose calls may take other arguments, it is not linked (`undefined reference to
- * movesig_version_0_7`), and with a shared one not started (`undefined symbol`). A source file that wants
+ * movesig_version_0_8`), and with a shared one not started (`undefined symbol`). A source file that wants
  * numbers and names from here and is linked without the library defines MOVESIG_NO_VERSION_CHECK before. */
 #define MOVESIG_JOINED(word, major, minor) word##major##_##minor
 #define MOVESIG_VERSIONED(word, major, minor) MOVESIG_JOINED(word, major, minor)

@@ -119,6 +119,8 @@ pub struct Size {
     pub edition: Option<u64>,
     /// Whether only the sets of long texts are compared.
     pub long_only: bool,
+    /// Whether only the sets of types are read.
+    pub types_only: bool,
 }
 
 impl Size {
@@ -171,6 +173,16 @@ pub fn numbers(visitor: &mut impl Visitor, size: &Size) {
     visitor.set(&name, |to| {
         every_text(b"1_u6x:@a< ", longest, |text| {
             to.with_a_tail(text, |to, text| to.each_kind(text, 0))
+        })
+    });
+}
+
+/// Texts as types: with them the most records are reached for each number of bytes.
+pub fn short_types(visitor: &mut impl Visitor, longest: usize) {
+    let name = format!("every text up to {longest} bytes, types alone");
+    visitor.set(&name, |to| {
+        every_text(b"a1<>()|,&: ", longest, |text| {
+            to.with_a_tail(text, |to, text| to.item(TYPE, &Text::new(text), 0))
         })
     });
 }
@@ -365,6 +377,9 @@ fn damage(random: &mut Random, case: &mut Case) {
     case.text = texts::damaged(random, &case.text);
     case.at = case.at.min(case.text.len());
 }
+
+/// The number of types.
+pub const TYPE: u64 = ItemKind::Type as u64;
 
 const ALPHABET: &[u8] = b"a<>()|,&:{}@0x\" ";
 

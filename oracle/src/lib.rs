@@ -32,6 +32,7 @@ pub mod reads;
 mod sha256;
 pub mod texts;
 pub mod tree;
+pub mod type_sizes;
 pub mod variants;
 
 /// The sha256 of each included file, to which the build held it.

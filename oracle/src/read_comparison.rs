@@ -3,11 +3,11 @@
 
 use crate::{
     grouped,
-    item_sets::{self, Size, Visitor, TAILS},
+    item_sets::{self, Size, Visitor, TAILS, TYPE},
     shrunk, station_items, Found, ON_LONG,
 };
 use oracle::{
-    answer::ItemCall,
+    answer::{Answer, ItemCall},
     editions,
     expected::Text,
     items::Case,
@@ -15,8 +15,9 @@ use oracle::{
     parsing::on_a_deep_stack,
     random::Random,
     reads::{expected_in, Cause, Expected, Lent},
+    type_sizes::{largest, most, type_room, Stored, TypeSizes, NARROW_TYPE},
 };
-use std::{borrow::Cow, time::Instant};
+use std::{borrow::Cow, mem, time::Instant};
 
 /// How many differences are shown in full, and how many are made small to find that
 /// many that are not the same.
@@ -31,10 +32,16 @@ pub fn run(size: Size) -> Found {
         for edition in size.editions() {
             println!("\nReads, edition {edition}:");
             let mut reads = Reads::new(edition, size.random(0));
-            item_sets::run(&mut reads, &size);
-            if edition == 2 && !size.long_only {
+            if !size.types_only {
+                item_sets::run(&mut reads, &size);
+            }
+            if edition == 2 && !size.long_only && !size.types_only {
                 item_sets::numbers(&mut reads, &size);
             }
+            if !size.long_only {
+                reads.short_types(size.of(7, 5));
+            }
+            reads.largest_types(size.of(1, 41));
             reads.print_summary();
             found.add(reads.different, reads.on_long);
         }
@@ -65,6 +72,8 @@ struct Reads {
     /// Answers of edition 1 on texts by which edition 2 is judged.
     of_first: u64,
     accepted: u64,
+    /// The accepted types, held to the bounds on their trees.
+    sizes: TypeSizes,
     random: Random,
     listed: [u64; Cause::ALL.len()],
     different: u64,
@@ -107,6 +116,7 @@ impl Visitor for Reads {
         for room in 0..expected.written.len() + 2 {
             self.judge(kind, text, at, Room::Bytes(room), &expected);
         }
+        self.hold(kind, text, at, &expected);
     }
 }
 
@@ -129,6 +139,81 @@ impl Reads {
         for room in [Room::Exact, Room::OneLess, Room::None, Room::More(1)] {
             self.judge(kind, text, at, room, &expected);
         }
+        self.hold(kind, text, at, &expected);
+    }
+
+    /// Holds an item that is an accepted type to the bounds on its tree, and reads it in just the room
+    /// that is always enough. Its tree is the one that the port wrote, or a difference was found.
+    fn hold(&mut self, kind: u64, text: &Text, at: usize, expected: &Expected) {
+        let tree = &expected.written;
+        if kind != TYPE || tree.is_empty() {
+            return;
+        }
+        if let Some(wrong) = self.sizes.hold(tree, text.bytes.len()) {
+            self.breaks(text, at, &wrong);
+        }
+        if let Some(Stored { bytes, .. }) = Stored::of(tree) {
+            let room = Room::Bytes(type_room(bytes, text.bytes.len()));
+            self.judge(TYPE, text, at, room, expected);
+        }
+    }
+
+    fn breaks(&mut self, text: &Text, at: usize, wrong: &str) {
+        self.different += 1;
+        println!("  a type at {at}: {wrong}");
+        print_text(text.bytes);
+    }
+
+    /// Short texts as types: for each number of bytes the most records are reached.
+    fn short_types(&mut self, longest: usize) {
+        let before = mem::take(&mut self.sizes);
+        item_sets::short_types(self, longest);
+        let found = &self.sizes.most[1..=longest];
+        println!("  the most records of 1 to {longest} bytes: {found:?}");
+        let due: Vec<_> = (1..=longest).map(most).collect();
+        if found != due {
+            self.different += 1;
+            println!("  DIFFERENT: due were {due:?}");
+        }
+        self.sizes.add(&before);
+    }
+
+    /// The types that have the most records: every n, or each `step`th, alone; and some in texts of
+    /// just so many bytes that their trees are narrow still, and of one more.
+    fn largest_types(&mut self, step: usize) {
+        self.set("types of 4 to 8,190 bytes with the most records", |to| {
+            let some = |n: &usize| *n < 8 || n % step == 0 || *n == NARROW_TYPE;
+            for n in (4..=NARROW_TYPE).filter(some) {
+                let due = Answer::read(8 * (n + 1), 0, n, n);
+                to.largest_type(n, &Text::new(&largest(n)), 0, due);
+            }
+        });
+        self.set("the same in texts of 65,535 and 65,536 bytes", |to| {
+            let beyond = [NARROW_TYPE - 1, NARROW_TYPE, NARROW_TYPE + 1, 32_768];
+            for (n, length) in (4..8)
+                .chain(beyond)
+                .flat_map(|n| [(n, 65_535), (n, 65_536)])
+            {
+                let blanks = vec![b' '; length - n];
+                let due = Answer::read(type_room(n, length), 0, length, length);
+                let front = [&largest(n)[..], &blanks].concat();
+                to.largest_type(n, &Text::new(&front), 0, due);
+                let behind = [&blanks[..], &largest(n)].concat();
+                to.largest_type(n, &Text::new(&behind), length - n, due);
+            }
+        });
+    }
+
+    fn largest_type(&mut self, n: usize, text: &Text, at: usize, due: Answer) {
+        let expected = expected_in(self.edition, TYPE, text, at);
+        let stored = Stored {
+            bytes: n,
+            records: n + 1,
+        };
+        if expected.answer != Some(due) || Stored::of(&expected.written) != Some(stored) {
+            self.breaks(text, at, &format!("{n} bytes should have answered {due}"));
+        }
+        self.one_item(TYPE, text, at);
     }
 
     fn with_all_rooms(&mut self, kind: u64, text: &Text, at: usize) {
@@ -143,6 +228,7 @@ impl Reads {
         ] {
             self.judge(kind, text, at, room, &expected);
         }
+        self.hold(kind, text, at, &expected);
     }
 
     fn new(edition: u64, random: Random) -> Reads {
@@ -154,6 +240,7 @@ impl Reads {
             answers: 0,
             on_long: 0,
             accepted: 0,
+            sizes: TypeSizes::default(),
             random,
             listed: [0; Cause::ALL.len()],
             different: 0,
@@ -230,6 +317,12 @@ impl Reads {
                 "edition 1 on the texts that judge them"
             );
         }
+        println!(
+            "{:<50} {:>12}   records - bytes at most {}",
+            "types held to the bounds on their trees",
+            grouped(self.sizes.types),
+            self.sizes.beyond.unwrap_or(0)
+        );
         print_listed(&self.listed);
         println!("\ndifferences not listed: {}", grouped(self.different));
         for difference in &self.shown {

@@ -38,7 +38,7 @@ comments, reads with the bytes that they write, and displays with their lines;
 first some points whose answers are written down.
 
 usage: compare [--quick] [--seed N] [--edition N] [--reads-only | --displays-only]
-               [--long-only] [--help]
+               [--long-only | --types-only] [--help]
 
   --quick          fewer texts: some 88 million answers, in a minute or two
   --edition N      one edition alone, 1 or 2 (default both)
@@ -46,6 +46,7 @@ usage: compare [--quick] [--seed N] [--edition N] [--reads-only | --displays-onl
   --reads-only     no tokens, comments and displays
   --displays-only  no tokens, comments and reads
   --long-only      only the sets of texts and trees over 65,535 bytes
+  --types-only     only the two sets of reads that look for the largest trees of types
   --help           these words
 
 Prints the sha256 of the Rust sources, how many answers were compared, how many of
@@ -70,7 +71,7 @@ fn main() {
     println!("seed {}\n", options.seed);
 
     let mut all = Found::default();
-    if options.only.is_none() {
+    if options.only.is_none() && !options.types_only {
         if !options.long_only {
             all.add(point_comparison::run(), 0);
         }
@@ -79,7 +80,7 @@ fn main() {
     if options.only != Some(ItemCall::Display) {
         all += read_comparison::run(options.size());
     }
-    if options.only != Some(ItemCall::Read) {
+    if options.only != Some(ItemCall::Read) && !options.types_only {
         all += display_comparison::run(options.size());
     }
     println!("\nAll calls:");
@@ -145,6 +146,8 @@ struct Options {
     only: Option<ItemCall>,
     /// Whether only the sets of long texts are compared.
     long_only: bool,
+    /// Whether only the sets of types are read.
+    types_only: bool,
 }
 
 impl Options {
@@ -154,6 +157,7 @@ impl Options {
             seed: self.seed,
             edition: self.edition,
             long_only: self.long_only,
+            types_only: self.types_only,
         }
     }
 
@@ -173,6 +177,7 @@ fn options() -> Options {
         edition: None,
         only: None,
         long_only: false,
+        types_only: false,
     };
     let mut words = env::args().skip(1);
     while let Some(word) = words.next() {
@@ -190,12 +195,16 @@ fn options() -> Options {
             "--reads-only" => options.only = Some(ItemCall::Read),
             "--displays-only" => options.only = Some(ItemCall::Display),
             "--long-only" => options.long_only = true,
+            "--types-only" => options.types_only = true,
             "--help" => {
                 print!("{HELP}");
                 exit(0);
             }
             _ => bad_usage(&format!("unknown option '{word}'")),
         }
+    }
+    if options.types_only && (options.long_only || options.only == Some(ItemCall::Display)) {
+        bad_usage("--types-only reads, and reads no other sets");
     }
     options
 }

@@ -81,7 +81,8 @@ pub struct Read<'t, 'b> {
 
 /// Reads the item of the kind from `at` on into the buffer. Its tree takes the first bytes of
 /// the buffer; the others stay as they are, and all of them where the read is refused. A buffer of
-/// [`tree_room`](crate::tree_room) bytes has room for every tree of a text.
+/// [`tree_room`](crate::tree_room) bytes has room for every tree of a text, one of
+/// [`type_room`](crate::type_room) for that of a type.
 ///
 /// # Errors
 ///

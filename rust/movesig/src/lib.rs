@@ -41,7 +41,7 @@
 //! [`tree_room`] bytes are room for every tree of a text, [`LONGEST_LINE`] for every line. No file is too
 //! long for that: [`tree_room`] grows no further than [`LONGEST`], and a longer text is refused. Who reads
 //! a file that may be of any length reads at most `LONGEST + 1` of its bytes, which are refused as the whole
-//! file would be.
+//! file would be. The tree of a type needs less: [`type_room`].
 //!
 //! All `unsafe` code stands in one module, `boundary`, which says why each call is sound.
 
@@ -86,6 +86,37 @@ pub const LONGEST_LINE: usize = 65_535;
 #[must_use]
 pub const fn tree_room(len: usize) -> usize {
     4 + 42 * if len < LONGEST { len } else { LONGEST }
+}
+
+/// Room for the tree of a type that spans so many bytes, from its first to its last, or fewer, in a text
+/// of `len` bytes; who does not know how many takes all from the offset on, `len - at`. At most one record
+/// more than the type has bytes: of 8 bytes where it has at most 8,190 and the text at most 65,535, else of
+/// 14 bytes, and four in front. It grows up to the longest text, for which it is 14,680,068 bytes, and no
+/// further. The other kinds of items need [`tree_room`].
+///
+/// ```
+/// use movesig::{read, type_room, Edition, Kind, Refusal};
+///
+/// let text = b"f: |a,a|a;"; // six bytes from 3 on, and seven records
+/// let mut buffer = vec![0; type_room(6, text.len())];
+/// assert_eq!(buffer.len(), 56);
+///
+/// let item = read(Kind::Type, Edition::One, text, 3, &mut buffer)?;
+/// assert_eq!(item.tree.span().of(text), b"|a,a|a");
+/// assert_eq!(item.tree.records().count(), 7);
+///
+/// let less = read(Kind::Type, Edition::One, text, 3, &mut buffer[..55]);
+/// assert_eq!(less.unwrap_err(), Refusal::NoRoom);
+/// # Ok::<(), Refusal>(())
+/// ```
+#[must_use]
+pub const fn type_room(bytes: usize, len: usize) -> usize {
+    let bytes = if bytes < LONGEST { bytes } else { LONGEST };
+    if len <= 65_535 && bytes <= 8_190 {
+        8 * (bytes + 1)
+    } else {
+        4 + 14 * (bytes + 1)
+    }
 }
 
 /// The most levels of an item.

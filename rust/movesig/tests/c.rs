@@ -1,9 +1,9 @@
 //! The header and the library from C and C++: the examples, random calls between guarded pages
-//! under the sanitizers, results that are dropped, texts that are far too long, the names behind the
-//! numbers, and the stack that the calls take. Each needs gcc, g++, clang or clang++, and says so where it is
-//! not there.
+//! under the sanitizers, results that are dropped, texts that are far too long, the room for the tree of a
+//! type, the names behind the numbers, and the stack that the calls take. Each needs gcc, g++, clang or
+//! clang++, and says so where it is not there.
 
-use movesig::{Kind, RecordKind, TokenKind};
+use movesig::{type_room, Kind, RecordKind, TokenKind, LONGEST};
 use std::{
     fs,
     path::{Path, PathBuf},
@@ -172,6 +172,45 @@ fn huge_texts() {
     fs::write(&source, code).expect("written");
     compiler.arg("-std=c99");
     run(&mut Command::new(program("huge", compiler, "c", &source)));
+}
+
+/// Room for the tree of a type is the same in C and in the crate, for any arguments; and in C, types that have
+/// the most records take all of it, in short texts and in long ones.
+#[test]
+fn type_rooms() {
+    let bytes = [
+        0, 1, 2, 3, 4, 5, 6, 7, 255, 4_096, 8_189, 8_190, 8_191, 8_192, 32_768, 65_535, 65_536,
+    ];
+    let texts = [0, 3, 8_190, 65_534, 65_535, 65_536, LONGEST];
+    let huge = [LONGEST + 1, 1 << 32, usize::MAX / 14, usize::MAX];
+    let mut pairs = vec![];
+    for n in bytes.into_iter().chain([LONGEST]).chain(huge) {
+        pairs.extend(texts.into_iter().chain(huge).map(|len| (n, len)));
+        if n < LONGEST {
+            pairs.push((n, n)); // the type is the text
+        }
+    }
+    let due: Vec<String> = pairs
+        .iter()
+        .map(|&(n, len)| type_room(n, len).to_string())
+        .collect();
+    let source = tests().join("type_room.c");
+    for (name, language, standard) in [("gcc", "c", "-std=c99"), ("g++", "c++", "-std=c++98")] {
+        let Some(mut compiler) = compiler(name) else {
+            continue;
+        };
+        compiler.args([standard, "-O1"]);
+        let rooms = program(&format!("type-room-{name}"), compiler, language, &source);
+        let words = pairs
+            .iter()
+            .flat_map(|(n, len)| [n.to_string(), len.to_string()]);
+        let output = Command::new(rooms).args(words).output();
+        let output = output.expect("it can be run");
+        let found = String::from_utf8_lossy(&output.stdout);
+        let lines: Vec<&str> = found.lines().collect();
+        assert_eq!(output.status.code(), Some(0), "{name}: {:?}", lines.last());
+        assert_eq!(lines, due, "{name}");
+    }
 }
 
 #[test]

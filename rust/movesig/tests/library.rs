@@ -2,8 +2,8 @@
 
 use movesig::{
     comments, display, display_to_string, library_version, next_comment, next_token, read, tokens,
-    tree_room, Edition, Kind, RecordKind, Refusal, Span, TokenKind, Tree, LEVELS, LONGEST,
-    LONGEST_LINE, STACK,
+    tree_room, type_room, Edition, Kind, RecordKind, Refusal, Span, TokenKind, Tree, LEVELS,
+    LONGEST, LONGEST_LINE, STACK,
 };
 use std::error::Error;
 
@@ -347,6 +347,66 @@ fn longest_texts() {
     assert_eq!(less, Err(Refusal::NoRoom));
     let more = read(&(fields + " "), &mut buffer);
     assert_eq!(more, Err(Refusal::TextTooLong));
+}
+
+/// A type has at most one record more than bytes, and just the room for that is enough; types that have as
+/// many records take all of it.
+#[test]
+fn type_rooms() {
+    let largest = |n: usize| match n {
+        1 => "a".to_string(),
+        2 => "&a".to_string(),
+        _ => {
+            let amp = if n % 2 == 1 { "&" } else { "" };
+            format!("|{amp}a{}|a", ",a".repeat((n - 4) / 2))
+        }
+    };
+    for n in [1, 2, 4, 5, 6, 7, 8_189, 8_190, 8_191, 32_768, 65_536] {
+        for blanks in [0, 65_535, 65_536].map(|len: usize| len.saturating_sub(n)) {
+            let text = largest(n) + &" ".repeat(blanks);
+            let len = n + blanks;
+            assert_eq!(text.len(), len);
+            let wide = len > 65_535 || n > 8_190;
+            let room = if wide { 4 + 14 * (n + 1) } else { 8 * (n + 1) };
+            assert_eq!(type_room(n, len), room);
+            let mut buffer = vec![0; room];
+            for edition in [Edition::One, Edition::Two] {
+                let read = |buffer: &mut [u8]| {
+                    let item = read(Kind::Type, edition, text.as_bytes(), 0, buffer)?;
+                    assert_eq!(item.tree.span(), span(0, n));
+                    assert_eq!(item.next.span, span(len, len));
+                    assert_eq!(
+                        (item.tree.is_wide(), item.tree.as_bytes().len()),
+                        (wide, room)
+                    );
+                    Ok(item.tree.records().count())
+                };
+                assert_eq!(read(&mut buffer), Ok(n + 1), "{n} bytes");
+                let less = read(&mut buffer[..room - 1]);
+                assert_eq!(less, Err(Refusal::NoRoom), "{n} bytes");
+            }
+        }
+    }
+    // of three bytes no type has more than three records; what is before and behind a type does not count
+    for (text, bytes, records) in [
+        ("(a)", 3, 3),
+        ("& a", 3, 3),
+        (" a ", 1, 2),
+        ("a<b<c>>", 7, 6),
+    ] {
+        let mut buffer = vec![0; type_room(bytes, text.len())];
+        let item = read(Kind::Type, Edition::One, text.as_bytes(), 0, &mut buffer);
+        assert_eq!(item.expect("a type").tree.records().count(), records);
+    }
+    // no more than for the longest text
+    assert_eq!(type_room(LONGEST, LONGEST), 14_680_068);
+    assert_eq!(type_room(LONGEST - 1, LONGEST), 14_680_054);
+    for huge in [LONGEST + 1, usize::MAX / 14, usize::MAX] {
+        for len in [0, LONGEST, huge] {
+            assert_eq!(type_room(huge, len), 14_680_068);
+        }
+        assert_eq!(type_room(6, huge), 102);
+    }
 }
 
 /// A text that is far too long is refused, and room for its trees is no more than for the longest text. The

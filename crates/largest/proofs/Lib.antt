@@ -1,0 +1,9 @@
+pub mod Counts
+pub mod Fronts
+pub mod Tokens
+pub mod Bounds
+pub mod Never
+pub mod Reached
+pub mod Largest
+pub mod Room
+pub mod Examples
