@@ -46,6 +46,8 @@ const char *movesig_reason(uint32_t refusal)
         return "the line would hold a control byte";
     case MOVESIG_NO_SUCH_EDITION:
         return "no such edition";
+    case MOVESIG_NOTHING_STARTS:
+        return "no token starts or ends here";
     default:
         return "unknown";
     }

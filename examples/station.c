@@ -2,13 +2,17 @@
  * the type behind each colon. What is refused is shown with its number and place. The file is read as
  * one of edition 1.
  *
+ * A read walks over the tokens from 0 to its offset, to see that one starts or ends there. Here the colon's
+ * end is known from such a walk, so the text is lent from there on, which is read from 0 without one, and the
+ * colon's end is added to the places.
+ *
  *     cc station.c $(pkg-config --cflags --libs movesig) -o station && ./station coin.move
  */
 #include <movesig.h>
 #include <stdio.h>
 
-#if MOVESIG_VERSION_MAJOR == 0 && MOVESIG_VERSION_MINOR < 6
-#error "this header has no wide trees"
+#if MOVESIG_VERSION_MAJOR == 0 && MOVESIG_VERSION_MINOR < 8
+#error "this header has no refusal 21"
 #endif
 
 /* The edition of Move that the file is written in. */
@@ -22,11 +26,12 @@ static uint8_t text[MOVESIG_LONGEST + 1];
 static uint8_t tree[MOVESIG_TREE_ROOM(MOVESIG_LONGEST)];
 static uint8_t line[MOVESIG_LONGEST_LINE];
 
-static void show_refusal(uint32_t number, const uint64_t answer[6])
+/* Shows a refusal of what was read from `base` on. */
+static void show_refusal(uint32_t number, const uint64_t answer[6], size_t base)
 {
-    printf("refused %u at %u..%u", (unsigned)number, (unsigned)answer[0], (unsigned)answer[1]);
+    printf("refused %u at %u..%u", (unsigned)number, (unsigned)(base + answer[0]), (unsigned)(base + answer[1]));
     if (answer[2] != answer[0] || answer[3] != answer[1])
-        printf(", second place %u..%u", (unsigned)answer[2], (unsigned)answer[3]);
+        printf(", second place %u..%u", (unsigned)(base + answer[2]), (unsigned)(base + answer[3]));
     printf("\n");
 }
 
@@ -36,20 +41,21 @@ static unsigned number_of(const uint8_t *at, size_t bytes)
     return bytes == 0 ? 0 : at[0] | number_of(at + 1, bytes - 1) << 8;
 }
 
-/* Reads the type at the offset, shows its records and its line. */
-static void show_type(size_t len, size_t at)
+/* Reads the type behind the token that ends at `base`, shows its records and its line. */
+static void show_type(size_t len, size_t base)
 {
+    const uint8_t *from = text + base;
     uint64_t answer[6];
     size_t length, record, width;
-    uint32_t number = movesig_read(MOVESIG_TYPE, EDITION, text, len, at, tree, sizeof tree, answer);
+    uint32_t number = movesig_read(MOVESIG_TYPE, EDITION, from, len - base, 0, tree, sizeof tree, answer);
     if (number != MOVESIG_ACCEPTED) {
-        show_refusal(number, answer);
+        show_refusal(number, answer, base);
         return;
     }
     length = (size_t)answer[0];
-    number = movesig_display(MOVESIG_TYPE, EDITION, text, len, at, line, sizeof line, answer);
+    number = movesig_display(MOVESIG_TYPE, EDITION, from, len - base, 0, line, sizeof line, answer);
     if (number != MOVESIG_ACCEPTED) {
-        show_refusal(number, answer);
+        show_refusal(number, answer, base);
         return;
     }
     printf("type ");
@@ -60,7 +66,8 @@ static void show_type(size_t len, size_t at)
     width = number_of(tree, 4) == 0x630004 ? 4 : 2;
     for (record = width == 4 ? 4 : 0; record < length; record += 2 + 3 * width)
         printf("  record %u at %u..%u\n", number_of(tree + record + width, 2),
-               number_of(tree + record + width + 2, width), number_of(tree + record + 2 * width + 2, width));
+               (unsigned)base + number_of(tree + record + width + 2, width),
+               (unsigned)base + number_of(tree + record + 2 * width + 2, width));
 }
 
 int main(int count, char **words)
@@ -89,7 +96,7 @@ int main(int count, char **words)
     for (at = 0;; at = (size_t)answer[2]) {
         number = movesig_next_token(EDITION, text, len, at, answer);
         if (number != MOVESIG_ACCEPTED) {
-            show_refusal(number, answer);
+            show_refusal(number, answer, 0);
             break;
         }
         printf("token %u at %u..%u\n", (unsigned)answer[0], (unsigned)answer[1], (unsigned)answer[2]);

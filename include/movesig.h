@@ -41,6 +41,31 @@
  * A span is a start and an end, counted in bytes from the first byte of the text, which is 0. `end` is
  * the first byte behind the span. Where start and end are equal the span is a place between two bytes.
  *
+ * WHERE A READ OR A DISPLAY MAY BEGIN
+ *
+ * The token call and the comment call read from any offset. A read and a display make sure that `at` is a
+ * place where reading can begin: they walk over the tokens from 0, in the call's edition, and `at` must be 0,
+ * the start or the end of a token of that walk, the text's end, the byte between the two of a `>>`, or the
+ * start of the token at which the walk is refused. Where a token that the walk is refused for, with 5, 7, 8
+ * or 9, or a comment that is not closed, 6, starts before `at`, that refusal is the answer, and its place may
+ * stand before `at`. Any other offset is refused with 21: one inside a token, a comment or blanks, and one where
+ * a comment starts or ends and no token does. Start and end of every token that movesig_next_token answers, from 0
+ * and then each from the end of the one before, are allowed.
+ * To go on behind an item, go on from the start of the token that follows it, which its read answers, and not
+ * from that token's end: where a `>>` was split to end the item, the token that follows is none of the walk. Of
+ * `a<b>>==c` the type `a<b>` is read and `>=`, 4 to 6, follows; 4 is allowed, 6 is not, since the walk from 0
+ * has `>>`, `==` and `c`.
+ *
+ * What it costs: a read or a display takes the time of a token walk from 0 to `at`, and then its own; where that
+ * walk is refused, the blanks and comments before the refusal are looked over once more. Over 1 MB of Move source
+ * the walk takes some 2.6 ms, so 17,000 reads spread over it take more than 20 seconds.
+ * The cure is to lend the text from a token's end on: `text + at` and `len - at` with offset 0, and to add
+ * `at` to all places of the answer. Offset 0 is always allowed and nothing is walked. Where `at` is allowed,
+ * it is the same item: the same tree, line or refusal, its places lower by `at`. What differs: the spans in
+ * the tree count from there too; the form goes by the part that is lent, which may give a narrow tree where the
+ * whole text gives a wide one; and refusal 1 looks at that part alone. Nobody looks then whether a token ends at
+ * `at`: lend from ends that movesig_next_token answered. examples/station.c does so.
+ *
  * REFUSALS
  *
  * A refused call answers { start, end, second start, second end, 0, 0 }: the span it is about, and a
@@ -53,6 +78,8 @@
  *   2     `at` is past the text's end (`at` = `len` is not)     (0, 0)
  *   3     `kind` is no kind of item                             (0, 0)
  *  19     `edition` is neither 1 nor 2                          (0, 0)
+ *  21     no token starts or ends at `at` (movesig_read and
+ *         movesig_display alone)                                (at, at)
  *   4     the item is accepted, but its tree (movesig_read) or
  *         its line (movesig_display) is longer than `room`, or
  *         its line longer than 65,535 bytes                     (0, 0)
@@ -74,8 +101,8 @@
  *   By the text, for movesig_display alone:
  *  18     a string holds a byte below 32 or the byte 127        the first such byte
  *
- * They are tried in this order: 1, 2, 3, 19; then 5 to 14, whichever is met first in reading; then 18;
- * 4 last.
+ * They are tried in this order: 1, 2, 3, 19; then, for a read and a display whose `at` is not 0, the walk to
+ * it: its 5 to 9, or 21; then 5 to 14 of what is read, whichever is met first; then 18; 4 last.
  */
 #ifndef MOVESIG_H
 #define MOVESIG_H
@@ -121,16 +148,16 @@ extern "C" {
 
 /* The version of this header and of the calls in it, by semantic versioning: before 1.0 another MINOR may
  * change answers or calls, from then on only another MAJOR. CHANGELOG.md says what changed for a station.
- * A station can compare it when it is compiled: the calls take an edition from MINOR 5 on, and trees may be
- * wide from MINOR 6 on. */
+ * A station can compare it when it is compiled: the calls take an edition from MINOR 5 on, trees may be wide
+ * from MINOR 6 on, and a read or a display may be refused with 21 from MINOR 8 on. */
 #define MOVESIG_VERSION_MAJOR 0
-#define MOVESIG_VERSION_MINOR 8
+#define MOVESIG_VERSION_MINOR 9
 #define MOVESIG_VERSION (MOVESIG_VERSION_MAJOR * 65536 + MOVESIG_VERSION_MINOR)
 
-/* The library has its version in the name of a symbol too, movesig_version_0_8, whose value is
+/* The library has its version in the name of a symbol too, movesig_version_0_9, whose value is
  * MOVESIG_VERSION. What includes this header and is compiled by gcc or clang refers to that symbol: with a
  * library of another version, whose calls may take other arguments, it is not linked (`undefined reference to
- * movesig_version_0_8`), and with a shared one not started (`undefined symbol`). A source file that wants
+ * movesig_version_0_9`), and with a shared one not started (`undefined symbol`). A source file that wants
  * numbers and names from here and is linked without the library defines MOVESIG_NO_VERSION_CHECK before. */
 #define MOVESIG_JOINED(word, major, minor) word##major##_##minor
 #define MOVESIG_VERSIONED(word, major, minor) MOVESIG_JOINED(word, major, minor)
@@ -179,7 +206,8 @@ enum movesig_result {
     MOVESIG_NO_VALUE = 13,
     MOVESIG_TOO_DEEP = 14,
     MOVESIG_LINE_UNPRINTABLE = 18,
-    MOVESIG_NO_SUCH_EDITION = 19
+    MOVESIG_NO_SUCH_EDITION = 19,
+    MOVESIG_NOTHING_STARTS = 21
 };
 
 /* The editions of Move that a text may be written in. They differ in numbers alone: in edition 2 a digit may
@@ -217,7 +245,8 @@ uint32_t movesig_next_comment(uint64_t edition, const uint8_t *text, size_t len,
 /* Reads the item of the kind (enum movesig_item) from `at` on and writes its tree into the first bytes
  * of the `room` bytes at `out`. Accepted: { length of the tree, kind, start and end of the token that
  * follows the item, 0, 0 }, the token's kind as in enum movesig_token; whether a line feed stands before it
- * is not told. Bytes of `out` past the tree stay as they are. Refusals 1 to 14 and 19.
+ * is not told. Bytes of `out` past the tree stay as they are. Refusals 1 to 14, 19 and 21; where `at` may be
+ * stands above.
  *
  * The tree is one record: its head, and then its children, each a record again. The length in a head is
  * that of the record with all its children; the kind is one of enum movesig_record; every number has its
@@ -247,7 +276,7 @@ uint32_t movesig_read(uint64_t kind, uint64_t edition, const uint8_t *text, size
  *
  * The answer tells neither where the item ends nor what follows it. To go on behind an item, read it:
  * movesig_read from the same `at` answers the token that follows, and the next call is asked from that token's
- * start.
+ * start, which is allowed.
  *
  * Where the item's tree is accepted too, the line read from 0 as the same kind and in the same edition gives
  * the same tree but for the spans, and itself as its line. Of a wide tree more may differ: the line may be so

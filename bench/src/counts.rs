@@ -6,7 +6,7 @@ use crate::{
     longer::{self, Unit},
     over,
     runs::{each_length, READ},
-    texts,
+    starts, texts,
     walks::Walk,
     GROWTH,
 };
@@ -46,6 +46,11 @@ pub fn measure_all(record: bool) -> bool {
 /// The same for texts of 1 MB and for wide trees, which are held to shorter ones.
 pub fn measure_longer() -> bool {
     there_is_valgrind() && longer::measure_all(Unit::Instructions)
+}
+
+/// The same for reads at offsets other than 0.
+pub fn measure_starts() -> bool {
+    there_is_valgrind() && starts::measure_all(Unit::Instructions)
 }
 
 /// The counts in edition 1: those of bench/COUNTS, by the name of the row, and the lines of those

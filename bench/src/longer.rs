@@ -147,7 +147,7 @@ impl Figure {
 }
 
 impl Unit {
-    fn words(self) -> &'static str {
+    pub fn words(self) -> &'static str {
         match self {
             Unit::Nanoseconds => "nanoseconds a byte",
             Unit::Instructions => "instructions a byte",

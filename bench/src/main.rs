@@ -7,6 +7,7 @@ mod items;
 mod longer;
 mod reads;
 mod runs;
+mod starts;
 #[path = "../../oracle/src/station.rs"]
 mod station;
 mod texts;
@@ -27,10 +28,12 @@ const HELP: &str = "\
 Measures a walk over all tokens of a text, by the Rust lexer, by the port and by a
 small lexer in C.
 
-usage: bench [--check] [--displays-only | --counts-only | --longer-only] [--record]
+usage: bench [--check] [--displays-only | --counts-only | --longer-only | --starts-only]
+             [--record]
        bench --walk ROW | --short-walks ROW [--edition N]
        bench --longest-walk ROW | --parts-walk ROW [--edition N]
        bench --read ROW | --wide-read ROW | --display ROW [--edition N]
+       bench --read-at ROW | --walk-to ROW
        bench --help
 
   --check          exit status 1 where the port is slower than the Rust on some text but
@@ -40,6 +43,7 @@ usage: bench [--check] [--displays-only | --counts-only | --longer-only] [--reco
   --displays-only  no tokens and reads
   --counts-only    no times: the instructions a token and an item
   --longer-only    only what is measured at 1 MB and in the wide form, in both
+  --starts-only    only reads at offsets other than 0, in both
   --record         the counts become those that later ones are held to (bench/COUNTS)
   --walk ROW       walks once over the text of 60 KB of a row, by the port in the edition
                    (1 if left out) and, in edition 1, by the lexer in C
@@ -47,8 +51,10 @@ usage: bench [--check] [--displays-only | --counts-only | --longer-only] [--reco
   --longest-walk ROW  the same over the text of 1 MB
   --parts-walk ROW    the same over as many bytes in texts of 60 KB
   --read ROW       reads each item of a row once
-  --wide-read ROW  the same behind 65,536 bytes
+  --wide-read ROW  the same before 65,536 bytes
   --display ROW    displays each item of a row once
+  --read-at ROW    reads the type behind the source of a row, at its offset
+  --walk-to ROW    walks over that source, and reads the type from there on
   --help           these words
 
 Prints a table in nanoseconds a byte: the median of the runs and, in brackets, the
@@ -69,7 +75,9 @@ Walks, reads and displays are measured at 1 MB too, beside as many bytes in text
 60 KB: --check fails where a byte takes a fifth more, where a nest of 60 levels round a list
 costs more than 60 times as much as none, or where a read that writes a wide tree takes more
 than 1.5 times as much as one of the same item that writes a narrow one; each in time and in
-instructions.
+instructions. Reads behind 1 KB, 60 KB and 1,000,000 bytes of source too: --check fails where
+one takes more than 1.1 times as much as a walk of token calls over that source and the read
+from there on, or where a byte of the source takes a fifth more than at 1 KB.
 ";
 
 /// Each time is taken this often, over walks that last this long.
@@ -93,10 +101,13 @@ fn main() {
                 | displays::measure_all()
                 | longer::measure_all(Unit::Nanoseconds)
                 | counts::measure_longer()
+                | starts::measure_all(Unit::Nanoseconds)
+                | counts::measure_starts()
         }
         Only::Displays => displays::measure_all(),
         Only::Counts => counts::measure_all(options.record) | counts::measure_longer(),
         Only::Longer => longer::measure_all(Unit::Nanoseconds) | counts::measure_longer(),
+        Only::Starts => starts::measure_all(Unit::Nanoseconds) | counts::measure_starts(),
     };
     if options.check && failed {
         eprintln!(
@@ -113,6 +124,8 @@ fn once(what: &str, row: &str, edition: u64) {
         return (task.once)(&runs::row(row), edition);
     }
     let walk = match what {
+        "--read-at" => return starts::read_once(row),
+        "--walk-to" => return starts::walk_once(row),
         "--walk" => Walk::long(row),
         "--longest-walk" => Walk::longest(row),
         "--parts-walk" => Walk::parts(row),
@@ -182,6 +195,7 @@ enum Only {
     Displays,
     Counts,
     Longer,
+    Starts,
 }
 
 #[derive(Default)]
@@ -206,9 +220,10 @@ fn options() -> Options {
             "--displays-only" => options.only = Only::Displays,
             "--counts-only" => options.only = Only::Counts,
             "--longer-only" => options.only = Only::Longer,
+            "--starts-only" => options.only = Only::Starts,
             "--record" => options.record = true,
             "--walk" | "--short-walks" | "--longest-walk" | "--parts-walk" | "--read"
-            | "--wide-read" | "--display" => match words.next() {
+            | "--wide-read" | "--display" | "--read-at" | "--walk-to" => match words.next() {
                 Some(row) => options.once = Some((word, row)),
                 None => bad_usage(),
             },

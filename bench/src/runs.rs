@@ -3,7 +3,7 @@
 //! never cleared.
 
 #[path = "../../oracle/src/station_items.rs"]
-mod station_items;
+pub mod station_items;
 
 use crate::{items, repeat, run, texts, time_of, Time, RUNS};
 use oracle::{
@@ -29,8 +29,8 @@ pub const BYTES: usize = 60_000;
 /// 1 MB: the longest text, but for brackets round it.
 pub const LONG: usize = 1_048_000;
 
-/// So many bytes before an item make its tree wide.
-const BEFORE: usize = 65_536;
+/// So many bytes behind an item make its tree wide.
+const BEHIND: usize = 65_536;
 
 /// What a display answers whose line is too long.
 const NO_ROOM: u32 = 4;
@@ -206,24 +206,20 @@ fn nested(name: &str, list: Kind, length: usize, nest: Nest) -> Items {
 impl Items {
     /// Stops where the call does not answer as the Rust, or the Rust refuses.
     pub fn agree(&self, call: ItemCall) {
-        self.agree_on(call, &self.texts, 0);
+        self.agree_on(call, &self.texts);
     }
 
     /// The same for reads of the items where they stand in longer texts.
     pub fn agree_in_wide(&self) {
-        self.agree_on(
-            ItemCall::Read,
-            &self.wide_texts(&self.behind_blanks()),
-            BEFORE,
-        );
+        self.agree_on(ItemCall::Read, &self.wide_texts(&self.before_blanks()));
     }
 
-    fn agree_on(&self, call: ItemCall, texts: &[impl AsRef<str>], at: usize) {
+    fn agree_on(&self, call: ItemCall, texts: &[impl AsRef<str>]) {
         let mut buffer = Buffer::new(station_items::ask);
         for bytes in texts.iter().map(|text| text.as_ref().as_bytes()) {
-            let front = &bytes[at..bytes.len().min(at + 400)];
+            let front = &bytes[..bytes.len().min(400)];
             let told = || format!("{call:?}, {}: {}", self.name, front.escape_ascii());
-            let expected = self.expected(call, &Text::new(bytes), at);
+            let expected = self.expected(call, &Text::new(bytes));
             let room = LONGEST_LINE.max(expected.written.len());
             let due = expected.within(room);
             assert!(
@@ -232,7 +228,7 @@ impl Items {
                 told()
             );
             for edition in [1, 2] {
-                let item = (self.kind as u64, edition, bytes, at);
+                let item = (self.kind as u64, edition, bytes, 0);
                 if let Some(wrong) = buffer.wrong(call, item, room, due) {
                     let (found, fault) = (wrong.found, wrong.buffer);
                     panic!("edition {edition}: {found}, {fault:?} {}", told());
@@ -241,26 +237,27 @@ impl Items {
         }
     }
 
-    fn expected(&self, call: ItemCall, text: &Text, at: usize) -> Expected {
-        let read = expected(self.kind as u64, text, at);
+    fn expected(&self, call: ItemCall, text: &Text) -> Expected {
+        let read = expected(self.kind as u64, text, 0);
         match call {
             ItemCall::Read => read,
-            ItemCall::Display => displays::expected(&read, text, at, line_of),
+            ItemCall::Display => displays::expected(&read, text, 0, line_of),
         }
     }
 
-    /// All items, behind blanks.
-    fn behind_blanks(&self) -> String {
-        " ".repeat(BEFORE) + &self.texts.concat()
+    /// All items, a semicolon behind each, and then blanks.
+    fn before_blanks(&self) -> String {
+        let items: Vec<_> = self.texts.iter().map(|item| item.clone() + ";").collect();
+        items.concat() + &" ".repeat(BEHIND)
     }
 
-    /// Each item at the end of a text of its own, all of them parts of one: before the item stand
-    /// blanks and other items, which are not read.
+    /// Each item at the front of a text of its own, all of them parts of one: behind the item's semicolon
+    /// stand other items and blanks, which are not read.
     fn wide_texts<'w>(&self, whole: &'w str) -> Vec<&'w str> {
         let mut start = 0;
         let text_of = |item: &String| {
-            let text = &whole[start..start + BEFORE + item.len()];
-            start += item.len();
+            let text = &whole[start..start + item.len() + 1 + BEHIND];
+            start += item.len() + 1;
             text
         };
         self.texts.iter().map(text_of).collect()
@@ -283,45 +280,45 @@ impl Items {
 
     pub fn run_of_reads(&self, lent: &mut [u8]) -> f64 {
         run(&self.texts, |text| {
-            self.ask(ItemCall::Read, 1, text, 0, lent);
+            self.ask(ItemCall::Read, 1, text, lent);
         })
     }
 
     pub fn run_of_displays(&self, lent: &mut [u8]) -> f64 {
         run(&self.texts, |text| {
-            self.ask(ItemCall::Display, 1, text, 0, lent);
+            self.ask(ItemCall::Display, 1, text, lent);
         })
     }
 
     /// Reads of the items where they stand in longer texts; the time a byte of the items.
     pub fn run_of_wide_reads(&self, lent: &mut [u8]) -> f64 {
-        let whole = self.behind_blanks();
+        let whole = self.before_blanks();
         let texts = self.wide_texts(&whole);
         repeat(self.bytes(), || {
             for text in &texts {
-                self.ask(ItemCall::Read, 1, black_box(text), BEFORE, lent);
+                self.ask(ItemCall::Read, 1, black_box(text), lent);
             }
         })
     }
 
     /// Reads each item once.
     pub fn read_once(&self, edition: u64) {
-        self.once(ItemCall::Read, edition, &self.texts, 0);
+        self.once(ItemCall::Read, edition, &self.texts);
     }
 
     pub fn display_once(&self, edition: u64) {
-        self.once(ItemCall::Display, edition, &self.texts, 0);
+        self.once(ItemCall::Display, edition, &self.texts);
     }
 
     pub fn wide_read_once(&self, edition: u64) {
-        let whole = self.behind_blanks();
-        self.once(ItemCall::Read, edition, &self.wide_texts(&whole), BEFORE);
+        let whole = self.before_blanks();
+        self.once(ItemCall::Read, edition, &self.wide_texts(&whole));
     }
 
-    fn once(&self, call: ItemCall, edition: u64, texts: &[impl AsRef<str>], at: usize) {
+    fn once(&self, call: ItemCall, edition: u64, texts: &[impl AsRef<str>]) {
         let mut lent = self.room();
         for text in texts {
-            self.ask(call, edition, text.as_ref(), at, &mut lent);
+            self.ask(call, edition, text.as_ref(), &mut lent);
         }
     }
 
@@ -333,14 +330,14 @@ impl Items {
 
     /// Whether the display of the first item is refused, since its line is too long.
     pub fn has_no_line(&self) -> bool {
-        self.ask(ItemCall::Display, 1, &self.texts[0], 0, &mut self.room()) == NO_ROOM
+        self.ask(ItemCall::Display, 1, &self.texts[0], &mut self.room()) == NO_ROOM
     }
 
-    fn ask(&self, call: ItemCall, edition: u64, text: &str, at: usize, lent: &mut [u8]) -> u32 {
+    fn ask(&self, call: ItemCall, edition: u64, text: &str, lent: &mut [u8]) -> u32 {
         let mut answer = [0; 6];
         let kind = self.kind as u64;
         let text = text.as_bytes();
-        let result = station_items::ask(call, kind, edition, text, at, lent, &mut answer);
+        let result = station_items::ask(call, kind, edition, text, 0, lent, &mut answer);
         assert!(
             result == 0 || call == ItemCall::Display && result == NO_ROOM,
             "the text was read before"

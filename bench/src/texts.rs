@@ -166,7 +166,7 @@ const COMMENTS: [&str; 7] = [
     "fun $f($v: u64) {}\n",
 ];
 
-fn move_source(random: &mut Random, length: usize) -> String {
+pub fn move_source(random: &mut Random, length: usize) -> String {
     pieces(random, length, &DECLARATIONS)
 }
 

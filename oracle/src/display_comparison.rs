@@ -5,10 +5,11 @@
 use crate::{
     every_text, grouped,
     item_sets::{self, random_item, Size, Visitor, TAILS},
-    read_comparison::{print_listed, print_text, respelled},
+    read_comparison::{missing, print_listed, print_numbers, print_text, respelled},
     shrunk, station_items, Found, ON_LONG,
 };
 use oracle::{
+    answer::ItemCall,
     expected::Text,
     items::{self, Case},
     line::line_of,
@@ -34,21 +35,23 @@ pub fn run(size: Size) -> Found {
             println!("\nDisplays, by items, edition {edition}:");
             displays.edition = edition;
             item_sets::run(&mut displays, &size);
+            if size.starts_only {
+                continue;
+            }
             if !size.long_only {
                 strings(&mut displays, &size);
                 sentences(&mut displays, &size);
                 families(&mut displays, &size);
             }
             lengths(&mut displays, &size);
-            if edition == 2 && !size.long_only {
-                item_sets::numbers(&mut displays, &size);
-            }
         }
         println!();
         displays.print_summary();
         println!("\n{:.1} s", start.elapsed().as_secs_f64());
         let mut found = Found::default();
-        found.add(displays.faults, displays.properties.tally.on_long);
+        let tally = &displays.properties.tally;
+        found.add(displays.faults, tally.on_long);
+        found.missing += missing(&tally.numbers, size.due(ItemCall::Display, size.edition));
         found
     })
 }
@@ -166,6 +169,22 @@ impl Visitor for Displays {
         self.properties.random()
     }
 
+    fn item_as_spelled(&mut self, kind: u64, text: &Text, at: usize) {
+        let fault = self.properties.check(kind, self.edition, text, at);
+        self.found(fault);
+    }
+
+    fn edition(&self) -> u64 {
+        self.edition
+    }
+
+    fn longest(&self, size: &Size) -> usize {
+        match self.edition {
+            1 => size.of(6, 4),
+            _ => size.of(5, 3),
+        }
+    }
+
     fn item(&mut self, kind: u64, text: &Text, at: usize) {
         let random = self.properties.random();
         if let Some(respelled) = respelled(self.edition, random, text, at) {
@@ -173,8 +192,7 @@ impl Visitor for Displays {
             let fault = self.properties.check(kind, self.edition, &text, at);
             self.found(fault);
         }
-        let fault = self.properties.check(kind, self.edition, text, at);
-        self.found(fault);
+        self.item_as_spelled(kind, text, at);
     }
 
     fn thoroughly(&mut self, case: &Case) {
@@ -267,6 +285,7 @@ impl Displays {
         ] {
             println!("{name:<50} {:>22}", grouped(count));
         }
+        print_numbers(&tally.numbers);
         print_listed(&tally.listed);
         println!("\ndifferences not listed: {}", grouped(self.faults));
         for fault in &self.shown {

@@ -62,7 +62,7 @@ mod tests {
 
     #[test]
     fn the_line_and_its_room() {
-        let given = display(3, "$ a<b>>", 2);
+        let given = display(3, "x a<b>>", 2);
         assert_eq!(given.answer, Some(Answer::display(4)));
         assert_eq!(given.within(4).written, b"a<b>");
         assert_eq!(given.within(3).answer, Some(Answer::refused(4, 0, 0)));
@@ -76,6 +76,10 @@ mod tests {
         let unclosed = Answer::refused_at_two(12, (3, 3), (0, 0));
         assert_eq!(display(3, "(u8", 0).answer, Some(unclosed));
         assert_eq!(display(0, "$", 0).answer, Some(Answer::refused(3, 0, 0)));
+        for (text, at, number, place) in [("abc", 1, 21, 1), ("a  $b", 4, 5, 3)] {
+            let refused = Answer::refused(number, place, place);
+            assert_eq!(display(3, text, at).answer, Some(refused), "{text}");
+        }
     }
 
     #[test]

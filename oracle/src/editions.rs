@@ -5,6 +5,7 @@
 use crate::{
     answer::Answer,
     expected::{empty_blocks, Text, LONGEST},
+    memo::{self, Memo},
     parser::lexer::Tok,
     random::Random,
     reading::{Outcome, Reading},
@@ -78,6 +79,18 @@ pub fn judged<'t>(edition: u64, text: &'t [u8], at: usize, most: usize) -> Cow<'
     if edition != 2 || refused || !may_tell() || !(at..text.len()).any(telling) {
         return Cow::Borrowed(text);
     }
+    thread_local! {
+        static LAST: Memo<Vec<u8>> = const { Memo::new(None) };
+    }
+    let written = || written(text, at, most);
+    Cow::Owned(match at {
+        0 if most == usize::MAX => memo::made(&LAST, text, written).to_vec(),
+        _ => written(),
+    })
+}
+
+/// That text: each number of edition 2 from `at` on is spelled as the Rust is to read it.
+fn written(text: &[u8], at: usize, most: usize) -> Vec<u8> {
     let mut copy = text.to_vec();
     // Only what stands from `at` on: the text before it may be long.
     let mut ascii = Text::new(&text[at..]).in_ascii().to_string();
@@ -109,7 +122,7 @@ pub fn judged<'t>(edition: u64, text: &'t [u8], at: usize, most: usize) -> Cow<'
             _ => break,
         }
     }
-    Cow::Owned(copy)
+    copy
 }
 
 /// Asks about that text.

@@ -3,11 +3,13 @@
 
 use crate::{
     answer::{Answer, Call},
+    memo::{self, Memo},
     parser::lexer::Tok,
     reading::{Outcome, Reading},
+    starts::{Beginning, Starts},
     tree::NARROW,
 };
-use std::cell::OnceCell;
+use std::{cell::OnceCell, rc::Rc};
 
 /// The longest text that is not refused.
 pub const LONGEST: usize = 1_048_575;
@@ -54,6 +56,7 @@ pub struct Text<'t> {
     pub bytes: &'t [u8],
     utf8: Option<&'t str>,
     replaced: OnceCell<String>,
+    starts: OnceCell<Rc<Starts>>,
 }
 
 impl<'t> Text<'t> {
@@ -62,6 +65,24 @@ impl<'t> Text<'t> {
             bytes,
             utf8: std::str::from_utf8(bytes).ok(),
             replaced: OnceCell::new(),
+            starts: OnceCell::new(),
+        }
+    }
+
+    /// Where reading may begin, by one walk over the whole text.
+    pub fn starts(&self) -> &Starts {
+        thread_local! {
+            static LAST: Memo<Starts> = const { Memo::new(None) };
+        }
+        self.starts
+            .get_or_init(|| memo::made(&LAST, self.bytes, || Starts::new(self)))
+    }
+
+    /// Whether reading may begin at an offset, which is not past the end. At 0 it may.
+    pub fn beginning(&self, at: usize) -> Beginning {
+        match at {
+            0 => Beginning::Allowed,
+            _ => self.starts().at(at),
         }
     }
 
@@ -245,7 +266,7 @@ pub fn empty_blocks(text: &[u8], mut at: usize) -> Vec<usize> {
 }
 
 /// The length of the block comment at the start of `rest`, None if it is not closed.
-fn block_length(rest: &[u8]) -> Option<usize> {
+pub fn block_length(rest: &[u8]) -> Option<usize> {
     let mut depth = 0;
     let mut at = 0;
     while at < rest.len() {

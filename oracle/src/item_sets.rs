@@ -3,6 +3,8 @@
 
 use crate::every_text;
 use oracle::{
+    answer::ItemCall,
+    editions,
     expected::Text,
     items::{self, Case},
     long_items,
@@ -46,6 +48,46 @@ pub trait Visitor {
     fn everywhere(&mut self, bytes: &[u8]) {
         for at in (0..=bytes.len() + 1).chain([usize::MAX]) {
             self.each_kind(bytes, at);
+        }
+    }
+
+    /// The same, its numbers as they are spelled.
+    fn item_as_spelled(&mut self, kind: u64, text: &Text, at: usize);
+
+    fn edition(&self) -> u64;
+
+    /// How long the texts are that are asked at each offset.
+    fn longest(&self, size: &Size) -> usize;
+
+    /// A value and a type at each offset.
+    fn at_each_offset(&mut self, bytes: &[u8]) {
+        let text = Text::new(bytes);
+        for at in 0..=bytes.len() {
+            for kind in [ItemKind::Value, ItemKind::Type] {
+                self.item(kind as u64, &text, at);
+            }
+        }
+    }
+
+    /// Some kinds at 50 offsets: at 25 of all, and at 25 of those where reading may begin.
+    fn at_some_offsets(&mut self, bytes: &[u8], random: &mut Random) {
+        let mut bytes = bytes.to_vec();
+        if self.edition() == 2 {
+            let length = bytes.len();
+            bytes = editions::respelled(random, &bytes, 0);
+            bytes.truncate(length);
+        }
+        let text = Text::new(&bytes);
+        let allowed = editions::judging(self.edition(), &text, 0, usize::MAX, |text| {
+            text.starts().offsets().collect::<Vec<usize>>()
+        });
+        for turn in 0..50 {
+            let kind = random.pick(&ItemKind::ALL);
+            let at = match turn % 2 {
+                0 => random.below(bytes.len() + 1),
+                _ => random.pick(&allowed),
+            };
+            self.item_as_spelled(kind as u64, &text, at);
         }
     }
 
@@ -97,8 +139,15 @@ pub trait Visitor {
     }
 }
 
-/// Visits all sets, or those of long texts alone.
+/// Visits all sets, or those of long texts or of offsets alone.
 pub fn run(visitor: &mut impl Visitor, size: &Size) {
+    if !size.long_only {
+        offsets(visitor, size);
+    }
+    far_offsets(visitor, size);
+    if size.starts_only {
+        return;
+    }
     if !size.long_only {
         short_texts(visitor, size);
         wrong_calls(visitor);
@@ -109,6 +158,9 @@ pub fn run(visitor: &mut impl Visitor, size: &Size) {
     long_texts(visitor, size);
     many_records(visitor, size);
     far_items(visitor, size);
+    if visitor.edition() == 2 && !size.long_only {
+        numbers(visitor, size);
+    }
 }
 
 /// How much is compared, and with which random texts.
@@ -121,6 +173,8 @@ pub struct Size {
     pub long_only: bool,
     /// Whether only the sets of types are read.
     pub types_only: bool,
+    /// Whether only the sets of offsets other than 0 are compared.
+    pub starts_only: bool,
 }
 
 impl Size {
@@ -138,6 +192,16 @@ impl Size {
         [1, 2]
             .into_iter()
             .filter(move |edition| one.is_none_or(|one| one == *edition))
+    }
+
+    /// The numbers that a call on items must have answered: with all sets those that it can answer.
+    pub fn due(&self, call: ItemCall, edition: Option<u64>) -> Vec<usize> {
+        if self.long_only || self.starts_only {
+            return vec![0];
+        }
+        let unprintable = (call == ItemCall::Display).then_some(18);
+        let no_edition = (edition != Some(2)).then_some(19);
+        (0..=14).chain(unprintable).chain(no_edition).collect()
     }
 
     pub fn random(&self, set: u64) -> Random {
@@ -166,8 +230,54 @@ fn short_texts(visitor: &mut impl Visitor, size: &Size) {
     });
 }
 
+/// Values and types at each offset of every short text.
+fn offsets(visitor: &mut impl Visitor, size: &Size) {
+    for (name, alphabet, longest) in [
+        ("", OFFSETS, visitor.longest(size)),
+        (", numbers", OFFSETS_IN_NUMBERS, size.of(6, 4)),
+    ] {
+        if name.is_empty() || visitor.edition() == 2 {
+            let name = format!("each offset of every text up to {longest} bytes{name}");
+            visitor.set(&name, |to| {
+                every_text(alphabet, longest, |text| {
+                    to.with_a_tail(text, |to, text| to.at_each_offset(text))
+                })
+            });
+        }
+    }
+}
+
+/// Some offsets of long texts, half of them such that reading may begin there.
+fn far_offsets(visitor: &mut impl Visitor, size: &Size) {
+    let mut random = size.random(13);
+    visitor.set("50 offsets of texts of 2,000 to 131,072 bytes", |to| {
+        for turn in 0..size.of(600, 12) {
+            let length = random.pick(&[2_000, 65_535, 65_536, 131_072]);
+            let mut text = texts::move_like(&mut random, length, false);
+            if turn % 4 == 0 {
+                text = texts::damaged(&mut random, &text);
+            }
+            to.at_some_offsets(&text, &mut random);
+        }
+    });
+    let mut random = size.random(14);
+    visitor.set("50 offsets of texts of up to 1,048,575 bytes", |to| {
+        for _ in 0..size.of(8, 1) {
+            to.at_some_offsets(
+                &texts::move_like(&mut random, 1_048_575, false),
+                &mut random,
+            );
+        }
+        for length in size.of(vec![65_536, 1_048_575], vec![2_000]) {
+            for text in texts::one_long_thing(length) {
+                to.at_some_offsets(&text, &mut random);
+            }
+        }
+    });
+}
+
 /// Numbers of edition 2, and what looks like them.
-pub fn numbers(visitor: &mut impl Visitor, size: &Size) {
+fn numbers(visitor: &mut impl Visitor, size: &Size) {
     let longest = size.of(6, 5);
     let name = format!("every text up to {longest} bytes, numbers");
     visitor.set(&name, |to| {
@@ -382,6 +492,12 @@ fn damage(random: &mut Random, case: &mut Case) {
 pub const TYPE: u64 = ItemKind::Type as u64;
 
 const ALPHABET: &[u8] = b"a<>()|,&:{}@0x\" ";
+
+/// Of these: names, marks of one byte and of two, comments, strings, and what starts no token.
+const OFFSETS: &[u8] = b"a/*>= \n\"x$";
+
+/// Of these: numbers of edition 2, and what ends them.
+const OFFSETS_IN_NUMBERS: &[u8] = b"1_u6x> /*\"";
 
 /// Bytes behind a text that would change the answer if they were read.
 pub const TAILS: [&str; 8] = ["\"\"", "::a", ">", "=", "a8", "mut ", "|", "*/"];

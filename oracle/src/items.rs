@@ -14,9 +14,11 @@ pub struct Case {
     pub at: usize,
 }
 
-/// What stands before an item: nothing that reading may look at.
-const BEFORE: [&str; 12] = [
-    "", "", "", " ", "let ", "a::", "/*", "b\"", "///", "$", "\u{e9}", "x: &mut ",
+/// What stands before an item. Behind most of them reading may begin, unless the item's first token is one
+/// with what stands there; the last four are refused in the walk to the item, or reach into it.
+const BEFORE: [&str; 20] = [
+    "", "", "", "", " ", "let ", "a::", "x: ", "T<", ">>", "/* */\t", "/** */", "///\r\n", "//\n",
+    "0x1,", "x: &mut ", "/*", "b\"", "$", "\u{e9}",
 ];
 
 /// What stands behind it.

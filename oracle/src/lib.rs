@@ -22,6 +22,8 @@ pub mod lent;
 pub mod levels;
 pub mod line;
 pub mod long_items;
+mod memo;
+pub mod numbers;
 pub mod parsing;
 pub mod points;
 pub mod properties;
@@ -30,6 +32,7 @@ pub mod reading;
 pub mod reads;
 #[cfg(test)]
 mod sha256;
+pub mod starts;
 pub mod texts;
 pub mod tree;
 pub mod type_sizes;

@@ -10,6 +10,7 @@ use crate::{
     editions,
     expected::Text,
     lent::{Ask, Buffer, ItemAt, Room, Wrong},
+    numbers::Numbers,
     parsing::ItemKind,
     random::Random,
     reads::{self, Cause, Expected, Lent, LONGEST_LINE},
@@ -85,6 +86,7 @@ pub struct Tally {
     /// narrow.
     pub both_wide: u64,
     pub only_item_wide: u64,
+    pub numbers: Numbers,
     pub listed: [u64; Cause::ALL.len()],
 }
 
@@ -198,6 +200,7 @@ impl Properties {
             let room = room.of(due);
             let lent = due.within(room);
             self.tally.answers += 1;
+            self.tally.numbers.count(lent);
             if let Some(cause) = lent.cause {
                 self.tally.listed[cause as usize] += 1;
                 self.tally.unprintable += u64::from(cause == Cause::UnprintableLine);
@@ -223,6 +226,7 @@ impl Properties {
             written: &[],
             cause: None,
         };
+        self.tally.numbers.count(lent);
         let item = (kind, none, text, at);
         let wrong = self.buffer.wrong(ItemCall::Display, item, room, lent)?;
         Some((Property::Displayed, told(room, lent, &wrong)))
@@ -332,7 +336,8 @@ fn is_wide(tree: &[u8]) -> bool {
 /// What is refused with 18 was read.
 fn unprintable_broken(read: &Expected, due: &Expected) -> Option<Broken> {
     let accepted = read.answer.is_some_and(|answer| answer.result == 0);
-    (due.cause == Some(Cause::UnprintableLine) && !accepted).then(|| (Property::UnprintableButRead, vec![]))
+    (due.cause == Some(Cause::UnprintableLine) && !accepted)
+        .then(|| (Property::UnprintableButRead, vec![]))
 }
 
 fn told(room: usize, due: Lent, wrong: &Wrong) -> Vec<String> {

@@ -12,6 +12,7 @@ use oracle::{
     expected::Text,
     items::Case,
     lent::{Buffer, ItemAt, Room, Wrong},
+    numbers::Numbers,
     parsing::on_a_deep_stack,
     random::Random,
     reads::{expected_in, Cause, Expected, Lent},
@@ -35,15 +36,17 @@ pub fn run(size: Size) -> Found {
             if !size.types_only {
                 item_sets::run(&mut reads, &size);
             }
-            if edition == 2 && !size.long_only && !size.types_only {
-                item_sets::numbers(&mut reads, &size);
+            if !size.starts_only {
+                if !size.long_only {
+                    reads.short_types(size.of(7, 5));
+                }
+                reads.largest_types(size.of(1, 41));
             }
-            if !size.long_only {
-                reads.short_types(size.of(7, 5));
-            }
-            reads.largest_types(size.of(1, 41));
             reads.print_summary();
             found.add(reads.different, reads.on_long);
+            if !size.types_only {
+                found.missing += missing(&reads.numbers, size.due(ItemCall::Read, Some(edition)));
+            }
         }
         println!("\n{:.1} s", start.elapsed().as_secs_f64());
         found
@@ -74,6 +77,7 @@ struct Reads {
     accepted: u64,
     /// The accepted types, held to the bounds on their trees.
     sizes: TypeSizes,
+    numbers: Numbers,
     random: Random,
     listed: [u64; Cause::ALL.len()],
     different: u64,
@@ -94,6 +98,22 @@ impl Visitor for Reads {
 
     fn random(&mut self) -> &mut Random {
         &mut self.random
+    }
+
+    fn item_as_spelled(&mut self, kind: u64, text: &Text, at: usize) {
+        self.one_item(kind, text, at);
+    }
+
+    fn edition(&self) -> u64 {
+        self.edition
+    }
+
+    /// Without digits edition 2 is as edition 1.
+    fn longest(&self, size: &Size) -> usize {
+        match self.edition {
+            1 => size.of(7, 5),
+            _ => size.of(5, 3),
+        }
     }
 
     fn item(&mut self, kind: u64, text: &Text, at: usize) {
@@ -241,6 +261,7 @@ impl Reads {
             on_long: 0,
             accepted: 0,
             sizes: TypeSizes::default(),
+            numbers: Numbers::default(),
             random,
             listed: [0; Cause::ALL.len()],
             different: 0,
@@ -257,6 +278,7 @@ impl Reads {
             self.judge_none(kind, text, at, room.of(expected), expected);
         }
         let due = expected.within(room.of(expected));
+        self.numbers.count(due);
         self.accepted += u64::from(!due.written.is_empty());
         if let Some(cause) = due.cause {
             self.listed[cause as usize] += 1;
@@ -268,7 +290,7 @@ impl Reads {
 
     /// Beside edition 2, edition 1 on the text by which the Rust judges.
     fn judge_first(&mut self, kind: u64, text: &Text, at: usize, expected: &Expected) {
-        let judged = editions::judged(self.edition, text.bytes, at, usize::MAX);
+        let judged = editions::judged(self.edition, text.bytes, 0, usize::MAX);
         if let Cow::Owned(copy) = judged {
             self.of_first += 1;
             let call = (kind, 1, &copy[..], at, Room::Exact);
@@ -283,6 +305,7 @@ impl Reads {
         let edition = editions::NONE[self.answers as usize % editions::NONE.len()];
         self.of_none += 1;
         let item = (kind, edition, text.bytes, at);
+        self.numbers.count(of_none(expected));
         if let Some(wrong) = none_is_wrong(&mut self.buffer, ItemCall::Read, item, room, expected) {
             self.different += 1;
             println!("  edition {edition}, kind {kind}, at {at}, room {room}: {wrong:?}");
@@ -323,12 +346,37 @@ impl Reads {
             grouped(self.sizes.types),
             self.sizes.beyond.unwrap_or(0)
         );
+        print_numbers(&self.numbers);
         print_listed(&self.listed);
         println!("\ndifferences not listed: {}", grouped(self.different));
         for difference in &self.shown {
             difference.print();
         }
     }
+}
+
+/// How many answers of each number were compared.
+pub fn print_numbers(numbers: &Numbers) {
+    println!("\nAnswers of each number, and those by the walk from 0 to the offset:");
+    for (number, all, walked) in numbers.lines() {
+        let walked = match walked {
+            0 => String::new(),
+            _ => grouped(walked),
+        };
+        println!(
+            "{}",
+            format!("  {number:>2} {:>14} {walked:>14}", grouped(all)).trim_end()
+        );
+    }
+}
+
+/// How many of the numbers that are due were never answered; told, if there are any.
+pub fn missing(numbers: &Numbers, due: Vec<usize>) -> u64 {
+    let missing = numbers.missing(due);
+    if missing > 0 {
+        println!("\nNUMBERS WITHOUT AN ANSWER: {missing}");
+    }
+    missing
 }
 
 /// How many answers each listed difference decided.
@@ -349,12 +397,15 @@ pub fn none_is_wrong(
     room: usize,
     expected: &Expected,
 ) -> Option<Wrong> {
-    let due = Lent {
+    buffer.wrong(call, item, room, of_none(expected))
+}
+
+fn of_none(expected: &Expected) -> Lent<'static> {
+    Lent {
         answer: Some(editions::of_none(expected.answer)),
         written: &[],
         cause: None,
-    };
-    buffer.wrong(call, item, room, due)
+    }
 }
 
 /// A call: kind, edition, text, start offset and room.

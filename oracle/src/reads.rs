@@ -9,6 +9,7 @@ use crate::{
     levels::strike,
     parsing::{parse, Item, ItemKind, Parse},
     reading::{Outcome, Reading},
+    starts::Beginning,
 };
 
 /// The longest line that is not refused.
@@ -20,6 +21,8 @@ pub enum Cause {
     TextTooLong,
     StartPastEnd,
     UnknownKind,
+    NothingStarts,
+    RefusedBefore,
     EmptyBlock,
     HighByteInString,
     LastCarriageReturn,
@@ -30,10 +33,12 @@ pub enum Cause {
 }
 
 impl Cause {
-    pub const ALL: [Cause; 10] = [
+    pub const ALL: [Cause; 12] = [
         Cause::TextTooLong,
         Cause::StartPastEnd,
         Cause::UnknownKind,
+        Cause::NothingStarts,
+        Cause::RefusedBefore,
         Cause::EmptyBlock,
         Cause::HighByteInString,
         Cause::LastCarriageReturn,
@@ -48,6 +53,8 @@ impl Cause {
             Cause::TextTooLong => expected::Cause::TextTooLong.words(),
             Cause::StartPastEnd => expected::Cause::StartPastEnd.words(),
             Cause::UnknownKind => "item kind not 1 to 5 (refusal 3; the Rust cannot be asked)",
+            Cause::NothingStarts => "an offset at which nothing starts (here refusal 21)",
+            Cause::RefusedBefore => "refused in the walk from 0 to the offset (5 to 9)",
             Cause::EmptyBlock => expected::Cause::EmptyBlock.words(),
             Cause::HighByteInString => expected::Cause::HighByteInString.words(),
             Cause::LastCarriageReturn => expected::Cause::LastCarriageReturn.words(),
@@ -81,15 +88,19 @@ pub fn expected(kind: u64, text: &Text, at: usize) -> Expected {
     if at > text.bytes.len() {
         return by_document_01(Cause::StartPastEnd, Answer::refused(2, 0, 0));
     }
-    match ItemKind::numbered(kind) {
-        Some(kind) => of_an_item(kind, text, at),
-        None => by_document_01(Cause::UnknownKind, Answer::refused(3, 0, 0)),
+    let Some(kind) = ItemKind::numbered(kind) else {
+        return by_document_01(Cause::UnknownKind, Answer::refused(3, 0, 0));
+    };
+    match text.beginning(at) {
+        Beginning::Allowed => of_an_item(kind, text, at),
+        Beginning::Nowhere => by_document_01(Cause::NothingStarts, Answer::refused(21, at, at)),
+        Beginning::Refused(answer) => by_document_01(Cause::RefusedBefore, answer),
     }
 }
 
-/// The same in an edition.
+/// The same in an edition. The text is judged from 0 on, since the walk to the offset is of that edition too.
 pub fn expected_in(edition: u64, kind: u64, text: &Text, at: usize) -> Expected {
-    editions::judging(edition, text, at, usize::MAX, |text| {
+    editions::judging(edition, text, 0, usize::MAX, |text| {
         expected(kind, text, at)
     })
 }
@@ -196,7 +207,7 @@ fn refused_no_earlier(parse: &Parse, (start, _): (usize, usize), text: &Text) {
 /// A copy with four tabs in place of each top-level `/**/` from `at` on, on which the
 /// Rust panics; None where there is none. (A space would make `&mut` before it one
 /// token with it.)
-fn without_empty_blocks(text: &Text, at: usize) -> Option<Vec<u8>> {
+pub fn without_empty_blocks(text: &Text, at: usize) -> Option<Vec<u8>> {
     let mut copy = text.bytes.to_vec();
     let mut gap = at;
     let mut found = false;

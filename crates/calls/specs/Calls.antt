@@ -76,7 +76,8 @@ unfoldable pub readValues : Answer → List ℕ
 readValues (Accepted n t) = n ∷ t .kind ∷ t .start ∷ t .end ∷ 0 ∷ 0 ∷ []
 readValues (Rejected r) = places r
 
--- the display call: the item's line, which has no more room than the longest line. So the order is 1, 2, 3, 19, 5 to 14, 18, 4
+-- the display call: the item's line, which has no more room than the longest line. So the order is 1, 2, 3, 19, the walk's 5 to 9 or
+-- 21, the item's 5 to 14, 18, 4
 abbrev pub asLine : Tree → ℕ
 asLine t = FormLine
 

@@ -4,7 +4,7 @@ ghost use mathlib.Core.Path.{_≡_};
 ghost use Prim.Native.Nat.{_-_, _≤_};
 ghost use lib.ListN.{length};
 ghost use Rattle.tokens.specs.Calls.{nextToken};
-ghost use Rattle.grammar.specs.Items.{readKind, asked, noKind, faultOf};
+ghost use Rattle.grammar.specs.Items.{readKind, asked, noKind, numberFault, faultOf};
 ghost use Rattle.forms.specs.Forms.{narrowLimit, laid};
 ghost use Rattle.parts.specs.code.Meets.{ReadsBy};
 ghost use Rattle.calls.specs.Calls.{answered, readBuffer, displayed, displayBuffer};
@@ -299,9 +299,9 @@ fn lay_item(form: u8, kind: u64, edition: u64, text: &[u8], a: Token, out: &mut 
     copied(d, &made, out)
 }
 
-// What is wrong with what is asked, before the item is looked at: refusals 1, 2, 3 and 19, in this order.
-fn fault(kind: u64, edition: u64, text: &[u8], at: usize) -> Fault
-    ensures { λ r. ⌜ r ≡ faultOf (asked kind edition (now (text .entry)) at) ⌝ }
+// What is wrong with what is asked by its numbers alone: refusals 1, 2, 3 and 19, in this order.
+fn number_fault(kind: u64, edition: u64, text: &[u8], at: usize) -> Fault
+    ensures { λ r. ⌜ r ≡ numberFault (asked kind edition (now (text .entry)) at) ⌝ }
 {
     let f = tokens::place_fault(text, at);
     match f {
@@ -311,6 +311,23 @@ fn fault(kind: u64, edition: u64, text: &[u8], at: usize) -> Fault
                 return Fault::Faulty(tokens::refuse(NO_SUCH_KIND, 0, 0));
             }
             tokens::edition_fault(edition)
+        }
+    }
+}
+
+// What is wrong with what is asked, before the item is looked at: its numbers first, then, unless the text
+// is read from its first byte, whether reading may begin at the offset.
+fn fault(kind: u64, edition: u64, text: &[u8], at: usize) -> Fault
+    ensures { λ r. ⌜ r ≡ faultOf (asked kind edition (now (text .entry)) at) ⌝ }
+{
+    let f = number_fault(kind, edition, text, at);
+    match f {
+        Fault::Faulty(r) => Fault::Faulty(r),
+        Fault::Faultless => {
+            if at == 0 {
+                return Fault::Faultless;
+            }
+            starts::start_fault(edition, text, at)
         }
     }
 }

@@ -7,7 +7,7 @@ use mathlib.Core.List.{List, _++_}
 use Prim.Native.Nat.{ℕ, _*_, _≤_}
 use native.Mathlib.Omega.{arith}
 use lib.ListN.{length}
-use Rattle.tokens.specs.Refusals.{among}
+use Rattle.tokens.specs.Refusals.{among, lexRefusals}
 use Rattle.tokens.specs.Calls.{textLimit}
 use Rattle.tokens.specs.declared.Refusal.{Refusal}
 use Rattle.tokens.proofs.Faults.{unless-sure}
@@ -27,7 +27,7 @@ use Rattle.forms.proofs.Apart.{form-narrow, form-cases, form-stored, same-form}
 use Rattle.frames.proofs.Checked.{textRefusals, TokenMet, token-met, Checked, checked-reader}
 use Rattle.frames.proofs.Shapes.{kind-obeys}
 
--- all that an item is refused with before its room is looked at: 1 to 3 and 5 to 14
+-- all that an item is refused with before its room is looked at: 1 to 3, 19, 21 and 5 to 14
 abbrev pub readRefusals : List ℕ
 readRefusals = faultRefusals ++ textRefusals
 
@@ -56,9 +56,10 @@ module _ (text : List ℕ) (h : length text ≤ textLimit) where
   finished-told (no r) g = of-text (r .number) g
 
 pub item-told : (q : Asked) → Told (q .text) (readItem q)
-unfolding readItem among
+unfolding readItem subset among
 item-told q =
-    unless-sure refused (Told (q .text)) (faultOf q) _ (fault-each q (λ (r : Refusal). among readRefusals (r .number) ≡ true) refl refl refl refl) λ e.
+    unless-sure refused (Told (q .text)) (faultOf q) _
+    (fault-each q (λ (r : Refusal). among readRefusals (r .number) ≡ true) refl refl refl refl (λ _. refl) (λ r d. among-subset lexRefusals readRefusals refl (r .number) (d .number))) λ e.
     finished-told (q .text) (in-order q e .short) (reading q) (looked-checked (q .kind) (lex (opened (q .edition) (q .text) (q .at))) (token-met (opened (q .edition) (q .text) (q .at))))
 
 -- an item is refused with one of these numbers

@@ -4,7 +4,7 @@ use Prim.Native.Nat.{ℕ, _+_, _*_, _<_, _≤_}
 use native.Mathlib.Omega.{arith}
 use lib.ListN.{length, length-drop}
 use Rattle.tokens.specs.Answers.{refusal}
-use Rattle.tokens.proofs.Faults.{unless-sure}
+use Rattle.tokens.proofs.Faults.{Each, unless-sure}
 use Rattle.records.specs.Tree.{Tree, startOf, endOf, Nested}
 use Rattle.records.specs.Stored.{stored}
 use Rattle.sources.specs.Source.{Source, opened, Lexeme, start, end, LexResult, tok, bad, lex}
@@ -57,10 +57,16 @@ module _ (text : List ℕ) where
   nowhere : (n : ℕ) → Blamed (length text) (refusal n 0 0)
   nowhere n = ((omega arith, omega arith), (omega arith, omega arith))
 
+faults-held : (q : Asked) → Each (Blamed (length (q .text))) (faultOf q)
+faults-held q =
+    let text : List ℕ = q .text in
+    fault-each q (Blamed (length text)) (nowhere text 1) (nowhere text 2) (nowhere text 3) (nowhere text 19)
+    (λ h. ((omega arith, h), (omega arith, h))) (λ r d. (d .place, d .second))
+
 pub item-held : (q : Asked) → Held (q .text) (q .at) (readItem q)
 unfolding readItem
 item-held q =
     let n : ℕ = length (q .text) in
-    unless-sure refused (Held (q .text) (q .at)) (faultOf q) _ (fault-each q (Blamed n) (nowhere (q .text) 1) (nowhere (q .text) 2) (nowhere (q .text) 3) (nowhere (q .text) 19)) λ e.
+    unless-sure refused (Held (q .text) (q .at)) (faultOf q) _ (faults-held q) λ e.
     look-sure n (λ a. Held (q .text) (q .at) (finished a)) (opened (q .edition) (q .text) (q .at)) (readKind (q .kind)) (omega (arith, length-drop (q .at) (q .text), in-order q e .inside))
     (λ r h. answer-held (q .text) (q .at) (q .at) (no r) (omega arith) h) λ t d i. answer-held (q .text) (q .at) (start t) (readKind (q .kind) t) i (kind-sure n (q .kind) t d)

@@ -94,8 +94,8 @@ module _ (k : ℕ) where
   finished-raised (ok x u) = rw (lex-raised k u) (followed-raised x (lex u))
   finished-raised (no r) = refl
 
--- where nothing is wrong with what is asked: a text that is not too long, an offset in it, one of the five kinds and one of the two
--- editions
+-- where nothing is wrong with what is asked: a text that is not too long, an offset in it at which reading may begin, one of the five
+-- kinds and one of the two editions
 pub item-from : (q : Asked) → faultOf q ≡ Faultless → readItem q ≡ raiseItem (q .at) (readItem (ofText (drop (q .at) (q .text)) q))
 unfolding readItem
 item-from q e =

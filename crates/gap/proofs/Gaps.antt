@@ -101,7 +101,7 @@ unfolding gap
 gap-over text i h = rw (drop-of-length-le text h)
 
 module _ (text : List ℕ) (i : ℕ) (h : i < length text) where
-  held : Held i (length text) (partAt i (drop i text))
+  pub held : Held i (length text) (partAt i (drop i text))
   held =
       let e : drop i text ≡ getD text i 0 ∷ drop (suc i) text = drop-cons text i 0 h in
       let n : i + length (drop i text) ≡ length text = omega (arith, length-drop i text) in

@@ -6,5 +6,6 @@ pub mod LineFeeds
 pub mod Lines
 pub mod Parts
 pub mod Gaps
+pub mod PartsEnd
 pub mod Shift
 pub mod Stops

@@ -1,6 +1,7 @@
 pub mod Marks
 pub mod Comments
 pub mod Gap
+pub mod PartsEnd
 pub mod LineFeed
 pub mod Raise
 pub mod code

@@ -9,6 +9,7 @@ ghost use lib.ListN.{length, drop};
 ghost use Rattle.gap.specs.Marks.{isBlank, docLine, docBlock};
 ghost use Rattle.gap.specs.Comments.{inside, lineText, lineComment, partAt};
 ghost use Rattle.gap.specs.Gap.{gap, gapEndOf, docOf};
+ghost use Rattle.gap.specs.PartsEnd.{partsEnd};
 ghost use Rattle.gap.specs.LineFeed.{lineFeed, gapFeed};
 ghost use Rattle.gap.specs.code.Blocks.{blockPart, depthAt, openerAt};
 ghost use Rattle.gap.specs.code.Ends.{endOfPart};
@@ -478,4 +479,28 @@ pub fn first_doc(text: &[u8], at: usize) -> FirstDoc
         }
     }
     FirstDoc::Nothing
+}
+
+// Where the closed parts of the gap from `at` on end: at its end, or at the first byte of the comment that
+// is not closed.
+pub fn parts_end(text: &[u8], at: usize) -> usize
+    ensures { λ r. ⌜ r ≡ partsEnd 0 at (drop at (now (text .entry))) ⌝ }
+{
+    let mut i = at;
+    while i < text.len() {
+        let p = part_at(text, i);
+        let k = end_of_part(p);
+        match k {
+            PartEnd::Ends(e) => {
+                i = e;
+            }
+            PartEnd::Unended(_, _) => {
+                return i;
+            }
+            PartEnd::NoPart => {
+                return i;
+            }
+        }
+    }
+    i
 }

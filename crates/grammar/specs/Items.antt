@@ -3,10 +3,11 @@ use Prim.Native.Nat.{ℕ}
 use mathlib.Core.Bool.{Bool, _||_}
 use mathlib.Core.List.{List, [], _∷_}
 use lib.Dec.{eqb, ltb}
-use Rattle.tokens.specs.Refusals.{TextTooLong, StartPastEnd, NoSuchKind, NoSuchEdition}
+use Rattle.tokens.specs.Refusals.{TextTooLong, StartPastEnd, NoSuchKind, NoSuchEdition, NothingStarts}
 use Rattle.tokens.specs.Calls.{faultIf, _orElse_, placeFault, editionFault, unless}
 use Rattle.tokens.specs.declared.Fault.{Fault}
 use Rattle.tokens.specs.declared.Refusal.{Refusal}
+use Rattle.starts.specs.Beginning.{startFault}
 use Rattle.records.specs.Tree.{Tree}
 use Rattle.sources.specs.Source.{opened, Lexeme, LexResult, tok, bad, lex}
 use Rattle.answers.specs.Reading.{Ans, ok, no, look, when, Reader}
@@ -61,12 +62,17 @@ inEdition ed q = record { kind = q .kind; edition = ed; text = q .text; at = q .
 abbrev pub noKind : ℕ → Bool
 noKind kind = eqb kind 0 || ltb 5 kind
 
--- what is wrong with it before the item is looked at: refusals 1, 2, 3 and 19, in this order
-unfoldable pub faultOf : Asked → Fault
-faultOf q = placeFault (q .text) (q .at) orElse faultIf (noKind (q .kind)) NoSuchKind orElse editionFault (q .edition)
+-- what is wrong with it before the text is looked at: refusals 1, 2, 3 and 19, in this order
+unfoldable pub numberFault : Asked → Fault
+numberFault q = placeFault (q .text) (q .at) orElse faultIf (noKind (q .kind)) NoSuchKind orElse editionFault (q .edition)
 
+-- and before the item is: then, where reading may not begin at the offset, 21 or the refusal of what starts before it
+unfoldable pub faultOf : Asked → Fault
+faultOf q = numberFault q orElse startFault (q .edition) (q .text) (q .at)
+
+-- the numbers that only a fault has
 abbrev pub faultRefusals : List ℕ
-faultRefusals = TextTooLong ∷ StartPastEnd ∷ NoSuchKind ∷ NoSuchEdition ∷ []
+faultRefusals = TextTooLong ∷ StartPastEnd ∷ NoSuchKind ∷ NoSuchEdition ∷ NothingStarts ∷ []
 
 -- what is read from the offset on, by a reader for each kind
 abbrev pub readingOver : (ℕ → Reader) → Asked → Ans Tree

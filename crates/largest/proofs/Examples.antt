@@ -17,7 +17,8 @@ use Rattle.sources.specs.Source.{scanned, lex}
 use Rattle.answers.specs.Reading.{then, look, when, closed, list, listBehind}
 use Rattle.grammar.specs.Names.{lastPart, thirdPart, secondPart, chain}
 use Rattle.grammar.specs.Types.{bracketed, brackets, reference, function, withArguments, named, typeOver, readType}
-use Rattle.grammar.specs.Items.{readKind, followed, finished, faultOf, readItem}
+use Rattle.starts.specs.Beginning.{beginning, beginningFault, startFault}
+use Rattle.grammar.specs.Items.{readKind, followed, finished, numberFault, faultOf, readItem}
 use Rattle.largest.specs.Largest.{bytesOf, furtherArguments, functionType, largest, most, typeRoom}
 use Rattle.largest.specs.Examples.{expected, given, examples}
 
@@ -27,7 +28,7 @@ unfolding begins inRange isDigit isLetter isName runLen isSpace isBlank slashes 
 lexing = tt
 
 unfoldable reading : Unit {0}
-unfolding _orElse_ placeFault unless then look when closed list listBehind lastPart thirdPart secondPart chain bracketed brackets reference function withArguments named typeOver readType readKind followed finished faultOf readItem behind
+unfolding _orElse_ placeFault unless then look when closed list listBehind lastPart thirdPart secondPart chain bracketed brackets reference function withArguments named typeOver readType readKind followed finished numberFault beginning beginningFault startFault faultOf readItem behind
 reading = tt
 
 unfoldable telling : Unit {0}

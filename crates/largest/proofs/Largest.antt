@@ -20,6 +20,7 @@ use Rattle.grammar.specs.Names.{chain}
 use Rattle.grammar.specs.Types.{levels, bracketed, brackets, reference, withArguments, named, typeOver, readType}
 use Rattle.grammar.specs.Items.{item, refused, readKind, followed, finished, asked, faultOf, readItem}
 use Rattle.grammar.proofs.Asked.{faultless}
+use Rattle.starts.proofs.Allowed.{zero-begins}
 use Rattle.largest.specs.Largest.{functionType, largest, most}
 use Rattle.largest.specs.Statements.{IsTypeOf, LargestReaches, ThreeLevels, OneReached, TwoReached, ThreeReached, AlwaysReached}
 use Rattle.largest.proofs.Fronts.{lexer, from, front, at-end}
@@ -34,7 +35,7 @@ module _ (ed : ℕ) (e : noEdition ed ≡ false) where
   -- an item that is a type, over the reader of types
   item-type : (text : List ℕ) → length text ≤ textLimit → readItem (asked 3 ed text 0) ≡ finished (look (lex (opened ed text 0)) (readType levels))
   unfolding readItem
-  item-type text h = unless-not refused (faultOf (asked 3 ed text 0)) _ (faultless (asked 3 ed text 0) (record { short = h; inside = omega arith; isKind = refl; isEdition = e })) ∙ ap finished (kind-type (lex (opened ed text 0)))
+  item-type text h = unless-not refused (faultOf (asked 3 ed text 0)) _ (faultless (asked 3 ed text 0) (record { short = h; inside = omega arith; isKind = refl; isEdition = e; mayBegin = zero-begins ed text })) ∙ ap finished (kind-type (lex (opened ed text 0)))
 
   finished-end : (t : Tree) (n : ℕ) → finished (ok t (from ed n [])) ≡ item t (front EOF 0 ed n [])
   unfolding finished followed

@@ -1,5 +1,5 @@
--- The examples: one list, P1 to P15, then strings with unprintable bytes, then numbers of edition 2. Each entry has its name, what a call is
--- asked, and what it must give. That it gives that is one lemma, `examples-hold` in proofs/Examples.
+-- The examples: one list, P1 to P15, then strings with unprintable bytes, then numbers of edition 2, then reads and displays at
+-- offsets where reading may begin and where not. Each entry has its name, what a call is asked, and what it must give. That it gives that is one lemma, `examples-hold` in proofs/Examples.
 use mathlib.Core.List.{List, [], _∷_, _++_, map}
 use Prim.Native.Nat.{ℕ}
 use Prim.Native.String.{String}
@@ -100,4 +100,30 @@ examples =
     ∷ line "a name with a number of edition 2" (second 1 (bytes " 1_0 ::a")) (bytes "1_0::a")
     ∷ read "the same in edition 1" (first 1 (bytes " 1_0 ::a")) 10 (six 2 4 1 2)
     ∷ token "edition 3" 3 (bytes "a") 0 19 (six 0 0 0 0)
+    ∷ read "inside a comment" (asked 3 1 (bytes "/* a */ b") 3) 21 (twice 3 3)
+    ∷ read "a comment's end" (asked 3 1 (bytes "/* a */ b") 7) 21 (twice 7 7)
+    ∷ read "inside a token" (asked 3 1 (bytes "abc") 1) 21 (twice 1 1)
+    ∷ read "a token's end" (asked 3 1 (bytes "a  b") 1) 0 (six 16 0 4 4)
+    ∷ read "between blanks" (asked 3 1 (bytes "a  b") 2) 21 (twice 2 2)
+    ∷ read "EOF" (asked 3 1 (bytes "a  ") 3) 10 (twice 3 3)
+    ∷ read "the middle of >>" (asked 3 1 (bytes ">>a") 1) 10 (twice 1 2)
+    ∷ read "the middle of >=" (asked 3 1 (bytes ">=a") 1) 21 (twice 1 1)
+    ∷ read "the blank of &mut" (asked 3 1 (bytes "&mut a") 4) 21 (twice 4 4)
+    ∷ read "a refused token's start" (asked 3 1 (bytes "a  $b") 3) 5 (twice 3 3)
+    ∷ read "behind a refused token" (asked 3 1 (bytes "a  $b") 4) 5 (twice 3 3)
+    ∷ read "a string starts before the byte blamed" (asked 3 1 (bytes "b\"" ++ (233 ∷ bytes "\" a")) 3) 9 (twice 2 3)
+    ∷ read "an open comment's start" (asked 3 1 (bytes " /*") 1) 21 (twice 1 1)
+    ∷ read "behind the outermost opener" (asked 3 1 (bytes "a /* /*") 3) 6 (twice 5 7)
+    ∷ read "before an open comment" (asked 3 1 (bytes "a /* /*") 2) 21 (twice 2 2)
+    ∷ read "an open comment met by the item" (asked 3 1 (bytes "a /* /*") 1) 6 (twice 5 7)
+    ∷ read "1_0 in edition 1" (asked 3 1 (bytes "1_0") 1) 0 (six 16 0 3 3)
+    ∷ read "1_0 in edition 2" (asked 3 2 (bytes "1_0") 1) 21 (twice 1 1)
+    ∷ read "before the item is looked at" (asked 3 1 (bytes "a  $") 2) 21 (twice 2 2)
+    ∷ read ">> split at 0" (asked 3 1 (bytes "a<b>>==c") 0) 0 (six 32 33 4 6)
+    ∷ read "no token of the walk" (asked 3 1 (bytes "a<b>>==c") 6) 21 (twice 6 6)
+    ∷ read "3 first" (asked 6 1 (bytes "abc") 1) 3 (twice 0 0)
+    ∷ read "19 first" (asked 3 3 (bytes "abc") 1) 19 (twice 0 0)
+    ∷ noLine "a display inside a token" (asked 3 1 (bytes "abc") 1) 65535 21 (twice 1 1)
+    ∷ noLine "a display behind a refused token" (asked 3 1 (bytes "a  $b") 4) 65535 5 (twice 3 3)
+    ∷ noLine "18 is looked for later" (asked 2 1 (bytes "a b\"" ++ (9 ∷ bytes "\"")) 3) 65535 21 (twice 3 3)
     ∷ []

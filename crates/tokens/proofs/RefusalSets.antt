@@ -17,7 +17,7 @@ use Rattle.words.specs.Search.{markOf, suffixLen}
 use Rattle.words.specs.Quote.{quoteFrom}
 use Rattle.words.specs.declared.Quote.{Quote}
 use Rattle.words.specs.declared.Quote.the-variants.{Found as Closing, Missing}
-use Rattle.tokens.specs.Refusals.{StringNotAscii, NoToken, among, lexRefusals, tokenRefusals, commentRefusals}
+use Rattle.tokens.specs.Refusals.{NoToken, HexStringNotClosed, ByteStringNotClosed, StringNotAscii, among, lexRefusals, tokenRefusals, commentRefusals}
 use Rattle.tokens.specs.Token.{Front, sized, fault, typed, decimal, hexTyped, hexLen, hexNumber, numberToken, stringBy, string, opensString, stringRefusal, name, wordToken, mark, findToken, Scanned, tok, bad, placed, behindGap, scan}
 use Rattle.tokens.specs.Calls.{textLimit, placeFault, callFault, lexed, nextToken, advanced, refusedCall, tokenCall, commentOf, nextComment}
 use Rattle.tokens.specs.declared.Refusal.{Refusal}
@@ -42,10 +42,13 @@ among-subset (x ∷ xs) ys h n g = go (eqb x n) refl g (among-subset xs ys (and-
     go true e f later = subst (λ (m : ℕ). among ys m ≡ true) (eqb-true x n e) (and-left (among ys x) (subset xs ys) h)
     go false e f later = later f
 
--- what the bytes of a text refuse has a number of the set
-abbrev Met : Front → Type 0
+-- what the bytes of a text refuse where a token is looked for, behind the gap: 6 is a comment's
+abbrev pub frontRefusals : List ℕ
+frontRefusals = NoToken ∷ HexStringNotClosed ∷ ByteStringNotClosed ∷ StringNotAscii ∷ []
+
+abbrev pub Met : Front → Type 0
 Met (sized k n) = Unit {0}
-Met (fault m i j) = among lexRefusals m ≡ true
+Met (fault m i j) = among frontRefusals m ≡ true
 
 abbrev pub LexMet : Scanned → Type 0
 LexMet (tok k s e w r) = Unit {0}
@@ -59,16 +62,16 @@ number-met : (ed : ℕ) (s : List ℕ) → Met (numberToken ed s)
 unfolding numberToken hexNumber hexTyped decimal typed
 number-met ed s = met-cond (begins (bytes "0x") s) _ _ (met-cond (eqb (hexLen ed s + suffixLen ed (drop (hexLen ed s) s)) 2) (sized 1 1) _ tt tt) tt
 
-string-met : (m h : ℕ) (q : Quote) → among lexRefusals m ≡ true → Met (stringBy m h q)
+string-met : (m h : ℕ) (q : Quote) → among frontRefusals m ≡ true → Met (stringBy m h q)
 unfolding stringBy among
 string-met m h (Missing e) p = p
 string-met m h (Closing q) p = met-cond (ltb h q) (fault StringNotAscii h (h + 1)) (sized 3 (q + 1)) refl tt
 
-string-refusal-met : (a : ℕ) → among lexRefusals (stringRefusal a) ≡ true
+string-refusal-met : (a : ℕ) → among frontRefusals (stringRefusal a) ≡ true
 unfolding stringRefusal among
 string-refusal-met a = go (eqb a 120)
   where
-    go : (b : Bool) → among lexRefusals (cond b 7 8) ≡ true
+    go : (b : Bool) → among frontRefusals (cond b 7 8) ≡ true
     go true = refl
     go false = refl
 
@@ -78,7 +81,7 @@ word-met s =
     met-cond (opensString (getD s 0 0) (getD s 1 0)) _ _
     (string-met (stringRefusal (getD s 0 0)) (2 + runLen isAscii (drop 2 s)) (quoteFrom false 2 (drop 2 s)) (string-refusal-met (getD s 0 0))) tt
 
-find-met : (ed : ℕ) (s : List ℕ) → Met (findToken ed s)
+pub find-met : (ed : ℕ) (s : List ℕ) → Met (findToken ed s)
 unfolding findToken mark among
 find-met ed [] = tt
 find-met ed (a ∷ s) =
@@ -86,9 +89,9 @@ find-met ed (a ∷ s) =
     (met-cond (isLetter a) _ _ (word-met (a ∷ s)) (met-cond (eqb (markOf (a ∷ s) .len) 0) (fault NoToken 0 0) (sized (markOf (a ∷ s) .kind) (markOf (a ∷ s) .len)) refl tt))
 
 placed-met : (p : ℕ) (s : List ℕ) (x : Front) → Met x → LexMet (placed p s x)
-unfolding placed
+unfolding placed subset among
 placed-met p s (sized k n) h = tt
-placed-met p s (fault m i j) h = h
+placed-met p s (fault m i j) h = among-subset frontRefusals lexRefusals refl m h
 
 module _ (ed : ℕ) where
   gap-met : (e : End) → LexMet (behindGap ed e)

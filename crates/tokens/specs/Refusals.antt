@@ -52,6 +52,9 @@ LineUnprintable = 18
 abbrev pub NoSuchEdition : ℕ
 NoSuchEdition = 19
 
+abbrev pub NothingStarts : ℕ
+NothingStarts = 21
+
 -- whether a number is one of a set of them
 unfoldable pub among : List ℕ → ℕ → Bool
 among [] n = false

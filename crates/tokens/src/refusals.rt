@@ -31,3 +31,5 @@ pub const TOO_DEEP: u32 = 14;
 pub const LINE_UNPRINTABLE: u32 = 18;
 
 pub const NO_SUCH_EDITION: u32 = 19;
+
+pub const NOTHING_STARTS: u32 = 21;

@@ -38,22 +38,24 @@ comments, reads with the bytes that they write, and displays with their lines;
 first some points whose answers are written down.
 
 usage: compare [--quick] [--seed N] [--edition N] [--reads-only | --displays-only]
-               [--long-only | --types-only] [--help]
+               [--long-only | --types-only | --starts-only] [--help]
 
-  --quick          fewer texts: some 88 million answers, in a minute or two
+  --quick          fewer texts: some 93 million answers, in a minute or two
   --edition N      one edition alone, 1 or 2 (default both)
   --seed N         another choice of random texts (default 1)
   --reads-only     no tokens, comments and displays
   --displays-only  no tokens, comments and reads
   --long-only      only the sets of texts and trees over 65,535 bytes
   --types-only     only the two sets of reads that look for the largest trees of types
+  --starts-only    only reads and displays of the sets of offsets other than 0
   --help           these words
 
 Prints the sha256 of the Rust sources, how many answers were compared, how many of
 them on texts of 65,536 to 1,048,575 bytes, those that docs/DIFFERENCES.md lists by
-class (there the specification decides, and the port is held to it), and the first
-differences that it does not list, each with the smallest text found. Exit status:
-0 no such difference, 1 some, 2 bad usage.
+class (there the specification decides, and the port is held to it), how many reads
+and displays of each number, and the first differences that it does not list, each
+with the smallest text found. Exit status: 0 no such difference, 1 some, or a number
+that no answer has, 2 bad usage.
 ";
 
 /// How many differences are shown in full, and how many are made small to find
@@ -71,7 +73,7 @@ fn main() {
     println!("seed {}\n", options.seed);
 
     let mut all = Found::default();
-    if options.only.is_none() && !options.types_only {
+    if options.only.is_none() && !options.types_only && !options.starts_only {
         if !options.long_only {
             all.add(point_comparison::run(), 0);
         }
@@ -90,7 +92,7 @@ fn main() {
         "differences not listed",
         grouped(all.different)
     );
-    if all.different > 0 {
+    if all.different + all.missing > 0 {
         exit(1);
     }
 }
@@ -102,6 +104,8 @@ const ON_LONG: &str = "  on texts of 65,536 to 1,048,575 bytes";
 #[derive(Default)]
 struct Found {
     different: u64,
+    /// Numbers that no answer had.
+    missing: u64,
     /// Answers on texts of 65,536 to 1,048,575 bytes.
     on_long: u64,
 }
@@ -115,7 +119,8 @@ impl Found {
 
 impl AddAssign for Found {
     fn add_assign(&mut self, other: Found) {
-        self.add(other.different, other.on_long)
+        self.add(other.different, other.on_long);
+        self.missing += other.missing;
     }
 }
 
@@ -148,6 +153,8 @@ struct Options {
     long_only: bool,
     /// Whether only the sets of types are read.
     types_only: bool,
+    /// Whether only the sets of offsets other than 0 are compared.
+    starts_only: bool,
 }
 
 impl Options {
@@ -158,6 +165,7 @@ impl Options {
             edition: self.edition,
             long_only: self.long_only,
             types_only: self.types_only,
+            starts_only: self.starts_only,
         }
     }
 
@@ -178,6 +186,7 @@ fn options() -> Options {
         only: None,
         long_only: false,
         types_only: false,
+        starts_only: false,
     };
     let mut words = env::args().skip(1);
     while let Some(word) = words.next() {
@@ -196,6 +205,7 @@ fn options() -> Options {
             "--displays-only" => options.only = Some(ItemCall::Display),
             "--long-only" => options.long_only = true,
             "--types-only" => options.types_only = true,
+            "--starts-only" => options.starts_only = true,
             "--help" => {
                 print!("{HELP}");
                 exit(0);
@@ -205,6 +215,9 @@ fn options() -> Options {
     }
     if options.types_only && (options.long_only || options.only == Some(ItemCall::Display)) {
         bad_usage("--types-only reads, and reads no other sets");
+    }
+    if options.starts_only && (options.long_only || options.types_only) {
+        bad_usage("--starts-only excludes --long-only and --types-only");
     }
     options
 }

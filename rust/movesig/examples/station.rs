@@ -2,9 +2,13 @@
 //! behind each colon. What is refused is shown with its number and place. The file is read as one
 //! of edition 1.
 //!
+//! A read walks over the tokens from 0 to its offset, to see that one starts or ends there. Here the
+//! colon's end is known from such a walk, so the text is lent from there on, which is read from 0
+//! without one, and the colon's end is added to the places.
+//!
 //!     cargo run --example station -- ../../examples/coin.move
 
-use movesig::{display, read, tokens, tree_room, Edition, Kind, Refusal, TokenKind, LONGEST};
+use movesig::{display, read, tokens, tree_room, Edition, Kind, Refusal, Span, TokenKind, LONGEST};
 use std::{env, fs::File, io::Read, process::ExitCode};
 
 /// The edition of Move that the file is written in.
@@ -25,7 +29,7 @@ fn main() -> ExitCode {
     match show(&text) {
         Ok(()) => ExitCode::SUCCESS,
         Err(refusal) => {
-            show_refusal(refusal);
+            show_refusal(refusal, 0);
             ExitCode::FAILURE
         }
     }
@@ -39,26 +43,39 @@ fn show(text: &[u8]) -> Result<(), Refusal> {
         println!("token {} at {}", token.kind.number(), token.span);
         if token.kind == TokenKind::COLON {
             // One type that is refused does not end the walk.
-            show_type(text, token.span.end, &mut buffer).unwrap_or_else(show_refusal);
+            let base = token.span.end;
+            show_type(&text[base..], base, &mut buffer)
+                .unwrap_or_else(|refusal| show_refusal(refusal, base));
         }
     }
     Ok(())
 }
 
-fn show_type(text: &[u8], at: usize, buffer: &mut [u8]) -> Result<(), Refusal> {
-    let line = display(Kind::Type, EDITION, text, at, buffer)?
+/// The type at the start of the text, which begins at `base` of the file.
+fn show_type(text: &[u8], base: usize, buffer: &mut [u8]) -> Result<(), Refusal> {
+    let line = display(Kind::Type, EDITION, text, 0, buffer)?
         .escape_ascii()
         .to_string();
-    let item = read(Kind::Type, EDITION, text, at, buffer)?;
+    let item = read(Kind::Type, EDITION, text, 0, buffer)?;
     println!("type {line}");
     for (_, record) in item.tree.records() {
-        println!("  record {} at {}", record.kind().number(), record.span());
+        let span = raised(record.span(), base);
+        println!("  record {} at {span}", record.kind().number());
     }
     Ok(())
 }
 
-fn show_refusal(refusal: Refusal) {
-    let (place, second) = (refusal.place(), refusal.second());
+fn raised(span: Span, base: usize) -> Span {
+    Span {
+        start: base + span.start,
+        end: base + span.end,
+    }
+}
+
+/// A refusal of what was read from `base` on.
+fn show_refusal(refusal: Refusal, base: usize) {
+    let place = raised(refusal.place(), base);
+    let second = raised(refusal.second(), base);
     print!("refused {} at {place}", refusal.number());
     if second != place {
         print!(", second place {second}");

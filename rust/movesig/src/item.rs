@@ -84,9 +84,18 @@ pub struct Read<'t, 'b> {
 /// [`tree_room`](crate::tree_room) bytes has room for every tree of a text, one of
 /// [`type_room`](crate::type_room) for that of a type.
 ///
+/// The offset must be 0, the start or the end of a token in a walk from 0, the text's end, or the byte between the
+/// two of a `>>`; also the start of the token at which that walk is refused. Start and end of all that
+/// [`tokens`](crate::tokens) gives from 0 are allowed, and so is the start of [`Read::next`], from which to go on.
+///
+/// So a read takes the time of a walk over the tokens up to the offset, and then its own. Who reads often in a long
+/// text lends it from a token's end on, `&text[at..]` with offset 0, and adds `at` to the places: it is the same
+/// item. Its tree may be narrow where the whole text gives a wide one, which the views of [`Tree`] do not show.
+///
 /// # Errors
 ///
-/// Refused with 1, 2 and 4 to 14.
+/// Refused with 1, 2, 4 to 14 and 21. A refusal by the text, 5 to 9, may stand before the offset: then nothing
+/// can be read behind it.
 ///
 /// ```
 /// use movesig::{read, Edition, Kind, RecordKind};
@@ -100,6 +109,12 @@ pub struct Read<'t, 'b> {
 /// let parts: Vec<RecordKind> = coin.children().map(|child| child.kind()).collect();
 /// assert_eq!(parts, [RecordKind::OnePart, RecordKind::Type]);
 /// assert_eq!(item.next.kind, movesig::TokenKind::R_PAREN);
+///
+/// // Inside `Coin` nothing starts; from the colon's end on the item is the same, its places lower by 8.
+/// let refused = read(Kind::Type, Edition::One, text, 12, &mut buffer);
+/// assert_eq!(refused.map(|_| ()).unwrap_err().number(), 21);
+/// let item = read(Kind::Type, Edition::One, &text[8..], 0, &mut buffer)?;
+/// assert_eq!(item.tree.span(), movesig::Span { start: 1, end: 10 });
 /// # Ok::<(), movesig::Refusal>(())
 /// ```
 #[inline]

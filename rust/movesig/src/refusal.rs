@@ -77,6 +77,12 @@ pub enum Refusal {
     },
     /// 19: the number is no edition. No [`Edition`](crate::Edition) leads here.
     NoSuchEdition,
+    /// 21: no token starts or ends at the offset that a read or a display is asked from: it is inside a token,
+    /// a comment or blanks. See [`read`](crate::read).
+    NothingStarts {
+        /// The offset, without length.
+        at: Span,
+    },
     /// A number that this version of the crate does not know. The library that it was written
     /// for gives none.
     Other {
@@ -121,6 +127,7 @@ impl Refusal {
             14 => TooDeep { token: place },
             18 => LineUnprintable { byte: place },
             19 => NoSuchEdition,
+            21 => NothingStarts { at: place },
             number => Other {
                 number,
                 place,
@@ -149,16 +156,21 @@ impl Refusal {
             TooDeep { .. } => 14,
             LineUnprintable { .. } => 18,
             NoSuchEdition => 19,
+            NothingStarts { .. } => 21,
             Other { number, .. } => number,
         }
     }
 
-    /// The span that it is about: 0..0 where the caller caused it, by what was asked.
+    /// The span that it is about: 0..0 where the caller caused it, by what was asked, but for 21, whose place is
+    /// the offset.
     #[must_use]
     pub fn place(&self) -> Span {
         match *self {
             TextTooLong | StartPastEnd | NoSuchKind | NoRoom | NoSuchEdition => Span::default(),
-            NoToken { at } | CommaForItem { at } | ListNotClosed { at, .. } => at,
+            NoToken { at }
+            | CommaForItem { at }
+            | ListNotClosed { at, .. }
+            | NothingStarts { at } => at,
             CommentNotClosed { opener } => opener,
             HexStringNotClosed { rest } | ByteStringNotClosed { rest } => rest,
             StringNotAscii { byte } | LineUnprintable { byte } => byte,
@@ -179,12 +191,12 @@ impl Refusal {
         }
     }
 
-    /// Whether it was caused by what the caller asked (1 to 4 and 19) and not by the text.
+    /// Whether it was caused by what the caller asked (1 to 4, 19 and 21) and not by the text.
     #[must_use]
     pub fn is_by_caller(&self) -> bool {
         matches!(
             *self,
-            TextTooLong | StartPastEnd | NoSuchKind | NoRoom | NoSuchEdition
+            TextTooLong | StartPastEnd | NoSuchKind | NoRoom | NoSuchEdition | NothingStarts { .. }
         )
     }
 
@@ -208,6 +220,7 @@ impl Refusal {
             TooDeep { .. } => "more than 64 levels",
             LineUnprintable { .. } => "the line would hold a control byte",
             NoSuchEdition => "no such edition",
+            NothingStarts { .. } => "no token starts or ends here",
             Other { .. } => "a refusal that this version does not know",
         }
     }
@@ -218,7 +231,7 @@ impl Refusal {
 impl fmt::Display for Refusal {
     fn fmt(&self, to: &mut fmt::Formatter<'_>) -> fmt::Result {
         write!(to, "refused {}: {}", self.number(), self.reason())?;
-        if !self.is_by_caller() {
+        if !self.is_by_caller() || matches!(self, NothingStarts { .. }) {
             write!(to, ", at {}", self.place())?;
         }
         if self.second() != self.place() {

@@ -203,13 +203,17 @@ static uint64_t some_edition(void)
     }
 }
 
-/* Whether the first refusals come as they should: 1, 2, 3 and 19 by what was asked, and no other number then. */
+/* Whether the first refusals come as they should: 1, 2, 3 and 19 by what was asked, and no other number then; 21
+ * of a read or a display that is not asked from 0. */
 static int in_order(uint32_t number, int call, uint64_t kind, uint64_t edition, size_t len, size_t at)
 {
     uint32_t due = len > MOVESIG_LONGEST ? 1 : at > len ? 2 : call >= 2 && (kind < 1 || kind > 5) ? 3 : 0;
     if (due == 0 && edition != MOVESIG_EDITION_1 && edition != MOVESIG_EDITION_2)
         due = 19;
-    return due != 0 ? number == due : number == 0 || (number >= 4 && number <= 14) || (call > 2 && number == 18);
+    if (due != 0)
+        return number == due;
+    return number == 0 || (number >= 4 && number <= 14) || (call > 2 && number == 18) ||
+           (call >= 2 && at > 0 && number == MOVESIG_NOTHING_STARTS);
 }
 
 static void unchanged(const uint8_t *from, const uint8_t *to, uint8_t fill, const char *what)
@@ -270,6 +274,8 @@ static uint32_t ask(const struct question *asked, size_t room, uint64_t numbers_
     if (number != 0 && (answer[0] > answer[1] || answer[1] > len || answer[2] > answer[3] || answer[3] > len ||
                         answer[4] != 0 || answer[5] != 0))
         fail("a refusal's places");
+    if (number == MOVESIG_NOTHING_STARTS && (answer[0] != at || answer[1] != at || answer[2] != at || answer[3] != at))
+        fail("another place than the offset");
     unchanged(low, out, fill, "a byte before the buffer was written");
     unchanged(out + written, high, fill, "a byte behind the answer was written");
     unchanged(numbers.bytes, lent, fill, "a byte before the six numbers was written");
@@ -284,7 +290,7 @@ int main(int count, char **given)
 {
     static uint8_t made[MOVESIG_LONGEST + 2];
     struct region shorter = region_of(SHORTER), longest = region_of(MOVESIG_LONGEST + 2);
-    size_t accepted = 0, refused = 0, too_long = 0, wide = 0, round, rounds = ROUNDS;
+    size_t accepted = 0, refused = 0, too_long = 0, nowhere = 0, wide = 0, round, rounds = ROUNDS;
     buffers = region_of(MOST_ROOM);
     numbers = region_of(48);
     if (count > 1)
@@ -306,6 +312,7 @@ int main(int count, char **given)
             accepted += number == 0;
             refused += number != 0;
             too_long += number == MOVESIG_TEXT_TOO_LONG;
+            nowhere += number == MOVESIG_NOTHING_STARTS;
             if (number != 0 || asked.call < 2)
                 continue;
             wide += asked.call == 2 && (len > 65535 || answer[0] > 65535);
@@ -317,12 +324,12 @@ int main(int count, char **given)
         if (mprotect(texts.bytes, texts.length, PROT_READ | PROT_WRITE) != 0)
             fail("the text cannot be opened");
     }
-    printf("%lu accepted, %lu of them wide trees; %lu refused, %lu of them with 1; %lu null pointers\n",
+    printf("%lu accepted, %lu of them wide trees; %lu refused, %lu of them with 1 and %lu with 21; %lu null pointers\n",
            (unsigned long)accepted, (unsigned long)wide, (unsigned long)refused, (unsigned long)too_long,
-           (unsigned long)nulls);
+           (unsigned long)nowhere, (unsigned long)nulls);
     if (accepted < rounds || refused < rounds || nulls < rounds / 20)
         fail("too few of them");
-    if (rounds >= 10000 && (too_long == 0 || wide == 0))
-        fail("no text too long, or no wide tree");
+    if (rounds >= 10000 && (too_long == 0 || nowhere == 0 || wide == 0))
+        fail("no text too long, no offset at which nothing starts, or no wide tree");
     return 0;
 }

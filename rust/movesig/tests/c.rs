@@ -334,6 +334,7 @@ fn names() {
             1..=14 => assert_eq!(reason, reasons[number - 1]),
             18 => assert_eq!(reason, reasons[14]),
             19 => assert_eq!(reason, reasons[15]),
+            21 => assert_eq!(reason, reasons[16]),
             _ => assert_eq!(reason, "unknown"),
         }
     }

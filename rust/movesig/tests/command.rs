@@ -271,24 +271,83 @@ fn notes() {
         )
     );
     assert_eq!(noted(b"& mut", "line type f.move"), note("& mut\n", ""));
-    assert_eq!(
-        noted(b"vector<u8>", "line type f.move 3"),
-        note("tor<u8>\n", "the offset is inside the token `vector`\n")
-    );
+    // beside a refusal
+    let note = |words: &str| (1, String::new(), words.to_string());
     let comment = "the offset is inside a comment\n";
     let text = b"/* /* a */ b */ c // d";
-    assert_eq!(noted(text, "line type f.move 10"), note("b\n", comment));
-    assert_eq!(noted(text, "line type f.move 15"), note("c\n", ""));
-    assert_eq!(noted(text, "line name f.move 21"), note("d\n", comment));
-    assert_eq!(
-        noted(b"&mut u8", "line type f.move 4"),
-        note("u8\n", "the offset is inside the token `&mut `\n")
-    );
-    // a refusal too
-    let (status, _, words) = noted(text, "line type f.move 1");
-    assert_eq!((status, words.as_str()), (1, comment));
+    for (text, place, words) in [
+        (
+            &b"vector<u8>"[..],
+            3,
+            "the offset is inside the token `vector`\n",
+        ),
+        (text, 1, comment),
+        (text, 10, comment),
+        (text, 15, ""),
+        (text, 21, comment),
+        (b"/* a */ $", 3, comment),
+        (b"/* a */ /* /*", 3, comment),
+        (b"/* a */ /* /*", 7, ""),
+        (b"/* a */ /* /*", 9, ""),
+        (b"&mut u8", 4, "the offset is inside the token `&mut `\n"),
+        (b"a<b>>", 4, "the offset is inside the token `>>`\n"),
+    ] {
+        let words_of = format!("line type f.move {place}");
+        assert_eq!(noted(text, &words_of), note(words), "at {place}");
+    }
     let (_, _, errors) = movesig(b"a<b>,", "line type f.move");
     assert_eq!(errors, "followed by Comma 4..5  ,\n");
+}
+
+/// An offset at which nothing starts: where it is, and where reading can begin near it.
+#[test]
+fn nothing_starts() {
+    assert_eq!(
+        refused(b"vector<u8>", "read type f.move 3"),
+        "f.move:1:4 (byte 3): refused 21: no token starts or ends here\n\
+         1 | vector<u8>\n  \
+           |    ^ reading can begin at 0 or at 6\n\
+         f.move:1:4 (byte 3): note: the offset is inside the token `vector`\n"
+    );
+    for (text, place, nearest) in [
+        (&b"a  b"[..], 2, "at 1 or at 3"),
+        (b"a  ", 2, "at 1 or at 3"),
+        (b"  a", 1, "at 0 or at 2"),
+        (b"/* a */ b", 3, "at 0 or at 8"),
+        (b"/* a */ b", 7, "at 0 or at 8"),
+        (b"a >= b", 3, "at 2 or at 4"),
+        (b"a  $b", 2, "at 1 or at 3"),
+        (b"a /* */\r\n\tb\"\xe9\"", 3, "at 1 or at 10"),
+        (b"a  /* /*", 2, "at 1"),
+        (b"a //\n /* /*", 6, "at 1"),
+        (b" x\"0", 1, ""),
+    ] {
+        let (_, _, errors) = movesig(text, &format!("line type f.move {place}"));
+        let told = errors.split_once("^ reading can begin ");
+        let told = told.map_or("", |(_, words)| words.lines().next().unwrap_or(""));
+        assert_eq!(told, nearest, "{} at {place}", text.escape_ascii());
+    }
+    // in the edition that is asked for
+    let (_, _, errors) = movesig(b"1_0", "--edition 2 line value f.move 1");
+    assert!(
+        errors.contains("reading can begin at 0 or at 3"),
+        "{errors}"
+    );
+    // what stands before the place is refused
+    let (_, _, errors) = movesig(b"a  $b", "line type f.move 4");
+    assert!(
+        errors.starts_with("f.move:1:4 (byte 3): refused 5: "),
+        "{errors}"
+    );
+    assert_eq!(
+        movesig(b"abc", "--json line type f.move 1").1,
+        concat!(
+            r#"{"file":"f.move","item":"type","at":1,"refused":21,"reason":"no token starts or ends here","#,
+            r#""start":1,"end":1,"line":1,"column":2,"nearest":[0,3],"#,
+            r#""notes":[{"at":1,"note":"the offset is inside the token `abc`"}]}"#,
+            "\n"
+        )
+    );
 }
 
 #[test]
@@ -438,7 +497,7 @@ fn hostile_bytes() {
     // from the middle of a character
     assert_eq!(
         refused("한".as_bytes(), "read type f.move 1"),
-        "f.move:1:1 (byte 1): refused 5: no token starts with this byte\n1 | 한\n  | ^^ byte 0x95\n"
+        "f.move:1:1 (byte 0): refused 5: no token starts with this byte\n1 | 한\n  | ^^ byte 0xed\n"
     );
 }
 
@@ -671,8 +730,14 @@ fn for_machines() {
     // the help names each key
     let (_, help, _) = run(Command::new(MOVESIG).arg("help"), b"");
     for words in ["tokens", "comments", "read type", "line type"] {
-        for text in [&b"/// a\n(u8, b)"[..], b"(u8", b"$"] {
-            let (_, output, _) = movesig(text, &format!("--json {words} f.move"));
+        for (text, place) in [
+            (&b"/// a\n(u8, b)"[..], ""),
+            (b"(u8", ""),
+            (b"$", ""),
+            (b"abc", "1"),
+        ] {
+            let place = if words.contains(' ') { place } else { "" };
+            let (_, output, _) = movesig(text, &format!("--json {words} f.move {place}"));
             let keys = output
                 .split("\":")
                 .filter_map(|part| part.rsplit('"').next());

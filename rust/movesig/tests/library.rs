@@ -110,6 +110,57 @@ fn every_refusal() {
     assert_eq!(refused(Kind::Type, deep.as_bytes()), once(14, 64, 66));
 }
 
+/// A read and a display are refused at an offset at which nothing starts, and where the text before it is; what
+/// is lent from a token's end on is the same item.
+#[test]
+fn offsets_of_items() {
+    let mut buffer = [7; 200];
+    let at = span(1, 1);
+    let nothing = Refusal::NothingStarts { at };
+    assert_eq!((nothing.number(), nothing.is_by_caller()), (21, true));
+    assert_eq!((nothing.place(), nothing.second()), (at, at));
+    assert_eq!(
+        nothing.to_string(),
+        "refused 21: no token starts or ends here, at 1..1"
+    );
+    for (edition, text, at, number, place) in [
+        (Edition::One, &b"abc"[..], 1, 21, span(1, 1)),
+        (Edition::One, b"/* a */ b", 3, 21, span(3, 3)),
+        (Edition::One, b"/* a */ b", 7, 21, span(7, 7)),
+        (Edition::One, b"a  b", 2, 21, span(2, 2)),
+        (Edition::One, b">=a", 1, 21, span(1, 1)),
+        (Edition::One, b"a  $b", 4, 5, span(3, 3)),
+        (Edition::One, b"a /* /*", 3, 6, span(5, 7)),
+        (Edition::One, b"a x\"0 b", 6, 7, span(2, 7)),
+        (Edition::One, b"b\"\xe9\" a", 3, 9, span(2, 3)),
+        (Edition::Two, b"1_0", 1, 21, span(1, 1)),
+    ] {
+        let refused = read(Kind::Type, edition, text, at, &mut buffer).expect_err("refused");
+        assert_eq!((refused.number(), refused.place()), (number, place));
+        let line = display_to_string(Kind::Type, edition, text, at);
+        assert_eq!(line, Err(refused));
+        assert!(buffer.iter().all(|&byte| byte == 7));
+    }
+    // who goes on from token to token never meets 21, and lends the same item from there on
+    let text = b"fun f<T>(x: &mut Coin< T >>, /** c */ y: (u8, >> T))\r\n{ }";
+    for token in tokens(Edition::One, text, 0) {
+        let Span { start, end } = token.expect("no faults").span;
+        for at in [start, end] {
+            let whole = display_to_string(Kind::Type, Edition::One, text, at);
+            let part = display_to_string(Kind::Type, Edition::One, &text[at..], 0);
+            match (whole, part) {
+                (Ok(whole), Ok(part)) => assert_eq!(whole, part),
+                (Err(whole), Err(part)) => {
+                    assert!(!matches!(whole, Refusal::NothingStarts { .. }));
+                    assert_eq!(whole.number(), part.number());
+                    assert_eq!(whole.place().start, at + part.place().start);
+                }
+                (whole, part) => panic!("{whole:?} {part:?} at {at}"),
+            }
+        }
+    }
+}
+
 /// A string that a line cannot hold is refused a line, with any room, and can be read.
 #[test]
 fn unprintable_lines() {
@@ -655,7 +706,7 @@ fn names_of_the_header() {
         .collect();
     let items: Vec<_> = names.into_iter().zip(numbers).collect();
     assert_eq!(section("movesig_item"), items);
-    assert_eq!(section("movesig_result").len(), 17);
+    assert_eq!(section("movesig_result").len(), 18);
     let editions = [("edition1".to_string(), 1), ("edition2".to_string(), 2)];
     assert_eq!(section("movesig_edition"), editions);
     let numbers: Vec<_> = Edition::ALL.map(|edition| edition.number() as usize).into();

@@ -1,6 +1,6 @@
 //! The read call and the display call. The answers are the Rust's, with the line that
-//! the specification gives to its tree; refusals 2, 3, 4, 14 and 18, which it does not have, are
-//! the specification's. Other cases that the Rust cannot answer are left out.
+//! the specification gives to its tree; refusals 2, 3, 4, 14, 18 and 21, which it does not have, and those
+//! of the walk from 0 to an offset, are the specification's. Other cases that the Rust cannot answer are left out.
 
 use crate::hex;
 use oracle::{
@@ -25,6 +25,7 @@ pub fn lines(call: ItemCall) -> String {
     each_room(&mut sample);
     wrong_calls(&mut sample);
     offsets(&mut sample);
+    starts(&mut sample);
     levels(&mut sample);
     random_items(&mut sample);
     strings(&mut sample);
@@ -149,6 +150,31 @@ fn offsets(sample: &mut Sample) {
     ] {
         for at in 0..=text.len() {
             for kind in ItemKind::ALL {
+                sample.ask(kind as u64, text.as_bytes(), at);
+            }
+        }
+    }
+}
+
+/// Where reading may begin, as the request has it: values and types at each offset.
+fn starts(sample: &mut Sample) {
+    for text in [
+        "a  b",
+        "a  ",
+        ">>a",
+        ">>>a",
+        ">=a",
+        "&mut a",
+        "a  $b",
+        " /*",
+        "a /* /*",
+        "a<b>>==c",
+        "// a\r\nb\r",
+        " x\"0\nb",
+        "1_0",
+    ] {
+        for at in 0..=text.len() {
+            for kind in [ItemKind::Value, ItemKind::Type] {
                 sample.ask(kind as u64, text.as_bytes(), at);
             }
         }

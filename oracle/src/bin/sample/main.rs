@@ -100,6 +100,14 @@ const EDITIONS: &[&str] = &[
     "d 2 3 0 8 0 8 0 0 0 0 0 2620315f303a3a61 2620315f303a3a61",
     "d 2 3 0 9 0 9 0 0 0 0 0 613c315f303a3a623e 613c315f303a3a623e",
     "d 2 4 0 15 0 15 0 0 0 0 0 28315f303a3a537b667d29 28315f303a3a53207b663a20667d29",
+    // 1_0 at 1: a type in edition 1, inside a number in edition 2; behind a number of edition 2
+    "r 1 3 1 16 0 16 0 3 3 0 0 315f30 10000a00010003000800030001000300",
+    "r 2 3 1 16 21 1 1 1 1 0 0 315f30 -",
+    "d 2 3 1 16 21 1 1 1 1 0 0 315f30 -",
+    "d 2 3 3 16 0 1 0 0 0 0 0 315f302061 61",
+    // b"\xe9" a at 3, and inside a token with a number that is no edition
+    "r 1 3 3 16 9 2 3 2 3 0 0 6222e9222061 -",
+    "r 3 3 1 16 19 0 0 0 0 0 0 616263 -",
     // editions that are none
     "t 0 0 19 0 0 0 0 0 0 24",
     "t 3 0 19 0 0 0 0 0 0 24",

@@ -275,7 +275,7 @@ fn tree_is_well(tree: &[u8], text: &[u8]) -> bool {
 fn with_a_buffer(seed: u64, ask: fn(u64, u64, &[u8], usize, &mut [u8]) -> Answer, tree: bool) {
     let mut random = Random(seed);
     let mut whole = vec![0; MOST_ROOM + 2 * BESIDE];
-    let (mut too_long, mut wide, mut unprintable) = (0, 0, 0);
+    let (mut too_long, mut wide, mut unprintable, mut nowhere) = (0, 0, 0, 0);
     for _ in 0..ROUNDS {
         let text = text_of(&mut random);
         let at = offset_of(&mut random, text.len());
@@ -325,10 +325,15 @@ fn with_a_buffer(seed: u64, ask: fn(u64, u64, &[u8], usize, &mut [u8]) -> Answer
             assert_eq!(less, (4, [0; 6]));
         } else {
             let mut allowed: Vec<u32> = (4..=14).collect();
+            // at an offset, which is its place twice
+            if at > 0 && values == [at, at, at, at, 0, 0] {
+                allowed.push(21);
+            }
             if !tree {
                 allowed.push(18);
             }
             refused_well(number, values, &text, &allowed);
+            nowhere += usize::from(number == 21);
             if number == 18 {
                 let [start, end, ..] = values;
                 assert!(end == start + 1 && (text[start] < 32 || text[start] == 127));
@@ -336,7 +341,7 @@ fn with_a_buffer(seed: u64, ask: fn(u64, u64, &[u8], usize, &mut [u8]) -> Answer
             }
         }
     }
-    assert!(too_long > 0);
+    assert!(too_long > 0 && nowhere > 0);
     assert_eq!(wide > 0, tree, "{wide} wide trees");
     assert_eq!(
         unprintable > 0,

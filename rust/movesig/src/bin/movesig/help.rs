@@ -71,17 +71,22 @@ A refusal is shown on standard error as
 
   FILE:LINE:COLUMN (byte OFFSET): refused NUMBER: why
 
-and, where the text is at fault, the source line with ^ under the place and -
-under the second place, where there is another. Where a token is at fault it
-is told with what could have stood there. Long lines are cut around the place,
-with ... ; the environment variable COLUMNS, where it is set, says how wide the
-screen is.
+and, where the text or the PLACE is at fault, the source line with ^ under the
+place and - under the second place, where there is another. Where a token is at
+fault it is told with what could have stood there. Long lines are cut around
+the place, with ... ; the environment variable COLUMNS, where it is set, says
+how wide the screen is.
 
 A line holds bytes from 32 to 126 only. A string with another byte in it has no
 line (refusal 18); read shows its tree.
 
-A place inside a comment or a token, and &mut without a space behind it, are
-read as they stand, and a note on standard error says so.
+An item is read only from a PLACE at which a token of the file starts or ends,
+or from byte 0. Any other is refused (refusal 21): the nearest such bytes
+before it and behind it are told, and a note says whether it is inside a token
+or a comment.
+
+&mut without a space behind it is read as it stands, and a note on standard
+error says so.
 ",
     ),
     (
@@ -114,11 +119,11 @@ bytes that are not UTF-8 become U+FFFD, and the spans tell which they are.
   next      token, number, start, end, text
   notes     a list of at and note
   refusal   file, item and at (of read and line), refused (its number), reason;
-            by the text: start, end, line, column, second (start, end, line,
-            column; where it is another place), found (as next) and due (a list
-            of words) where a token is at fault, notes (of read and line); else
-            limit, of the text or of the line, and, where it is known, the
-            text's length
+            by the text or its place: start, end, line, column, second (start,
+            end, line, column; where it is another place), found (as next) and
+            due (a list of words) where a token is at fault, nearest (a list of
+            bytes; of 21), notes (of read and line); else limit, of the text or
+            of the line, and, where it is known, the text's length
   failure   file, error: it cannot be read, or has no such place
 ",
     ),

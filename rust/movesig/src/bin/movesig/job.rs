@@ -228,10 +228,7 @@ impl Job {
 impl Beside {
     fn new(text: &[u8], item: Item, next: Following) -> Beside {
         let end = next.span.start;
-        let mut notes: Vec<_> = notes::offset(item.edition, text, item.at)
-            .into_iter()
-            .collect();
-        notes.extend(notes::references(item.edition, text, item.at, end));
+        let notes = notes::references(item.edition, text, item.at, end);
         Beside { next, notes }
     }
 }

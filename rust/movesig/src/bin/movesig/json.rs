@@ -4,6 +4,7 @@ use crate::{
     due::{self, Item},
     notes::{self, Note},
     places::Places,
+    starts,
     text::Text,
 };
 use movesig::{Comment, Following, Refusal, Span, Token, Tree, LONGEST, LONGEST_LINE};
@@ -189,7 +190,7 @@ pub fn refusal(file: &[u8], text: &Text, item: Option<Item>, refusal: &Refusal) 
     if let Refusal::NoRoom = refusal {
         return object.number("limit", LONGEST_LINE).line();
     }
-    if refusal.is_by_caller() {
+    if refusal.is_by_caller() && !matches!(refusal, Refusal::NothingStarts { .. }) {
         if let Some(length) = length {
             object = object.raw("length", &length.to_string());
         }
@@ -205,6 +206,10 @@ pub fn refusal(file: &[u8], text: &Text, item: Option<Item>, refusal: &Refusal) 
     if let Some(found) = found {
         let Token { kind, span, .. } = found;
         object = object.raw("found", &following(Following { kind, span }, text));
+    }
+    if let (Some(item), Refusal::NothingStarts { at }) = (item, refusal) {
+        let nearest = starts::nearest(item.edition, text, at.start);
+        object = object.list("nearest", nearest.iter().map(usize::to_string));
     }
     if let Some(item) = item {
         if found.is_some() {

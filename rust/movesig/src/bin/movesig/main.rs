@@ -11,6 +11,7 @@ mod notes;
 mod paint;
 mod places;
 mod report;
+mod starts;
 mod text;
 mod visible;
 mod words;

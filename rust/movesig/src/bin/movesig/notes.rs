@@ -1,7 +1,10 @@
-//! What looks right and is not: an offset inside a token or a comment, and `&mut` that is read as `&`
-//! and a type named `mut`. And what to do where an item has no line.
+//! What is noted beside an answer: `&mut` that is read as `&` and a type named `mut`; that an offset at which
+//! nothing starts is inside a token or a comment; and what to do where an item has no line.
 
-use crate::visible;
+use crate::{
+    starts::{self, Step},
+    visible,
+};
 use movesig::{tokens, Edition, Refusal, Span, TokenKind};
 
 /// A note and the byte that it is about.
@@ -24,66 +27,32 @@ pub fn refused(edition: Edition, text: &[u8], at: usize, refusal: &Refusal) -> V
 
 /// Where the offset is inside a token or a comment of the text that is read from its start. None where
 /// the text before it is refused.
-pub fn offset(edition: Edition, text: &[u8], at: usize) -> Option<Note> {
-    let mut gap = 0;
-    for token in tokens(edition, text, 0) {
-        let Span { start, end } = token.ok()?.span;
-        if at <= start {
-            return comment(text, gap, at);
-        }
-        if at < end {
+fn offset(edition: Edition, text: &[u8], at: usize) -> Option<Note> {
+    let Step { from, met } = starts::step_to(edition, text, at)?;
+    match met {
+        Ok(token) if token.span.start < at && at < token.span.end => {
+            let Span { start, end } = token.span;
             let token = visible::cut(&text[start..end], 32);
             let words = format!("the offset is inside the token `{token}`");
-            return Some(Note { at, words });
+            Some(Note { at, words })
         }
-        gap = end;
+        Err(refusal) if refusal.is_by_caller() => None,
+        _ => comment(text, from, at),
     }
-    None
 }
 
-/// Whether the offset is inside a comment of the gap that begins at `gap`, all of whose comments are
-/// closed.
-fn comment(text: &[u8], mut gap: usize, at: usize) -> Option<Note> {
-    while gap < at {
-        let end = match &text[gap..] {
-            [b'/', b'/', ..] => line_comment(text, gap),
-            [b'/', b'*', ..] => block_comment(text, gap),
-            _ => gap + 1,
-        };
-        if at < end {
+/// Whether the offset is inside a closed comment of the gap that begins at `part`.
+fn comment(text: &[u8], mut part: usize, at: usize) -> Option<Note> {
+    while part < at {
+        let end = starts::part_end(text, part)?;
+        let is_comment = text[part] == b'/';
+        if at < end && is_comment {
             let words = "the offset is inside a comment".to_string();
             return Some(Note { at, words });
         }
-        gap = end;
+        part = end;
     }
     None
-}
-
-/// Behind its last byte: its line feed does not belong to it.
-fn line_comment(text: &[u8], start: usize) -> usize {
-    let line_feed = text[start..].iter().position(|&byte| byte == b'\n');
-    line_feed.map_or(text.len(), |length| start + length)
-}
-
-fn block_comment(text: &[u8], start: usize) -> usize {
-    let (mut at, mut depth) = (start, 0);
-    while let Some(two) = text.get(at..at + 2) {
-        at += match two {
-            b"/*" => {
-                depth += 1;
-                2
-            }
-            b"*/" => {
-                depth -= 1;
-                2
-            }
-            _ => 1,
-        };
-        if depth == 0 {
-            return at;
-        }
-    }
-    text.len()
 }
 
 /// Each `&mut` between the two bytes that has no space behind it.

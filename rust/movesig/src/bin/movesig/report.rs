@@ -4,6 +4,7 @@ use crate::{
     due::{self, Item},
     paint::Paint,
     places::Places,
+    starts,
     text::Text,
     visible::{self, Piece},
 };
@@ -28,11 +29,12 @@ const CUT: &str = "...";
 
 impl Report<'_> {
     /// `FILE:LINE:COLUMN (byte OFFSET): refused NUMBER: reason`, the line and the marks; one line
-    /// alone where the text is not at fault.
+    /// alone where neither the text nor a place of it is at fault.
     pub fn of(&self, refusal: &Refusal) -> String {
         let (number, reason) = (refusal.number(), refusal.reason());
         let refused = self.paint.red(&format!("refused {number}"));
-        if refusal.is_by_caller() {
+        let has_place = matches!(refusal, Refusal::NothingStarts { .. });
+        if refusal.is_by_caller() && !has_place {
             let name = self.paint.bold(&self.name);
             let words = self.words_for_caller(refusal);
             return format!("{name}: {refused}: {words}\n");
@@ -78,7 +80,7 @@ impl Report<'_> {
             &self.text.bytes,
             refusal.place(),
             '^',
-            label(&self.text.bytes, refusal, due),
+            label(&self.text.bytes, self.item, refusal, due),
         )];
         if refusal.second() != refusal.place() {
             places.push(Mark::new(
@@ -180,9 +182,12 @@ impl Report<'_> {
 }
 
 /// What stands beside the mark of the place.
-fn label(text: &[u8], refusal: &Refusal, due: &str) -> String {
+fn label(text: &[u8], item: Option<Item>, refusal: &Refusal, due: &str) -> String {
     let start = refusal.place().start;
     match refusal {
+        Refusal::NothingStarts { .. } => {
+            item.map_or_else(String::new, |item| starts::words(item.edition, text, start))
+        }
         Refusal::NoToken { .. } if text[start..].starts_with(b"\xef\xbb\xbf") => {
             "a byte order mark: Move has none".to_string()
         }
