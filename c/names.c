@@ -46,6 +46,8 @@ const char *movesig_reason(uint32_t refusal)
         return "the line would hold a control byte";
     case MOVESIG_NO_SUCH_EDITION:
         return "no such edition";
+    case MOVESIG_NOT_A_TOKEN_START:
+        return "no token of edition 1 starts at the note, or it is past the 256th";
     case MOVESIG_NOTHING_STARTS:
         return "no token starts or ends here";
     default:

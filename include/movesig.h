@@ -1,13 +1,15 @@
 /* The calls of the Move signature reader, for C and C++. See README.md.
  *
- * Four calls read a text of Move source: the next token, the next doc comment, an item as a stored
- * tree, an item as one line. They are proved: each answers every text, every offset and every buffer
+ * Five calls read a text of Move source: the next token, the next doc comment, an item as a stored
+ * tree, an item as one line; and movesig_carry, which moves notes on a text's tokens from edition 1 to
+ * edition 2. They are proved: each answers every text, every offset, every buffer and every list of notes
  * as the definitions in crates/ say, stays inside the buffers it is lent, and returns.
  *
  * WHAT EVERY CALL DOES
  *
- * It takes a text of `len` bytes at `text`, any bytes at all, an offset `at` from which it reads, and the
- * edition of Move that the text is written in (enum movesig_edition).
+ * It takes a text of `len` bytes at `text`, any bytes at all. It takes an offset `at` from which it reads, and
+ * it takes the edition of Move that the text is written in (enum movesig_edition): all calls do but
+ * movesig_carry, which reads the whole text and names both editions itself.
  * It returns 0 where it accepts, else the number of a refusal, and writes all six numbers of `answer`. What
  * they mean is told by the result alone, so look at it first: the numbers of a refused token call can be
  * those of an accepted EOF at 0. Compilers warn where a result is dropped (MOVESIG_NODISCARD).
@@ -17,10 +19,10 @@
  * WHAT THE CALLER SEES TO
  *
  * - `text` points to `len` bytes that nobody writes during the call; `answer` to six numbers, aligned
- *   as uint64_t is; `out` and `line` to `room` bytes.
- * - `text`, `answer` and the buffer do not overlap.
+ *   as uint64_t is; `out` and `line` to `room` bytes; `notes` to `count` numbers, aligned as size_t is.
+ * - `text`, `answer` and the buffer, or the notes, do not overlap.
  * - `answer` is not null. `text` may be null, or any other pointer, where `len` is 0; `out` and `line` where
- *   `room` is 0.
+ *   `room` is 0; `notes` where `count` is 0.
  * - The edition is the one that the text is written in. A wrong one is not noticed: most texts are read alike
  *   in both, and another answer need be no refusal. The value `65_535u16` read in edition 1 is `65`, followed by
  *   the name `_535u16`.
@@ -71,6 +73,8 @@
  * A refused call answers { start, end, second start, second end, 0, 0 }: the span it is about, and a
  * second span, which is the first one again unless the list names another. It leaves the buffer that it
  * was lent as it was, every byte. (s, s) stands for a span without length at the byte or token meant.
+ * Of 20 alone the place is no place of the text: its i is the index of a note in the list that was lent,
+ * counted from 0. Nothing of the text is to be pointed at for it.
  *
  * number  when                                                  span
  *   By what the caller asked:
@@ -80,6 +84,8 @@
  *  19     `edition` is neither 1 nor 2                          (0, 0)
  *  21     no token starts or ends at `at` (movesig_read and
  *         movesig_display alone)                                (at, at)
+ *  20     a note starts no token of edition 1, or the list has
+ *         more than 256 (movesig_carry alone)                   (i, i), the lowest such index
  *   4     the item is accepted, but its tree (movesig_read) or
  *         its line (movesig_display) is longer than `room`, or
  *         its line longer than 65,535 bytes                     (0, 0)
@@ -102,7 +108,8 @@
  *  18     a string holds a byte below 32 or the byte 127        the first such byte
  *
  * They are tried in this order: 1, 2, 3, 19; then, for a read and a display whose `at` is not 0, the walk to
- * it: its 5 to 9, or 21; then 5 to 14 of what is read, whichever is met first; then 18; 4 last.
+ * it: its 5 to 9, or 21; then 5 to 14 of what is read, whichever is met first; then 18; 4 last. movesig_carry
+ * tries 1, then 5 to 9 of the whole text in edition 1, then in edition 2, and 20 last.
  */
 #ifndef MOVESIG_H
 #define MOVESIG_H
@@ -140,6 +147,9 @@ extern "C" {
 /* The most levels of an item. */
 #define MOVESIG_LEVELS 64
 
+/* The most notes that movesig_carry moves. */
+#define MOVESIG_MOST_NOTES 256
+
 /* Bytes of stack that are enough for any call. The most that was measured, over nests of every construct
  * and 1,000 at random, in texts of up to MOVESIG_LONGEST bytes, is 47,056; this is at least a fortieth more.
  * Measured, not proved: a test holds it to what is measured, and makes the calls in threads of this stack
@@ -151,13 +161,13 @@ extern "C" {
  * A station can compare it when it is compiled: the calls take an edition from MINOR 5 on, trees may be wide
  * from MINOR 6 on, and a read or a display may be refused with 21 from MINOR 8 on. */
 #define MOVESIG_VERSION_MAJOR 0
-#define MOVESIG_VERSION_MINOR 9
+#define MOVESIG_VERSION_MINOR 10
 #define MOVESIG_VERSION (MOVESIG_VERSION_MAJOR * 65536 + MOVESIG_VERSION_MINOR)
 
-/* The library has its version in the name of a symbol too, movesig_version_0_9, whose value is
+/* The library has its version in the name of a symbol too, movesig_version_0_10, whose value is
  * MOVESIG_VERSION. What includes this header and is compiled by gcc or clang refers to that symbol: with a
  * library of another version, whose calls may take other arguments, it is not linked (`undefined reference to
- * movesig_version_0_9`), and with a shared one not started (`undefined symbol`). A source file that wants
+ * movesig_version_0_10`), and with a shared one not started (`undefined symbol`). A source file that wants
  * numbers and names from here and is linked without the library defines MOVESIG_NO_VERSION_CHECK before. */
 #define MOVESIG_JOINED(word, major, minor) word##major##_##minor
 #define MOVESIG_VERSIONED(word, major, minor) MOVESIG_JOINED(word, major, minor)
@@ -207,6 +217,7 @@ enum movesig_result {
     MOVESIG_TOO_DEEP = 14,
     MOVESIG_LINE_UNPRINTABLE = 18,
     MOVESIG_NO_SUCH_EDITION = 19,
+    MOVESIG_NOT_A_TOKEN_START = 20,
     MOVESIG_NOTHING_STARTS = 21
 };
 
@@ -289,6 +300,26 @@ uint32_t movesig_read(uint64_t kind, uint64_t edition, const uint8_t *text, size
 MOVESIG_NODISCARD
 uint32_t movesig_display(uint64_t kind, uint64_t edition, const uint8_t *text, size_t len, size_t at, uint8_t *line,
                          size_t room, uint64_t answer[6]);
+
+/* Carries notes from edition 1 to edition 2. A note is an offset at which a token of edition 1 starts, EOF
+ * counted, whose start is `len`. Each of the `count` notes at `notes` becomes the start of the token of edition
+ * 2 that covers it, and `len` stays `len`. All are moved, or none is: a refused call leaves the list as it was,
+ * every entry. Accepted: { count, 0, 0, 0, 0, 0 }.
+ *
+ * It takes no edition, since it names both itself, and no offset: the whole text is read, in edition 1 and in
+ * edition 2. `notes` may be null where `count` is 0, and overlaps neither the text nor the answer. Refusals 1,
+ * 5 to 9 and 20: the text's come first, so that a text that edition 1 refuses is refused whatever the notes
+ * are, and 20 last, for the lowest index whose note starts no token of edition 1. An index of 256 or more
+ * (MOVESIG_MOST_NOTES) is such a one, whatever stands there. Edition 2 reads every text that edition 1 reads
+ * to its end, so the refusals of the text are those of edition 1.
+ *
+ * Each note keeps its place in the list; the order is free, and notes may be equal. Of `1_000 a` the notes 1,
+ * 0, 7, 6 become 0, 0, 7, 6: what was `1` and `_000` is one token, on which two notes meet, and both are kept.
+ * No note moves forward, and of two notes none overtakes the other.
+ *
+ * What it costs: some four walks over the text's tokens, whatever the notes are; no buffer but the list. */
+MOVESIG_NODISCARD
+uint32_t movesig_carry(const uint8_t *text, size_t len, size_t *notes, size_t count, uint64_t answer[6]);
 
 /* The kinds of records of a tree. Behind each its children in order; `leaf` has none, and its spelling is
  * the bytes of its span. `first` is an address or a name; a chain is one of 3 to 5; a type one of 10 to

@@ -3,6 +3,7 @@
 //! those in edition 2 to those in edition 1.
 
 use crate::{
+    carrying,
     longer::{self, Unit},
     over,
     runs::{each_length, READ},
@@ -51,6 +52,11 @@ pub fn measure_longer() -> bool {
 /// The same for reads at offsets other than 0.
 pub fn measure_starts() -> bool {
     there_is_valgrind() && starts::measure_all(Unit::Instructions)
+}
+
+/// The same for notes that are carried, which are held to walks.
+pub fn measure_carrying() -> bool {
+    there_is_valgrind() && carrying::measure_all(Unit::Instructions)
 }
 
 /// The counts in edition 1: those of bench/COUNTS, by the name of the row, and the lines of those

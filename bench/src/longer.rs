@@ -124,20 +124,20 @@ fn grows(title: &str, name: &str, figures: &[Figure]) -> bool {
 
 /// What was measured, and how a table shows it.
 #[derive(Clone)]
-struct Figure {
-    number: f64,
-    cell: String,
+pub struct Figure {
+    pub number: f64,
+    pub cell: String,
 }
 
 impl Figure {
-    fn time(time: Time) -> Figure {
+    pub fn time(time: Time) -> Figure {
         Figure {
             number: time.fastest,
             cell: time.cell(),
         }
     }
 
-    fn count(count: u64, bytes: usize) -> Figure {
+    pub fn count(count: u64, bytes: usize) -> Figure {
         let number = count as f64 / bytes as f64;
         Figure {
             number,

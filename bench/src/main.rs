@@ -1,6 +1,7 @@
 //! Measures the port against the Rust: a walk over the tokens of a text, reads and
 //! displays, in one process, on the same texts.
 
+mod carrying;
 mod counts;
 mod displays;
 mod items;
@@ -30,10 +31,12 @@ small lexer in C.
 
 usage: bench [--check] [--displays-only | --counts-only | --longer-only | --starts-only]
              [--record]
+       bench [--check] --carry-only | --carry-counts
        bench --walk ROW | --short-walks ROW [--edition N]
        bench --longest-walk ROW | --parts-walk ROW [--edition N]
        bench --read ROW | --wide-read ROW | --display ROW [--edition N]
        bench --read-at ROW | --walk-to ROW
+       bench --carry 'ROW: LIST'
        bench --help
 
   --check          exit status 1 where the port is slower than the Rust on some text but
@@ -44,6 +47,8 @@ usage: bench [--check] [--displays-only | --counts-only | --longer-only | --star
   --counts-only    no times: the instructions a token and an item
   --longer-only    only what is measured at 1 MB and in the wide form, in both
   --starts-only    only reads at offsets other than 0, in both
+  --carry-only     only notes that are carried, in time and in instructions
+  --carry-counts   the same in instructions alone
   --record         the counts become those that later ones are held to (bench/COUNTS)
   --walk ROW       walks once over the text of 60 KB of a row, by the port in the edition
                    (1 if left out) and, in edition 1, by the lexer in C
@@ -55,6 +60,7 @@ usage: bench [--check] [--displays-only | --counts-only | --longer-only | --star
   --display ROW    displays each item of a row once
   --read-at ROW    reads the type behind the source of a row, at its offset
   --walk-to ROW    walks over that source, and reads the type from there on
+  --carry ROW      carries the notes of a list over the longest text of a row once
   --help           these words
 
 Prints a table in nanoseconds a byte: the median of the runs and, in brackets, the
@@ -78,6 +84,12 @@ than 1.5 times as much as one of the same item that writes a narrow one; each in
 instructions. Reads behind 1 KB, 60 KB and 1,000,000 bytes of source too: --check fails where
 one takes more than 1.1 times as much as a walk of token calls over that source and the read
 from there on, or where a byte of the source takes a fifth more than at 1 KB.
+
+Notes that are carried are measured beside two pairs of walks over the longest text, each in
+edition 1 and in edition 2: --check fails where 256 notes take more than 1.3 times as much, one
+at the end more than 1.1 times, 256 equal ones more than one or 100,000 entries more than 257
+(by a tenth in time, by a hundredth in instructions), or a byte a fifth more than in texts of
+1 KB.
 ";
 
 /// Each time is taken this often, over walks that last this long.
@@ -103,11 +115,15 @@ fn main() {
                 | counts::measure_longer()
                 | starts::measure_all(Unit::Nanoseconds)
                 | counts::measure_starts()
+                | carrying::measure_all(Unit::Nanoseconds)
+                | counts::measure_carrying()
         }
         Only::Displays => displays::measure_all(),
         Only::Counts => counts::measure_all(options.record) | counts::measure_longer(),
         Only::Longer => longer::measure_all(Unit::Nanoseconds) | counts::measure_longer(),
         Only::Starts => starts::measure_all(Unit::Nanoseconds) | counts::measure_starts(),
+        Only::Carry => carrying::measure_all(Unit::Nanoseconds) | counts::measure_carrying(),
+        Only::CarryCounts => counts::measure_carrying(),
     };
     if options.check && failed {
         eprintln!(
@@ -120,6 +136,9 @@ fn main() {
 
 /// What is counted: one walk, or one call for each item of a row.
 fn once(what: &str, row: &str, edition: u64) {
+    if what == "--carry" {
+        return carrying::once(row);
+    }
     if let Some(task) = TASKS.iter().find(|task| task.option == what) {
         return (task.once)(&runs::row(row), edition);
     }
@@ -196,6 +215,8 @@ enum Only {
     Counts,
     Longer,
     Starts,
+    Carry,
+    CarryCounts,
 }
 
 #[derive(Default)]
@@ -221,9 +242,11 @@ fn options() -> Options {
             "--counts-only" => options.only = Only::Counts,
             "--longer-only" => options.only = Only::Longer,
             "--starts-only" => options.only = Only::Starts,
+            "--carry-only" => options.only = Only::Carry,
+            "--carry-counts" => options.only = Only::CarryCounts,
             "--record" => options.record = true,
             "--walk" | "--short-walks" | "--longest-walk" | "--parts-walk" | "--read"
-            | "--wide-read" | "--display" | "--read-at" | "--walk-to" => match words.next() {
+            | "--wide-read" | "--display" | "--read-at" | "--walk-to" | "--carry" => match words.next() {
                 Some(row) => options.once = Some((word, row)),
                 None => bad_usage(),
             },

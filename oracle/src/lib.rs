@@ -14,6 +14,7 @@ pub use shims::{
 pub mod answer;
 pub mod brackets;
 pub mod builds;
+pub mod carrying;
 pub mod displays;
 pub mod editions;
 pub mod expected;

@@ -11,6 +11,9 @@ use Rattle.tokens.specs.declared.Token.{Token}
 use Rattle.tokens.specs.declared.Lexed.the-variants.{Found, Refused}
 use Rattle.tokens.specs.declared.DocComment.{DocComment}
 use Rattle.tokens.specs.declared.DocComment.the-variants.{Doc, Nothing, Broken}
+use Rattle.carried.specs.Carry.{carryNumber, carryValues}
+use Rattle.carried.specs.declared.Carried.{Carried}
+use Rattle.carried.specs.declared.Carried.the-variants.{Moved, Refused as Unmoved}
 use Rattle.calls.specs.Calls.{readNumber, readValues}
 use Rattle.calls.specs.declared.Answer.{Answer}
 use Rattle.calls.specs.declared.Answer.the-variants.{Item, Refused as Rejected}
@@ -58,3 +61,12 @@ module _ (a : Displayed) where
   pub undisplayed : (r : Refusal) → a ≡ Undisplayed r → (v : List ℕ) → v ≡ places r → (r .number ≡ displayNumber a) × (v ≡ displayValues a)
   unfolding displayNumber displayValues
   undisplayed r e v f = rw e (refl, f)
+
+module _ (a : Carried) where
+  pub all-moved : (n : ℕ) → a ≡ Moved n → (0 ≡ carryNumber a) × (n ∷ 0 ∷ 0 ∷ 0 ∷ 0 ∷ 0 ∷ [] ≡ carryValues a)
+  unfolding carryNumber carryValues
+  all-moved n e = rw e (refl, refl)
+
+  pub none-moved : (r : Refusal) → a ≡ Unmoved r → (v : List ℕ) → v ≡ places r → (r .number ≡ carryNumber a) × (v ≡ carryValues a)
+  unfolding carryNumber carryValues
+  none-moved r e v f = rw e (refl, f)

@@ -7,8 +7,10 @@ ghost use Rattle.tokens.specs.Calls.{tokenCall, nextComment};
 ghost use lib.ListN.{length};
 ghost use Rattle.grammar.specs.Items.{asked};
 ghost use Rattle.calls.specs.Calls.{answered, readNumber, readValues, read, readBuffer, displayed, displayNumber, displayValues, display, displayBuffer};
+ghost use Rattle.carried.specs.Carry.{carry, answerOf, notesAfter, carryNumber, carryValues};
 use calls::Answer;
 use calls::Displayed;
+use carried::Carried;
 use tokens::DocComment;
 use tokens::Lexed;
 use tokens::Refusal;
@@ -146,6 +148,26 @@ pub extern "C" fn movesig_display(
             0
         }
         Displayed::Refused(r) => {
+            *answer = refusal_values(r);
+            r.number
+        }
+    }
+}
+
+// Carries the lent notes, offsets of token starts in edition 1, to edition 2: all of them, or none.
+#[no_mangle]
+pub extern "C" fn movesig_carry(text: &[u8], notes: &mut [usize], answer: &mut [u64; 6]) -> u32
+    ensures number { λ r. ⌜ r ≡ carryNumber (answerOf (carry (now (text .entry)) (now (notes .entry)))) ⌝ }
+    ensures values { λ r. ⌜ now (answer .exit) ≡ carryValues (answerOf (carry (now (text .entry)) (now (notes .entry)))) ⌝ }
+    ensures notes { λ r. ⌜ now (notes .exit) ≡ notesAfter (carry (now (text .entry)) (now (notes .entry))) (now (notes .entry)) ⌝ }
+{
+    let a = carried::carry(text, notes);
+    match a {
+        Carried::Moved(count) => {
+            *answer = [count as u64, 0, 0, 0, 0, 0];
+            0
+        }
+        Carried::Refused(r) => {
             *answer = refusal_values(r);
             r.number
         }

@@ -155,7 +155,7 @@ module _ (f g h : ℕ → Bool) (more : (x : ℕ) → g x ≡ true → h x ≡ t
       go true e ih = rw (more a e) (omega arith)
       go false e ih = omega arith
 
-  digits-longer : (s : List ℕ) → digitsLen f g s ≤ digitsLen f h s
+  pub digits-longer : (s : List ℕ) → digitsLen f g s ≤ digitsLen f h s
   unfolding digitsLen
   digits-longer [] = omega arith
   digits-longer (a ∷ s) = go (f a)
@@ -164,7 +164,7 @@ module _ (f g h : ℕ → Bool) (more : (x : ℕ) → g x ≡ true → h x ≡ t
       go true = omega (arith, run-longer s)
       go false = omega arith
 
-  goes-on : (s : List ℕ) → digitsLen f g s < digitsLen f h s → h (getD s (digitsLen f g s) 0) ≡ true
+  pub goes-on : (s : List ℕ) → digitsLen f g s < digitsLen f h s → h (getD s (digitsLen f g s) 0) ≡ true
   unfolding digitsLen
   goes-on [] l = absurd (not-suc-le-zero l)
   goes-on (a ∷ s) l = go (f a) l
@@ -174,7 +174,7 @@ module _ (f g h : ℕ → Bool) (more : (x : ℕ) → g x ≡ true → h x ≡ t
       go false k = absurd (not-suc-le-zero k)
 
   module _ (no-u : h 117 ≡ false) (s : List ℕ) where
-    plain-behind : digitsLen f g s < digitsLen f h s → suffixLen 1 (drop (digitsLen f g s) s) ≡ 0
+    pub plain-behind : digitsLen f g s < digitsLen f h s → suffixLen 1 (drop (digitsLen f g s) s) ≡ 0
     plain-behind l = no-suffix s (digitsLen f g s) 1 (getD s (digitsLen f g s) 0) refl (λ e. false-true _ (sym no-u ∙ ap h (sym e) ∙ goes-on s l))
 
     typed-longer : digitsLen f g s + suffixLen 1 (drop (digitsLen f g s) s) ≤ digitsLen f h s + suffixLen 2 (drop (digitsLen f h s) s)
@@ -198,23 +198,23 @@ module _ (f g h : ℕ → Bool) (more : (x : ℕ) → g x ≡ true → h x ≡ t
             (d, omega arith)
 
 -- so a number of edition 1 is no longer than edition 2's
-digit-too : (x : ℕ) → moreDigits 1 x ≡ true → moreDigits 2 x ≡ true
+pub digit-too : (x : ℕ) → moreDigits 1 x ≡ true → moreDigits 2 x ≡ true
 unfolding moreDigits isDigitOrUnderscore
 digit-too x h = rw h
 
-hex-too : (x : ℕ) → moreHex 1 x ≡ true → moreHex 2 x ≡ true
+pub hex-too : (x : ℕ) → moreHex 1 x ≡ true → moreHex 2 x ≡ true
 unfolding moreHex isHexOrUnderscore
 hex-too x h = rw h
 
-no-u-digit : moreDigits 2 117 ≡ false
+pub no-u-digit : moreDigits 2 117 ≡ false
 unfolding moreDigits isDigitOrUnderscore isDigit inRange
 no-u-digit = refl
 
-no-u-hex : moreHex 2 117 ≡ false
+pub no-u-hex : moreHex 2 117 ≡ false
 unfolding moreHex isHexOrUnderscore isHex inRange
 no-u-hex = refl
 
-hex-length : (n v : ℕ) → lengthOf (hexTyped n v) ≡ cond (eqb (n + v) 2) 1 (n + v)
+pub hex-length : (n v : ℕ) → lengthOf (hexTyped n v) ≡ cond (eqb (n + v) 2) 1 (n + v)
 unfolding hexTyped typed
 hex-length n v = go (eqb (n + v) 2)
   where

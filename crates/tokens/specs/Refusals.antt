@@ -52,6 +52,9 @@ LineUnprintable = 18
 abbrev pub NoSuchEdition : ℕ
 NoSuchEdition = 19
 
+abbrev pub NotATokenStart : ℕ
+NotATokenStart = 20
+
 abbrev pub NothingStarts : ℕ
 NothingStarts = 21
 

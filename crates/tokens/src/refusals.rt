@@ -32,4 +32,6 @@ pub const LINE_UNPRINTABLE: u32 = 18;
 
 pub const NO_SUCH_EDITION: u32 = 19;
 
+pub const NOT_A_TOKEN_START: u32 = 20;
+
 pub const NOTHING_STARTS: u32 = 21;

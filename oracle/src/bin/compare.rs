@@ -1,5 +1,7 @@
 //! Compares the port with the Rust, answer by answer.
 
+#[path = "../carry_comparison.rs"]
+mod carry_comparison;
 #[path = "../display_comparison.rs"]
 mod display_comparison;
 #[path = "../item_sets.rs"]
@@ -39,6 +41,7 @@ first some points whose answers are written down.
 
 usage: compare [--quick] [--seed N] [--edition N] [--reads-only | --displays-only]
                [--long-only | --types-only | --starts-only] [--help]
+       compare --carry-only [--quick] [--seed N]
 
   --quick          fewer texts: some 93 million answers, in a minute or two
   --edition N      one edition alone, 1 or 2 (default both)
@@ -48,6 +51,8 @@ usage: compare [--quick] [--seed N] [--edition N] [--reads-only | --displays-onl
   --long-only      only the sets of texts and trees over 65,535 bytes
   --types-only     only the two sets of reads that look for the largest trees of types
   --starts-only    only reads and displays of the sets of offsets other than 0
+  --carry-only     only notes that are carried from edition 1 to edition 2, which
+                   the other options that choose leave out
   --help           these words
 
 Prints the sha256 of the Rust sources, how many answers were compared, how many of
@@ -73,6 +78,12 @@ fn main() {
     println!("seed {}\n", options.seed);
 
     let mut all = Found::default();
+    if options.carries() {
+        all += carry_comparison::run(options.size());
+    }
+    if options.carry_only {
+        return told(&all);
+    }
     if options.only.is_none() && !options.types_only && !options.starts_only {
         if !options.long_only {
             all.add(point_comparison::run(), 0);
@@ -85,6 +96,11 @@ fn main() {
     if options.only != Some(ItemCall::Read) && !options.types_only {
         all += display_comparison::run(options.size());
     }
+    told(&all);
+}
+
+/// Prints what all comparisons came to, and ends the program where that is not as it should be.
+fn told(all: &Found) {
     println!("\nAll calls:");
     println!("{ON_LONG:<50} {:>12}", grouped(all.on_long));
     println!(
@@ -155,9 +171,17 @@ struct Options {
     types_only: bool,
     /// Whether only the sets of offsets other than 0 are compared.
     starts_only: bool,
+    /// Whether only notes that are carried are compared.
+    carry_only: bool,
 }
 
 impl Options {
+    /// Whether notes are carried: a call of both editions, on texts of every length.
+    fn carries(&self) -> bool {
+        let chosen = self.only.is_some() || self.edition.is_some();
+        !chosen && !self.long_only && !self.starts_only
+    }
+
     fn size(&self) -> Size {
         Size {
             quick: self.quick,
@@ -187,6 +211,7 @@ fn options() -> Options {
         long_only: false,
         types_only: false,
         starts_only: false,
+        carry_only: false,
     };
     let mut words = env::args().skip(1);
     while let Some(word) = words.next() {
@@ -206,6 +231,7 @@ fn options() -> Options {
             "--long-only" => options.long_only = true,
             "--types-only" => options.types_only = true,
             "--starts-only" => options.starts_only = true,
+            "--carry-only" => options.carry_only = true,
             "--help" => {
                 print!("{HELP}");
                 exit(0);
@@ -218,6 +244,9 @@ fn options() -> Options {
     }
     if options.starts_only && (options.long_only || options.types_only) {
         bad_usage("--starts-only excludes --long-only and --types-only");
+    }
+    if options.carry_only && !options.carries() {
+        bad_usage("--carry-only goes with --quick and --seed alone");
     }
     options
 }

@@ -4,14 +4,15 @@
 //! Why they are sound. What the header asks of a caller is what Rust's references promise:
 //!
 //! - A slice's pointer is not null, also where the slice is empty, and its length's bytes can
-//!   be read; through `&mut` they can be written too, and they hold some value already.
+//!   be read; through `&mut` they can be written too, and they hold some value already. Of a list of notes it is
+//!   aligned, and a `usize` is C's `size_t`.
 //! - Nobody writes the text during the call, since it is lent as `&[u8]`.
-//! - Text, buffer and the six numbers do not overlap, since a `&mut` shuts out every other
+//! - Text, buffer or notes, and the six numbers do not overlap, since a `&mut` shuts out every other
 //!   reference to the same bytes.
 //!
 //! And what the calls do is proved (crates/station): for every text, offset, kind number,
-//! edition number and buffer they return, read no byte outside the text, write no byte outside the buffer and
-//! the six numbers, write all six, and keep no pointer. So no further test is needed here, and
+//! edition number, buffer and list of notes they return, read no byte outside the text and the list, write no
+//! byte outside the buffer or the list and the six numbers, write all six, and keep no pointer. So no further test is needed here, and
 //! none is made. That the library is the one whose calls take these arguments is told by a symbol with the
 //! version in its name, which every program refers to.
 
@@ -21,7 +22,9 @@ mod calls;
 #[cfg(test)]
 mod fuzz;
 
-use calls::{movesig_display, movesig_next_comment, movesig_next_token, movesig_read};
+use calls::{
+    movesig_carry, movesig_display, movesig_next_comment, movesig_next_token, movesig_read,
+};
 use std::mem::MaybeUninit;
 
 /// Room for the six numbers of an answer. Every call writes them all, so nothing is there before.
@@ -156,6 +159,19 @@ pub(crate) fn display<'n>(
     unsafe {
         let (text, len) = (text.as_ptr(), text.len());
         let result = movesig_display(kind, edition, text, len, at, start, room, answer);
+        numbers.answer(result)
+    }
+}
+
+#[inline]
+pub(crate) fn carry<'n>(text: &[u8], notes: &mut [usize], numbers: &'n mut Numbers) -> Answer<'n> {
+    let answer = numbers.0.as_mut_ptr();
+    let (start, count) = (notes.as_mut_ptr(), notes.len());
+    // SAFETY: each pointer stands with the length of its own slice, and all are lent for the call;
+    // `notes` and `numbers` are `&mut`, so they overlap neither `text` nor each other. Any list may be lent.
+    // Every number is a valid `usize`, and the call writes all six numbers of the answer.
+    unsafe {
+        let result = movesig_carry(text.as_ptr(), text.len(), start, count, answer);
         numbers.answer(result)
     }
 }

@@ -1,9 +1,9 @@
-//! The proved Move signature reader, for Rust: the four calls of `movesig.h` over slices.
+//! The proved Move signature reader, for Rust: the five calls of `movesig.h` over slices.
 //!
 //! Each call takes a text, any bytes at all, the [`Edition`] of Move that it is written in, and
-//! an offset from which it reads. It gives an
-//! answer or a [`Refusal`] with a number and a place; it neither panics nor fails in any other
-//! way, and it allocates nothing.
+//! an offset from which it reads; [`carry`] takes neither edition nor offset. It gives an
+//! answer or a [`Refusal`] with a number and a place ([`carry`] a [`CarryRefusal`]); it neither panics nor fails
+//! in any other way, and it allocates nothing.
 //!
 //! | call | gives |
 //! |---|---|
@@ -11,6 +11,7 @@
 //! | [`next_comment`] | the first doc comment before the next token; [`comments`] walks over all of them |
 //! | [`read`] | an item as a [`Tree`], stored in a buffer of yours |
 //! | [`display`] | an item as one line, in a buffer of yours |
+//! | [`carry`] | moves notes on token starts from edition 1 to edition 2 |
 //!
 //! ```
 //! use movesig::{display, read, tree_room, Edition, Kind, RecordKind, Refusal};
@@ -50,6 +51,7 @@
 #![warn(missing_docs)]
 
 mod boundary;
+mod carry;
 mod comment;
 mod edition;
 mod item;
@@ -59,6 +61,7 @@ mod token;
 mod tree;
 
 pub use boundary::library_version;
+pub use carry::{carry, CarryRefusal, MOST_NOTES};
 pub use comment::{comments, next_comment, Comment, Comments};
 pub use edition::Edition;
 pub use item::{display, display_to_string, read, Kind, Read};

@@ -3,7 +3,7 @@
 //! type, the names behind the numbers, and the stack that the calls take. Each needs gcc, g++, clang or
 //! clang++, and says so where it is not there.
 
-use movesig::{type_room, Kind, RecordKind, TokenKind, LONGEST};
+use movesig::{type_room, CarryRefusal, Kind, RecordKind, TokenKind, LONGEST};
 use std::{
     fs,
     path::{Path, PathBuf},
@@ -87,6 +87,7 @@ fn dropped_results() {
         "next_comment(1, 0, 0, 0, answer)",
         "read(3, 1, 0, 0, 0, 0, 0, answer)",
         "display(3, 1, 0, 0, 0, 0, 0, answer)",
+        "carry(0, 0, 0, 0, answer)",
     ];
     let source = Path::new(env!("CARGO_TARGET_TMPDIR")).join("dropped.c");
     let write = |before: &str, behind: &str| {
@@ -150,7 +151,8 @@ fn huge_texts() {
                 return 1;
             for (index = 0; index < sizeof lengths / sizeof *lengths; index++) {
                 size_t len = lengths[index], room = MOVESIG_TREE_ROOM(len), count;
-                uint64_t answer[4][6];
+                size_t note = 0;
+                uint64_t answer[5][6];
                 /* which nobody may read */
                 uint8_t *text = mmap(NULL, len, PROT_NONE, MAP_PRIVATE | MAP_ANONYMOUS | MAP_NORESERVE, -1, 0);
                 uint8_t *out = malloc(room);
@@ -159,9 +161,10 @@ fn huge_texts() {
                 if (movesig_next_token(1, text, len, 0, answer[0]) != MOVESIG_TEXT_TOO_LONG ||
                     movesig_next_comment(1, text, len, 0, answer[1]) != MOVESIG_TEXT_TOO_LONG ||
                     movesig_read(3, 1, text, len, 0, out, room, answer[2]) != MOVESIG_TEXT_TOO_LONG ||
-                    movesig_display(3, 1, text, len, 0, out, room, answer[3]) != MOVESIG_TEXT_TOO_LONG)
+                    movesig_display(3, 1, text, len, 0, out, room, answer[3]) != MOVESIG_TEXT_TOO_LONG ||
+                    movesig_carry(text, len, &note, 1, answer[4]) != MOVESIG_TEXT_TOO_LONG)
                     return 3;
-                for (count = 0; count < 24; count++)
+                for (count = 0; count < 30; count++)
                     if (answer[count / 6][count % 6] != 0)
                         return 4;
                 free(out);
@@ -334,6 +337,7 @@ fn names() {
             1..=14 => assert_eq!(reason, reasons[number - 1]),
             18 => assert_eq!(reason, reasons[14]),
             19 => assert_eq!(reason, reasons[15]),
+            20 => assert_eq!(reason, CarryRefusal::Note { index: 0 }.reason()),
             21 => assert_eq!(reason, reasons[16]),
             _ => assert_eq!(reason, "unknown"),
         }

@@ -1022,7 +1022,10 @@ fn completions() {
         eprintln!("bash is not here: left out");
         return;
     };
-    assert_eq!(commands, "tokens comments read line help man completions");
+    assert_eq!(
+        commands,
+        "tokens comments read line carry help man completions"
+    );
     assert_eq!(complete(&["movesig", "read", "t"]).as_deref(), Some("type"));
     assert_eq!(
         complete(&["movesig", "--json", "line", "b"]).as_deref(),

@@ -663,6 +663,7 @@ fn versions() {
     assert_eq!(header.matches(&format!("{symbol},")).count(), 1);
     assert_eq!(header.matches(&format!("{symbol}`")).count(), 1);
     assert_eq!(defined("MOVESIG_LEVELS"), LEVELS);
+    assert_eq!(defined("MOVESIG_MOST_NOTES"), movesig::MOST_NOTES);
     assert_eq!(defined("MOVESIG_STACK"), STACK);
 }
 
@@ -706,7 +707,7 @@ fn names_of_the_header() {
         .collect();
     let items: Vec<_> = names.into_iter().zip(numbers).collect();
     assert_eq!(section("movesig_item"), items);
-    assert_eq!(section("movesig_result").len(), 18);
+    assert_eq!(section("movesig_result").len(), 19);
     let editions = [("edition1".to_string(), 1), ("edition2".to_string(), 2)];
     assert_eq!(section("movesig_edition"), editions);
     let numbers: Vec<_> = Edition::ALL.map(|edition| edition.number() as usize).into();

@@ -60,6 +60,18 @@ static void *display_item(void *given)
     return given;
 }
 
+/* Notes on the first byte of the text and on its end. */
+static void *carry(void *given)
+{
+    static size_t notes[2];
+    uint64_t answer[6];
+    notes[0] = 0;
+    notes[1] = length;
+    entry = (uint8_t *)answer;
+    number = movesig_carry(text, length, notes, 2, answer);
+    return given;
+}
+
 /* The bytes of stack that a call takes, made by a thread of its own. */
 static size_t used(void *(*work)(void *), uint64_t kind)
 {
@@ -114,7 +126,7 @@ static size_t most, accepted, wide;
 /* Asks all calls about the text. */
 static void measure(uint64_t kind)
 {
-    static void *(*const calls[])(void *) = {token, comment, read_item, display_item};
+    static void *(*const calls[])(void *) = {token, comment, read_item, display_item, carry};
     size_t call;
     for (call = 0; call < sizeof calls / sizeof *calls; call++) {
         size_t bytes = used(calls[call], kind);

@@ -37,4 +37,11 @@ unsafe extern "C" {
         room: usize,
         answer: *mut [u64; 6],
     ) -> u32;
+    pub fn movesig_carry(
+        text: *const u8,
+        len: usize,
+        notes: *mut usize,
+        count: usize,
+        answer: *mut [u64; 6],
+    ) -> u32;
 }

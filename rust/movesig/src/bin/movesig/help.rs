@@ -4,11 +4,12 @@ use movesig::Kind;
 
 const PURPOSE: &str = "reads Move source with the proved signature reader";
 
-const USAGE: [&str; 5] = [
+const USAGE: [&str; 6] = [
     "movesig [--json] [--edition N] tokens FILE ...",
     "movesig [--json] [--edition N] comments FILE ...",
     "movesig [--json] [--edition N] read KIND FILE [PLACE] ...",
     "movesig [--json] [--edition N] line KIND FILE [PLACE] ...",
+    "movesig [--json] carry FILE PLACE ...",
     "movesig help | man | completions",
 ];
 
@@ -25,6 +26,9 @@ const SECTIONS: [(&str, &str); 8] = [
                token that follows
   line         the item as one line; the token that follows is told on
                standard error
+  carry        each note, a PLACE where a token of edition 1 starts: its byte,
+               the byte of the token of edition 2 that covers it, and that
+               token's spelling, EOF at the text's end
   help         this text
   man          this text as a manual page, in roff
   completions  completions for bash
@@ -51,6 +55,9 @@ of a lambda).
 PLACE is where the item is read from: a byte, counted from 0, or LINE:COLUMN,
 both counted from 1. It is byte 0 if left out. A word behind FILE that begins
 with a digit is its PLACE; a file of such a name is written ./1.
+
+For carry a PLACE is where a note is. There is at least one, in any order, and
+at most 256 are carried.
 
 The FILE - is standard input. With more than one FILE its name stands before
 each line.
@@ -85,6 +92,11 @@ or from byte 0. Any other is refused (refusal 21): the nearest such bytes
 before it and behind it are told, and a note says whether it is inside a token
 or a comment.
 
+Notes are carried all or none. Where no token of edition 1 starts at one of
+them, or there are more than 256, the first such note is told, counted from 1,
+with its byte (refusal 20); what is wrong with the file is told before that.
+--edition with carry is bad usage: it names both editions itself.
+
 &mut without a space behind it is read as it stands, and a note on standard
 error says so.
 ",
@@ -115,6 +127,9 @@ bytes that are not UTF-8 become U+FFFD, and the spans tell which they are.
             text_end
   read      file, item, at, tree, next, notes
   line      file, item, at, shown (the line), next, notes
+  carry     file, note (its byte), token (the kind of that which covers it),
+            number, start, end, line, column, text; of refusal 20 file,
+            refused, reason, index (of the note, from 0) and note
   tree      record (its kind), number, start, end, text (of a leaf), children
   next      token, number, start, end, text
   notes     a list of at and note
@@ -211,7 +226,7 @@ _movesig() {{
     elif [[ $word == --* ]]; then
         mapfile -t COMPREPLY < <(compgen -W '--json --edition --help --version --' -- "$word")
     elif ((${{#plain[@]}} == 0)); then
-        mapfile -t COMPREPLY < <(compgen -W 'tokens comments read line help man completions' -- "$word")
+        mapfile -t COMPREPLY < <(compgen -W 'tokens comments read line carry help man completions' -- "$word")
     elif ((${{#plain[@]}} == 1)) && [[ ${{plain[0]}} == read || ${{plain[0]}} == line ]]; then
         mapfile -t COMPREPLY < <(compgen -W '{kinds}' -- "$word")
     else

@@ -72,7 +72,7 @@ impl Job {
         said
     }
 
-    fn refused(&self, text: &Text, item: Option<Item>, refusal: &Refusal, said: &mut Said) {
+    pub fn refused(&self, text: &Text, item: Option<Item>, refusal: &Refusal, said: &mut Said) {
         if self.json {
             said.output += &json::refusal(self.file_bytes(), text, item, refusal);
             return;
@@ -91,19 +91,12 @@ impl Job {
         let (Work::Read(kind) | Work::Line(kind)) = self.work else {
             return Ok((text, None));
         };
-        let at = match self.place {
-            Place::Byte(at) => at,
-            // which is refused whatever the place
-            _ if text.bytes.len() > LONGEST => 0,
-            Place::LineColumn(line, column) => Places::new(&text.bytes)
-                .byte(line, column)
-                .map_err(|why| format!("no such place: {line}:{column}: {why}"))?,
-        };
+        let at = offset(&text.bytes, self.place)?;
         let edition = self.edition;
         Ok((text, Some(Item { kind, edition, at })))
     }
 
-    fn failed(&self, why: &str) -> Said {
+    pub fn failed(&self, why: &str) -> Said {
         let mut said = Said {
             status: 2,
             ..Said::default()
@@ -212,7 +205,7 @@ impl Job {
     }
 
     /// The file's name, safe to show.
-    fn name(&self) -> String {
+    pub fn name(&self) -> String {
         if self.file == "-" {
             "<stdin>".to_string()
         } else {
@@ -220,7 +213,7 @@ impl Job {
         }
     }
 
-    fn file_bytes(&self) -> &[u8] {
+    pub fn file_bytes(&self) -> &[u8] {
         self.file.as_encoded_bytes()
     }
 }
@@ -230,6 +223,18 @@ impl Beside {
         let end = next.span.start;
         let notes = notes::references(item.edition, text, item.at, end);
         Beside { next, notes }
+    }
+}
+
+/// The byte of the place.
+pub fn offset(text: &[u8], place: Place) -> Result<usize, String> {
+    match place {
+        Place::Byte(at) => Ok(at),
+        // which is refused whatever the place
+        _ if text.len() > LONGEST => Ok(0),
+        Place::LineColumn(line, column) => Places::new(text)
+            .byte(line, column)
+            .map_err(|why| format!("no such place: {line}:{column}: {why}")),
     }
 }
 

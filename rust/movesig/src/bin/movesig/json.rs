@@ -1,13 +1,16 @@
 //! Answers and refusals for machines: one object a line, in ASCII.
 
 use crate::{
+    carry::Carried,
     due::{self, Item},
     notes::{self, Note},
     places::Places,
     starts,
     text::Text,
 };
-use movesig::{Comment, Following, Refusal, Span, Token, Tree, LONGEST, LONGEST_LINE};
+use movesig::{
+    CarryRefusal, Comment, Following, Refusal, Span, Token, Tree, LONGEST, LONGEST_LINE,
+};
 use std::fmt::Write;
 
 /// An object that is being written.
@@ -171,6 +174,28 @@ fn put_record(record: Tree, to: &mut String) {
         None => object,
     };
     *to += &["{", &object.0, ",\"children\":["].concat();
+}
+
+/// A note that was carried, and the token that it is moved to.
+pub fn carried(file: &[u8], text: &[u8], places: &Places, note: &Carried) -> String {
+    let Carried { old, token } = note;
+    Object::of(file)
+        .number("note", *old)
+        .text("token", token.kind.name().as_bytes())
+        .number("number", token.kind.number().into())
+        .place(places, token.span)
+        .text("text", token.span.of(text))
+        .line()
+}
+
+/// The note for which none was carried.
+pub fn not_carried(file: &[u8], refusal: &CarryRefusal, index: usize, note: usize) -> String {
+    Object::of(file)
+        .number("refused", refusal.number() as usize)
+        .text("reason", refusal.reason().as_bytes())
+        .number("index", index)
+        .number("note", note)
+        .line()
 }
 
 /// That a file cannot be read.

@@ -5,7 +5,7 @@ use movesig::{Comment, Following, Token, Tree};
 use std::fmt::Write;
 
 /// A spelling is shown up to so many bytes.
-const MOST: usize = 100;
+pub const MOST: usize = 100;
 
 /// Records are indented up to so many levels below the first: more than an item of 64 levels has, which is
 /// 130. Where a tree has more, a line for each record with blanks for each level would be as long as the

@@ -2,6 +2,7 @@
 
 #![forbid(unsafe_code)]
 
+mod carry;
 mod due;
 mod help;
 mod job;
@@ -32,6 +33,7 @@ fn main() -> ExitCode {
         Ok(Asked::Completions) => print(help::completions()),
         Ok(Asked::Version) => print(version.to_string()),
         Ok(Asked::Jobs(jobs)) => run(&jobs),
+        Ok(Asked::Carry(notes)) => notes.done().put().unwrap_or_else(|status| status),
         Err(message) => {
             let message = format!("movesig: {message} (see movesig --help)\n");
             let _ = io::stderr().write_all(message.as_bytes());

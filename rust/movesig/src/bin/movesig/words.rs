@@ -1,6 +1,7 @@
 //! The words of the command line.
 
 use crate::{
+    carry::Carry,
     job::{Job, Place, Work},
     visible,
 };
@@ -14,20 +15,21 @@ pub enum Asked {
     Completions,
     Version,
     Jobs(Vec<Job>),
+    Carry(Carry),
 }
 
 /// What the words ask for, or what is wrong with them.
 pub fn asked(mut words: impl Iterator<Item = OsString>) -> Result<Asked, String> {
     let mut plain = vec![];
     let (mut options, mut json) = (true, false);
-    let mut edition = Edition::One;
+    let mut edition = None;
     while let Some(word) = words.next() {
         match word.to_str() {
             Some("--") if options => options = false,
             Some("--help" | "-h") if options => return Ok(Asked::Help),
             Some("--version" | "-V") if options => return Ok(Asked::Version),
             Some("--json") if options => json = true,
-            Some("--edition") if options => edition = edition_of(words.next())?,
+            Some("--edition") if options => edition = Some(edition_of(words.next())?),
             Some(name) if options && is_option(name) => {
                 return Err(format!("no such option: {}", shown(&word)));
             }
@@ -41,12 +43,16 @@ pub fn asked(mut words: impl Iterator<Item = OsString>) -> Result<Asked, String>
         Some("comments") => Work::Comments,
         Some("read") => Work::Read(kind(words.next())?),
         Some("line") => Work::Line(kind(words.next())?),
+        Some("carry") => {
+            return Ok(Asked::Carry(carried(words, edition, json)?));
+        }
         Some("help") => return Ok(Asked::Help),
         Some("man") => return Ok(Asked::Man),
         Some("completions") => return Ok(Asked::Completions),
         _ => return Err(format!("no such command: {}", shown(&command))),
     };
     let files = files(words, matches!(work, Work::Read(_) | Work::Line(_)))?;
+    let edition = edition.unwrap_or(Edition::One);
     let several = files.len() > 1;
     let job = |(file, place)| Job {
         work,
@@ -90,6 +96,35 @@ fn files(
         return Err("no file is given".to_string());
     }
     Ok(files)
+}
+
+/// The file whose notes are carried, and the notes.
+fn carried(
+    mut words: impl Iterator<Item = OsString>,
+    edition: Option<Edition>,
+    json: bool,
+) -> Result<Carry, String> {
+    if edition.is_some() {
+        return Err("carry takes no edition: it goes from edition 1 to edition 2".to_string());
+    }
+    let file = words.next().ok_or("no file is given")?;
+    if is_like_a_place(&file) {
+        return Err(format!("a place before its file: {}", shown(&file)));
+    }
+    let notes: Result<Vec<Place>, String> = words.map(|word| place(&word)).collect();
+    let notes = notes?;
+    if notes.is_empty() {
+        return Err("no note is given: a place of the file".to_string());
+    }
+    let job = Job {
+        work: Work::Tokens,
+        edition: Edition::One,
+        file,
+        place: Place::Byte(0),
+        json,
+        several: false,
+    };
+    Ok(Carry { job, notes })
 }
 
 fn is_like_a_place(word: &OsStr) -> bool {

@@ -1,0 +1,10 @@
+pub mod Examples
+pub mod Walked
+pub mod Partings
+pub mod Runs
+pub mod Together
+pub mod Covering
+pub mod Passes
+pub mod Carrying
+pub mod Numbers
+pub mod Theorem

@@ -1,0 +1,4 @@
+pub mod Carry
+pub mod Promised
+pub mod Examples
+pub mod code
