@@ -55,3 +55,9 @@ uint32_t movesig_next_comment(uint64_t edition, const uint8_t *text, size_t len,
     (void)edition, (void)text, (void)len, (void)at;
     return accepted(answer, 0, 0, 0);
 }
+
+uint32_t movesig_carry(const uint8_t *text, size_t len, size_t *notes, size_t count, uint64_t answer[6])
+{
+    (void)text, (void)len, (void)notes;
+    return accepted(answer, count, 0, 0);
+}
