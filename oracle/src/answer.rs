@@ -69,6 +69,14 @@ impl Answer {
         }
     }
 
+    /// Notes that are carried: how many.
+    pub fn carried(count: usize) -> Answer {
+        Answer {
+            result: 0,
+            numbers: [count as u64, 0, 0, 0, 0, 0],
+        }
+    }
+
     /// A refusal whose second place is its place, as all refusals of the lexer are.
     pub fn refused(number: u32, start: usize, end: usize) -> Answer {
         Answer::refused_at_two(number, (start, end), (start, end))

@@ -67,10 +67,7 @@ impl Walks {
                 notes: notes.to_vec(),
             },
             None => Carried {
-                answer: Answer {
-                    result: 0,
-                    numbers: [notes.len() as u64, 0, 0, 0, 0, 0],
-                },
+                answer: Answer::carried(notes.len()),
                 notes: notes.iter().map(|&note| self.covering(note)).collect(),
             },
         }

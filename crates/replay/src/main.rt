@@ -4,24 +4,39 @@
 //   six numbers of the answer and the text;
 // - `r` for the read call or `d` for the display call, the edition, the item kind, the start offset,
 //   the room lent, the result, the six numbers, the text and the bytes that must be written: the tree or the
-//   display line.
-// Texts and bytes are in hexadecimal, `-` for none.
+//   display line;
+// - `n` for the call that carries notes, the result, the six numbers, the text, how many notes are lent, the
+//   notes, and as many numbers that the list must hold behind the call.
+// Texts and bytes are in hexadecimal, `-` for none. A line of another call is a branch of `holds` and a
+// function over `field_at`, `expected_at`, `bytes_at` and `numbers_at`.
 ghost use mathlib.Core.Path.{_≡_};
 ghost use Prim.Native.Nat.{_≤_, _<_};
 ghost use lib.ListN.{length};
 use libc::STDIN_FILENO;
 use libc::STDOUT_FILENO;
 
-// The room for a line's text. Most need little of it, one wide tree's text has 65,537 bytes.
+// The room for the text of a line that is short: all but those of items.
+const SHORT_ROOM: usize = 128;
+
+// The room for the text of an item's line. Most need little of it, one wide tree's text has 65,537 bytes.
 const TEXT_ROOM: usize = 65600;
 
 // The room for the bytes that a call must write, and for those that it writes: one wide tree has 114,692.
 // Every line gets the whole of both rooms, which is simplest: the whole sample takes some 2 seconds.
 const TREE_ROOM: usize = 114720;
 
+// The room for a line's notes.
+const NOTES_ROOM: usize = 320;
+
 // A number, and where the next field starts.
 struct Field {
     value: u64,
+    next: usize,
+}
+
+// How many bytes a field in hexadecimal holds, and where the next field starts.
+struct Decoded {
+    count: usize,
     next: usize,
 }
 
@@ -111,6 +126,47 @@ fn decode(line: &[u8], from: usize, to: usize, bytes: &mut [u8]) -> usize
     k
 }
 
+// Writes the bytes that the field at `at` holds in hexadecimal.
+fn bytes_at(line: &[u8], at: usize, bytes: &mut [u8]) -> Decoded
+    requires { ⌜ at ≤ length (now line) ⌝ }
+    ensures count { λ r. ⌜ r .count ≤ length (now (bytes .exit)) ⌝ }
+    ensures next { λ r. ⌜ r .next ≤ length (now (line .entry)) ⌝ }
+{
+    let e = end_at(line, at, 32);
+    let n = decode(line, at, e, bytes);
+    Decoded {
+        count: n,
+        next: behind(line, e),
+    }
+}
+
+// The place behind e, or the line's end.
+fn behind(line: &[u8], e: usize) -> usize
+    ensures { λ r. ⌜ r ≤ length (now (line .entry)) ⌝ }
+{
+    if e < line.len() {
+        return e + 1;
+    }
+    line.len()
+}
+
+// Writes the numbers that the fields from `at` on hold, as many as there is room for, and answers where the
+// next field starts.
+fn numbers_at(line: &[u8], at: usize, numbers: &mut [usize]) -> usize
+    requires { ⌜ at ≤ length (now line) ⌝ }
+    ensures { λ r. ⌜ r ≤ length (now (line .entry)) ⌝ }
+{
+    let mut next = at;
+    let mut i = 0;
+    while i < numbers.len() {
+        let f = field_at(line, next);
+        numbers[i] = f.value as usize;
+        next = f.next;
+        i += 1;
+    }
+    next
+}
+
 fn same(a: &[u64; 6], b: &[u64; 6]) -> bool {
     let mut i = 0;
     while i < 6 {
@@ -157,11 +213,22 @@ fn holds(line: &[u8]) -> bool {
     if is_of_item(line[0]) {
         return item_holds(line);
     }
+    if line[0] == b'n' {
+        return carry_holds(line);
+    }
+    token_holds(line)
+}
+
+// Whether the line's token or comment call is answered as the line says.
+fn token_holds(line: &[u8]) -> bool
+    requires { ⌜ 2 ≤ length (now line) ⌝ }
+{
     let edition = field_at(line, 2);
     let at = field_at(line, edition.next);
     let due = expected_at(line, at.next);
-    let mut text = [0u8; 128];
-    let n = decode(line, due.next, line.len(), &mut text);
+    let mut text = [0u8; SHORT_ROOM];
+    let t = bytes_at(line, due.next, &mut text);
+    let n = t.count;
     answers(line[0], edition.value, &text[..n], at.value as usize, due)
 }
 
@@ -196,14 +263,12 @@ fn item_holds(line: &[u8]) -> bool
     let at = field_at(line, kind.next);
     let room = field_at(line, at.next);
     let due = expected_at(line, room.next);
-    let e = end_at(line, due.next, 32);
-    if e == line.len() {
-        return false;
-    }
     let mut text = [0u8; TEXT_ROOM];
-    let n = decode(line, due.next, e, &mut text);
+    let t = bytes_at(line, due.next, &mut text);
     let mut bytes = [0u8; TREE_ROOM];
-    let m = decode(line, e + 1, line.len(), &mut bytes);
+    let b = bytes_at(line, t.next, &mut bytes);
+    let n = t.count;
+    let m = b.count;
     item_answers(
         line[0],
         kind.value,
@@ -254,6 +319,56 @@ fn item_result(
         return station::movesig_display(kind, edition, text, at, out, answer);
     }
     station::movesig_read(kind, edition, text, at, out, answer)
+}
+
+// Whether the line's notes are carried as the line says.
+fn carry_holds(line: &[u8]) -> bool
+    requires { ⌜ 2 ≤ length (now line) ⌝ }
+{
+    let due = expected_at(line, 2);
+    let mut text = [0u8; SHORT_ROOM];
+    let t = bytes_at(line, due.next, &mut text);
+    let n = t.count;
+    let count = field_at(line, t.next);
+    carry_answers(&text[..n], line, count.next, count.value as usize, due)
+}
+
+// Whether the call, with so many notes as the line holds from `at` on, gives this result and these numbers,
+// makes the list the one that the line holds behind them, and leaves all entries behind it alone.
+fn carry_answers(text: &[u8], line: &[u8], at: usize, count: usize, due: Expected) -> bool
+    requires { ⌜ at ≤ length (now line) ⌝ }
+{
+    if NOTES_ROOM < count {
+        return false;
+    }
+    let mut notes = untouched();
+    let next = numbers_at(line, at, &mut notes[..count]);
+    let mut after = untouched();
+    numbers_at(line, next, &mut after[..count]);
+    let mut answer = [77u64; 6];
+    let r = station::movesig_carry(text, &mut notes[..count], &mut answer);
+    if !as_due(r, &answer, due) {
+        return false;
+    }
+    same_notes(&notes, &after)
+}
+
+// What stands in the room for notes before they do: no line has this number, so a write behind them is seen.
+fn untouched() -> [usize; NOTES_ROOM]
+    ensures { λ r. ⌜ 320 ≡ length r ⌝ }
+{
+    [777777777777; NOTES_ROOM]
+}
+
+fn same_notes(a: &[usize; NOTES_ROOM], b: &[usize; NOTES_ROOM]) -> bool {
+    let mut i = 0;
+    while i < NOTES_ROOM {
+        if a[i] != b[i] {
+            return false;
+        }
+        i += 1;
+    }
+    true
 }
 
 // The byte that stands at place i of the buffer before a call.
@@ -332,10 +447,10 @@ fn replayed(sample: &[u8]) -> Tally {
 
 // Zeros, for the whole sample and some more. The `ensures` gives only the length, which lending the
 // array as a slice needs: the prover has too little stack to count so many zeros one by one.
-fn sample_buffer() -> [u8; 983040]
-    ensures { λ r. ⌜ 983040 ≡ length r ⌝ }
+fn sample_buffer() -> [u8; 1048576]
+    ensures { λ r. ⌜ 1048576 ≡ length r ⌝ }
 {
-    [0; 983040]
+    [0; 1048576]
 }
 
 fn main() {

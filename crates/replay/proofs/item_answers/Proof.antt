@@ -1,16 +1,10 @@
-use Prim.Native.Nat.{ℕ, _≤_}
-use mathlib.Core.Path.{_≡_, sym}
-use mathlib.Core.List.{List, _++_}
-use lib.ListN.{length, drop, take, length-append, length-drop}
+use mathlib.Core.Path.{sym}
 use lib.Seq.{length-take-le}
 use native.Mathlib.Omega.{arith}
 use borrow.Author.Needs.{needs}
+use Rattle.replay.proofs.Patched.{patched}
 use Rattle.replay.proofs.item_answers.Statement.{statement}
 use Rattle.replay.proofs.item_answers.Tie as tie
-
--- A buffer whose front is written anew with as many bytes has the length that it had.
-patched : (n room : ℕ) (front base : List ℕ) → length front ≡ length (take room base) → room ≤ length base → n ≡ length base → n ≡ length (front ++ drop room base)
-patched n room front base p q r = omega (arith, length-append front (drop room base), length-drop room base, length-take-le room base q, p, q, r)
 
 slice-aggregate-item-result : tie.Need-slice-aggregate-item-result
 slice-aggregate-item-result c = sym (length-take-le (c .before .before .before .before .before .before .before .args .room) (c .before .before .fill .last .0) (omega (arith, c .before .before .fill .kept .0, c .before .before .before .before .if1 .left)))

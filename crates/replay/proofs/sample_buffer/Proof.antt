@@ -5,7 +5,7 @@ use Rattle.replay.proofs.sample_buffer.Statement.{statement}
 use Rattle.replay.proofs.sample_buffer.Tie as tie
 
 returns : tie.Need-returns
-returns c = sym (length-replicate {0} {A = ℕ} 983040 0)
+returns c = sym (length-replicate {0} {A = ℕ} 1048576 0)
 
 pub sample-buffer-spec : {M : Type 1} → statement M
 sample-buffer-spec = tie.close (tie.spec returns)

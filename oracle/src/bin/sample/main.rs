@@ -3,14 +3,17 @@
 //! One case a line, single blanks between: `t` (token) or `c` (comment), the edition, the
 //! start offset, the result, the six numbers and the text; or `r` (read) or `d` (display),
 //! the edition, the item kind, the start offset, the room lent, the result, the six
-//! numbers, the text and the bytes that must be written: the tree or the line. Texts and
+//! numbers, the text and the bytes that must be written: the tree or the line; or `n`
+//! (notes carried from edition 1 to edition 2), the result, the six numbers, the text, how
+//! many notes there are, the notes, and the list behind the call. Texts and
 //! bytes are in hex (`-` where there are none). First stand the points of
 //! oracle/src/points.rs; behind what the Rust answers, which is edition 1, stand cases of
-//! the editions, and last some wrong answers, so that a replay that finds none of them is
-//! seen.
+//! the editions and of notes, and last some wrong answers, so that a replay that finds none
+//! of them is seen.
 
 mod calls;
 mod items;
+mod notes;
 mod points;
 
 use oracle::{answer::ItemCall, parsing::on_a_deep_stack, reading::silence_the_rust};
@@ -25,9 +28,11 @@ fn main() {
         print_new(&points, &on_a_deep_stack(|| items::lines(call)));
     }
     EDITIONS.iter().for_each(|line| println!("{line}"));
+    print!("{}", notes::lines());
     for line in [WRONG_READS, WRONG_DISPLAYS, WRONG_CALLS].concat() {
         print_first(line);
     }
+    print!("{}", notes::wrong_lines());
 }
 
 /// Prints the lines that are none of the points'.
