@@ -1,9 +1,10 @@
 /* How much stack the calls take: on nests of 64 levels and more, of each construct, alone, in the longest text,
  * and round a list that is so long that their tree is wide or that the text is the longest; and on random
  * nests of all constructs. MOVESIG_STACK is held to it: at least a fortieth more than what is measured, and at
- * most four tenths. The stack of a thread is painted, and what is no longer paint was used. Then all is asked
- * again in threads that have MOVESIG_STACK bytes beside their own: below them lies a page that nobody may
- * touch.
+ * most four tenths. The call that carries notes may take no more than a few registers beside what the token
+ * call takes on the tokens of the same texts. The stack of a thread is painted, and what is no longer paint was
+ * used. Then all is asked again in threads that have MOVESIG_STACK bytes beside their own: below them lies a
+ * page that nobody may touch.
  *
  *     stack [ROUNDS]    so many random nests
  */
@@ -19,6 +20,7 @@
 #define STACK ((size_t)128 * 1024)
 #define ROUNDS 1000
 #define PAINT 0xa5
+#define MORE_TO_CARRY 128
 
 static uint8_t text[MOVESIG_LONGEST];
 static size_t length; /* of the text */
@@ -28,11 +30,14 @@ static size_t size;    /* its bytes: what the thread takes itself, and what a ca
 static uint8_t *entry; /* where the thread stood when it made its call */
 static uint32_t number;
 
+/* Token after token, to the end of the text or a refusal. */
 static void *token(void *given)
 {
-    uint64_t answer[6];
+    uint64_t answer[6] = {0};
     entry = (uint8_t *)answer;
-    number = movesig_next_token(MOVESIG_EDITION_2, text, length, 0, answer);
+    do
+        number = movesig_next_token(MOVESIG_EDITION_2, text, length, (size_t)answer[2], answer);
+    while (number == 0 && answer[0] != MOVESIG_EOF);
     return given;
 }
 
@@ -121,19 +126,23 @@ static const struct nest nests[] = {
     {MOVESIG_LAMBDA_BIND_LIST, "|S<", "& ", A_TYPE, "a::b", "", ">{}|"},
 };
 
-static size_t most, accepted, wide;
+enum call { TOKEN, COMMENT, READ, DISPLAY, CARRY, CALLS };
+
+static size_t most, most_of[CALLS], accepted, wide;
 
 /* Asks all calls about the text. */
 static void measure(uint64_t kind)
 {
-    static void *(*const calls[])(void *) = {token, comment, read_item, display_item, carry};
+    static void *(*const calls[CALLS])(void *) = {token, comment, read_item, display_item, carry};
     size_t call;
-    for (call = 0; call < sizeof calls / sizeof *calls; call++) {
+    for (call = 0; call < CALLS; call++) {
         size_t bytes = used(calls[call], kind);
+        if (bytes > most_of[call])
+            most_of[call] = bytes;
         if (bytes > most)
             most = bytes;
-        accepted += call == 2 && number == 0;
-        wide += call == 2 && number == 0 && memcmp(out, "\4\0\143\0", 4) == 0;
+        accepted += call == READ && number == 0;
+        wide += call == READ && number == 0 && memcmp(out, "\4\0\143\0", 4) == 0;
     }
 }
 
@@ -252,6 +261,7 @@ static void measure_all(long rounds)
     size_t i;
     int levels;
     most = accepted = wide = 0;
+    memset(most_of, 0, sizeof most_of);
     state = 88172645463325252u;
     for (i = 0; i < sizeof nests / sizeof *nests; i++)
         for (levels = 28; levels <= 66; levels++)
@@ -262,6 +272,9 @@ static void measure_all(long rounds)
         measure_mix();
     printf("in all: at most %lu bytes of stack, %lu read; MOVESIG_STACK is %lu\n", (unsigned long)most,
            (unsigned long)accepted, (unsigned long)MOVESIG_STACK);
+    printf("tokens %lu, comments %lu, reads %lu, displays %lu, notes carried %lu\n", (unsigned long)most_of[TOKEN],
+           (unsigned long)most_of[COMMENT], (unsigned long)most_of[READ], (unsigned long)most_of[DISPLAY],
+           (unsigned long)most_of[CARRY]);
 }
 
 int main(int count, char **words)
@@ -278,6 +291,10 @@ int main(int count, char **words)
     if (MOVESIG_STACK < most + most / 40 || MOVESIG_STACK > most + 4 * (most / 10)) {
         printf("MOVESIG_STACK should be between %lu and %lu\n", (unsigned long)(most + most / 40),
                (unsigned long)(most + 4 * (most / 10)));
+        return 1;
+    }
+    if (most_of[CARRY] > most_of[TOKEN] + MORE_TO_CARRY) {
+        printf("carrying notes takes more than the token call and %d bytes\n", MORE_TO_CARRY);
         return 1;
     }
     /* what a thread takes before its call, in steps of its alignment */
