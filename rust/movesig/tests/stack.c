@@ -21,6 +21,7 @@
 #define ROUNDS 1000
 #define PAINT 0xa5
 #define MORE_TO_CARRY 128
+#define LONG_NAME "a_name_of_more_than_16_bytes" /* the table of classes is on the stack for such */
 
 static uint8_t text[MOVESIG_LONGEST];
 static size_t length; /* of the text */
@@ -122,6 +123,7 @@ static const struct nest nests[] = {
     {MOVESIG_LAMBDA_BIND_LIST, "|", "S{f:", A_BINDING, "x", "}", "|"},
     {MOVESIG_LAMBDA_BIND_LIST, "|x, ", "S<u8>{g, f:", A_BINDING, "S<u8>{}", "}", "|"},
     {MOVESIG_BIND_LIST, "S<", "(", A_TYPE, "u8", ")", ">{}"},
+    {MOVESIG_BIND_LIST, "(S<", "a<", A_TYPE, "a::" LONG_NAME, "> ", ">{})"},
     {MOVESIG_BIND_LIST, "(S{f:S<u8, ", "a<", A_TYPE, "u8", "> ", ">{}})"},
     {MOVESIG_LAMBDA_BIND_LIST, "|S<", "& ", A_TYPE, "a::b", "", ">{}|"},
 };
@@ -232,7 +234,8 @@ static void measure_mix(void)
         {"S{f:", "}"}, {"S<u8>{g, f:", "}"}, {"0x1::a::S{g,f:", "}"}, {"S{", "}"},
     };
     static const char *const leaves[] = {
-        "u8", "0x1_0::a::b", "a::b<>", "()", "| | u8", "/* /** c */ */ u8", "/// c\n u8", "u8 /*", "0x", "x\"", "$", "S{}",
+        "u8", "0x1_0::a::b", "a::" LONG_NAME, "a::b<>", "()", "| | u8", "/* /** c */ */ u8", "/// c\n u8", "u8 /*", "0x",
+        "x\"", "$", "S{}",
     };
     const char *close[80];
     size_t depth = 60 + below(5), bound = below(4) != 0 ? below(depth + 1) : 0, level, same = below(3);
