@@ -8,8 +8,9 @@ use native.Mathlib.Omega.{arith}
 use lib.ListN.{length, length-drop}
 use Rattle.tokens.specs.declared.Place.{Place}
 use Rattle.tokens.specs.declared.Refusal.{Refusal}
-use Rattle.records.specs.Tree.{Tree, startOf, endOf, Nested}
-use Rattle.records.specs.Stored.{stored}
+use Rattle.records.specs.Tree.{Tree}
+use Rattle.records.specs.Spans.{startOf, endOf, Nested}
+use Rattle.records.specs.code.Narrow.{stored}
 use Rattle.sources.specs.Source.{Source, Lexeme, start, end, after, split, LexResult, tok, bad, lex}
 use Rattle.sources.proofs.Standing.{Standing, Sound, lex-sound}
 use Rattle.answers.specs.Reading.{Ans, ok, no, look, when, refusedAt, Reader}

@@ -21,7 +21,8 @@ use Rattle.sources.specs.Source.{Source, Lexeme, after, LexResult, tok, bad, le
 use Rattle.answers.specs.Reading.{Ans, ok, then, look, when, leafOf, Reader}
 use Rattle.grammar.specs.Types.{readType}
 use Rattle.grammar.specs.Binds.{unpacked, bindOver, fieldOver, readField, readBind}
-use Rattle.forms.specs.Forms.{markIn, spelt, laid, headed}
+use Rattle.forms.specs.Forms.{laid}
+use Rattle.forms.specs.code.Constructs.{markIn, spelt, headed}
 use Rattle.forms.specs.code.Spots.{last, inside, Placed, wordOf}
 use Rattle.forms.specs.declared.Spot.{Spot}
 use Rattle.forms.proofs.Placing.{placed-as}

@@ -6,7 +6,8 @@ use lib.ListN.{length}
 use Rattle.classes.specs.Bytes.{bytes}
 use Rattle.tokens.specs.declared.Token.{Token}
 use Rattle.records.specs.Kinds.{RecName}
-use Rattle.forms.specs.Forms.{markIn, spelt, laid}
+use Rattle.forms.specs.Forms.{laid}
+use Rattle.forms.specs.code.Constructs.{markIn, spelt}
 use Rattle.forms.specs.code.Spots.{last, inside, Placed, wordOf}
 use Rattle.forms.specs.declared.Spot.{Spot}
 use Rattle.forms.proofs.Placing.{placed-as, placed-both}

@@ -17,7 +17,8 @@ use Rattle.sources.specs.Source.{opened}
 use Rattle.answers.specs.Reading.{Ans, ok, then, listBehind}
 use Rattle.grammar.specs.Types.{levels}
 use Rattle.grammar.specs.Binds.{readBind, readBindList, readLambdaList}
-use Rattle.forms.specs.Forms.{markIn, laid, headed, listedRest, laidItems}
+use Rattle.forms.specs.Forms.{laid}
+use Rattle.forms.specs.code.Constructs.{markIn, headed, listedRest, laidItems}
 use Rattle.forms.specs.code.Spots.{last, inside, sealed, Placed}
 use Rattle.forms.specs.declared.Spot.{Spot}
 use Rattle.forms.proofs.Placing.{placed-as}

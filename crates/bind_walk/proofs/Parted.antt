@@ -8,7 +8,8 @@ use Rattle.tokens.specs.declared.Refusal.{Refusal}
 use Rattle.records.specs.Tree.{Tree}
 use Rattle.sources.specs.Source.{Source, opened}
 use Rattle.answers.specs.Reading.{Ans, ok, then}
-use Rattle.forms.specs.Forms.{markIn, laid, headed}
+use Rattle.forms.specs.Forms.{laid}
+use Rattle.forms.specs.code.Constructs.{markIn, headed}
 use Rattle.forms.specs.code.Spots.{last, inside, sealed, Placed}
 use Rattle.forms.specs.declared.Spot.{Spot}
 use Rattle.forms.proofs.Placing.{placed-long, placed-as, placed-both, placed-headed}

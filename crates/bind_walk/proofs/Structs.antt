@@ -21,7 +21,8 @@ use Rattle.answers.specs.Reading.{Ans, ok, no, then, look, when, Reader, listBe
 use Rattle.grammar.specs.Names.{chain}
 use Rattle.grammar.specs.Types.{readType}
 use Rattle.grammar.specs.Binds.{fields, structOver, unpacked}
-use Rattle.forms.specs.Forms.{markIn, laid, headed, laidItems}
+use Rattle.forms.specs.Forms.{laid}
+use Rattle.forms.specs.code.Constructs.{markIn, headed, laidItems}
 use Rattle.forms.specs.code.Spots.{last, inside, Placed}
 use Rattle.forms.specs.declared.Spot.{Spot}
 use Rattle.forms.proofs.Placing.{placed-both}

@@ -10,7 +10,8 @@ use lib.Dec.{eqb, ltb}
 use lib.ListN.{length, take, drop}
 use lib.Seq.{sets, take-append-le, take-all}
 use Rattle.classes.proofs.Bools.{false-true, and-left}
-use Rattle.tokens.specs.Refusals.{NoRoom, LineUnprintable, among}
+use Rattle.tokens.specs.Refusals.{NoRoom, LineUnprintable}
+use Rattle.tokens.specs.RefusalSets.{among}
 use Rattle.tokens.specs.Answers.{refusal, token}
 use Rattle.tokens.specs.declared.Refusal.{Refusal}
 use Rattle.tokens.specs.declared.Fault.{Fault}

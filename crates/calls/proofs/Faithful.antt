@@ -7,10 +7,13 @@ use Prim.Native.Nat.{ℕ, _*_, _≤_}
 use native.Mathlib.Omega.{arith}
 use lib.ListN.{length, take, drop}
 use Rattle.records.specs.Tree.{Tree}
-use Rattle.records.specs.Stored.{stored, unspelled, records}
+use Rattle.records.specs.Stored.{records}
+use Rattle.records.specs.Spans.{unspelled}
+use Rattle.records.specs.code.Narrow.{stored}
 use Rattle.sources.specs.Source.{Lexeme}
 use Rattle.grammar.specs.Items.{item, Asked, readItem}
-use Rattle.forms.specs.Forms.{FormNarrow, FormWide, front, written, narrowLimit, formOf, treeRoom}
+use Rattle.forms.specs.Forms.{FormNarrow, FormWide, front, written, narrowLimit, formOf}
+use Rattle.forms.specs.Sizes.{treeRoom}
 use Rattle.forms.proofs.Constructs.{written-stored}
 use Rattle.forms.proofs.Apart.{form-narrow, form-cases, narrow-begins, wide-begins}
 use Rattle.frames.proofs.Faithful.{item-room, item-faithful}

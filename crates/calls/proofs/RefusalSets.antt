@@ -2,20 +2,21 @@
 use mathlib.Core.Path.{_≡_, refl, subst}
 use mathlib.Core.Bool.{true}
 use mathlib.Core.List.{List}
-use Rattle.forms.specs.Unprintable.{FirstByte, clean, foundAt}
+use Rattle.forms.specs.Unprintable.{FirstByte, clean, foundAt, unprintable}
 use Prim.Native.Nat.{ℕ, min}
 use lib.Dec.{ltb}
 use lib.ListN.{length}
-use Rattle.tokens.specs.Refusals.{NoRoom, among}
+use Rattle.tokens.specs.Refusals.{NoRoom}
+use Rattle.tokens.specs.RefusalSets.{among}
 use Rattle.tokens.specs.declared.Refusal.{Refusal}
 use Rattle.tokens.proofs.RefusalSets.{subset, among-subset}
 use Rattle.records.specs.Tree.{Tree}
 use Rattle.answers.proofs.Sure.{when-sure}
 use Rattle.grammar.specs.Items.{Item, item, refused, Asked, readItem}
 use Rattle.forms.specs.Forms.{written, formOf}
-use Rattle.forms.specs.Unprintable.{unprintable}
 use Rattle.frames.proofs.Faithful.{readRefusals, Told, item-told}
-use Rattle.calls.specs.Calls.{itemRefusals, displayRefusals, lineLimit, roomed, unlessUnprintable, ifPrintable, read, asLine, display}
+use Rattle.calls.specs.Calls.{lineLimit, roomed, unlessUnprintable, ifPrintable, read, asLine, display}
+use Rattle.calls.specs.RefusalSets.{itemRefusals, displayRefusals}
 
 abbrev Met : List ℕ → Item → Type 0
 Met set (item x t) = Unit {0}

@@ -2,7 +2,7 @@
 use mathlib.Core.Path.{_≡_, refl, ap, sym, _∙_, subst}
 use mathlib.Core.Bool.{Bool, true, false, cond, _&&_}
 use mathlib.Core.List.{List}
-use Rattle.forms.specs.Unprintable.{FirstByte, clean, foundAt}
+use Rattle.forms.specs.Unprintable.{FirstByte, clean, foundAt, unprintableIn, unprintable}
 use Prim.Native.Nat.{ℕ, _+_, _-_, _<_, _≤_}
 use native.Mathlib.Omega.{arith}
 use borrow.Author.Tests.{eqb-true, eq-eqb, lt-ltb, le-ltb, ltb-true, ltb-false}
@@ -29,7 +29,6 @@ use Rattle.answers.specs.Reading.{Ans, ok, no, look, when}
 use Rattle.grammar.specs.Values.{value}
 use Rattle.grammar.specs.Items.{Item, item, refused, readKind, followed, finished, Asked, faultOf, reading, readItem}
 use Rattle.grammar.proofs.Asked.{in-order}
-use Rattle.forms.specs.Unprintable.{unprintableIn, unprintable}
 use Rattle.forms.specs.code.Spots.{wordOf}
 use Rattle.forms.proofs.Unprintables.{word-run}
 use Rattle.frames.proofs.Words.{Unprintables, IsClean, other-clean, value-clean, value-string}

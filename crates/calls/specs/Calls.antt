@@ -3,31 +3,20 @@
 -- display that no byte of its line is unprintable.
 use Prim.Native.Nat.{ℕ, _+_, min}
 use mathlib.Core.List.{List, [], _∷_, _++_}
-use Rattle.forms.specs.Unprintable.{FirstByte, clean, foundAt}
+use Rattle.forms.specs.Unprintable.{FirstByte, clean, foundAt, unprintable}
 use lib.Dec.{ltb}
 use lib.ListN.{length, drop}
-use Rattle.tokens.specs.Refusals.{NoRoom, NoToken, CommentNotClosed, HexStringNotClosed, ByteStringNotClosed, StringNotAscii, UnexpectedToken, CommaForItem, ListNotClosed, NoValue, TooDeep, LineUnprintable}
+use Rattle.tokens.specs.Refusals.{NoRoom, LineUnprintable}
 use Rattle.tokens.specs.Answers.{refusal, places}
 use Rattle.records.specs.Tree.{Tree}
 use Rattle.sources.specs.Source.{tokenOf}
 use Rattle.answers.specs.Reading.{when}
-use Rattle.grammar.specs.Items.{Item, item, refused, Asked, faultRefusals, readItem}
+use Rattle.grammar.specs.Items.{Item, item, refused, Asked, readItem}
 use Rattle.forms.specs.Forms.{FormLine, written, formOf}
-use Rattle.forms.specs.Unprintable.{unprintable}
 use Rattle.calls.specs.declared.Answer.{Answer}
 use Rattle.calls.specs.declared.Answer.the-variants.{Item as Accepted, Refused as Rejected}
 use Rattle.calls.specs.declared.Displayed.{Displayed}
 use Rattle.calls.specs.declared.Displayed.the-variants.{Line, Refused as Undisplayed}
-
--- all that a read can meet; a display meets one more
-abbrev pub itemRefusals : List ℕ
-itemRefusals =
-    faultRefusals
-    ++ (NoRoom ∷ NoToken ∷ CommentNotClosed ∷ HexStringNotClosed ∷ ByteStringNotClosed ∷ StringNotAscii
-    ∷ UnexpectedToken ∷ CommaForItem ∷ ListNotClosed ∷ NoValue ∷ TooDeep ∷ [])
-
-abbrev pub displayRefusals : List ℕ
-displayRefusals = LineUnprintable ∷ itemRefusals
 
 -- the longest line
 abbrev pub lineLimit : ℕ

@@ -8,8 +8,7 @@ ghost use Rattle.grammar.specs.Items.{readKind, asked, noKind, numberFault, fau
 ghost use Rattle.forms.specs.Forms.{narrowLimit, laid};
 ghost use Rattle.parts.specs.code.Meets.{ReadsBy};
 ghost use Rattle.calls.specs.Calls.{answered, readBuffer, displayed, displayBuffer};
-ghost use Rattle.calls.specs.code.Given.{refusedWith, atStart, firstForm, roomIn, LaidDown, Widens, Longer, Lays, answerOf, bufferOf, Calls};
-ghost use Rattle.calls.specs.code.Given.{shownEnd, unprintableValue, unprintableAt, replacedBy, UnprintableFrom, Displays};
+ghost use Rattle.calls.specs.code.Given.{refusedWith, atStart, firstForm, roomIn, LaidDown, Widens, Longer, Lays, answerOf, bufferOf, Calls, shownEnd, unprintableValue, unprintableAt, replacedBy, UnprintableFrom, Displays};
 use classes::SHOWN;
 use forms::FORM_LINE;
 use forms::FORM_NARROW;

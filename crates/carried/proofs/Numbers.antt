@@ -8,7 +8,7 @@ use borrow.Author.Tests.{ltb-true, ltb-false}
 use lib.Dec.{leb, ltb}
 use lib.ListN.{length}
 use Rattle.tokens.specs.Answers.{refusal}
-use Rattle.tokens.specs.Refusals.{among, lexRefusals}
+use Rattle.tokens.specs.RefusalSets.{among, lexRefusals}
 use Rattle.tokens.specs.Calls.{textLimit, unless, nextToken}
 use Rattle.tokens.specs.Walk.{Listed, tokensAt}
 use Rattle.tokens.specs.declared.Refusal.{Refusal}
@@ -18,8 +18,8 @@ use Rattle.tokens.specs.declared.Lexed.the-variants.{Refused}
 use Rattle.tokens.proofs.Faults.{Each, each-else, too-long}
 use Rattle.tokens.proofs.RefusalSets.{subset, among-subset, token-text-refusals}
 use Rattle.tokens.proofs.Steps.{next-faulty}
-use Rattle.carried.specs.Carry.{refusalOf, isStart, coveringStart, badNote, carryFault, carryRefusals, rejected, moved, carry}
-use Rattle.carried.specs.Promised.{RefusedWith}
+use Rattle.carried.specs.Carry.{refusalOf, isStart, coveringStart, badNote, carryFault, rejected, moved, carry}
+use Rattle.carried.specs.Promised.{carryRefusals, RefusedWith}
 use Rattle.carried.proofs.Walked.{Walked, over, stopped, going, walked}
 
 abbrev Known : Refusal → Type 0

@@ -20,7 +20,7 @@ use Rattle.tokens.specs.declared.Lexed.the-variants.{Found, Refused}
 use Rattle.tokens.proofs.Again.{found-fits}
 use Rattle.tokens.proofs.Walks.{at-next}
 use Rattle.starts.specs.Allowed.{last, first}
-use Rattle.starts.specs.Step.{step, reached, stepTo}
+use Rattle.starts.specs.code.Step.{step, reached, stepTo}
 use Rattle.starts.specs.declared.Step.{Step}
 use Rattle.carried.specs.Carry.{refusalOf, isStart, covers, coveringStart, badNote}
 use Rattle.carried.specs.Promised.{ToEOF}

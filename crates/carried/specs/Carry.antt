@@ -5,7 +5,7 @@ use mathlib.Core.Bool.{Bool, false, cond, _&&_, _||_, not}
 use mathlib.Core.List.{List, [], _∷_, map}
 use lib.Dec.{eqb, leb, ltb}
 use lib.ListN.{length}
-use Rattle.tokens.specs.Refusals.{TextTooLong, NotATokenStart, lexRefusals}
+use Rattle.tokens.specs.Refusals.{NotATokenStart}
 use Rattle.tokens.specs.Answers.{refusal, places}
 use Rattle.tokens.specs.Calls.{_orElse_, unless}
 use Rattle.tokens.specs.Walk.{Listed, eof, refused, next, tokensAt}
@@ -55,10 +55,6 @@ pub data Outcome : Type 0 where
 -- what the call finds wrong, in this order: the refusal of edition 1, that of edition 2, and then 20
 unfoldable pub carryFault : List ℕ → List ℕ → Fault
 carryFault text notes = refusalOf (tokensAt 1 text 0) orElse refusalOf (tokensAt 2 text 0) orElse badNote (tokensAt 1 text 0) 0 notes
-
--- the numbers that it can be refused with: 1, 5 to 9 and 20
-abbrev pub carryRefusals : List ℕ
-carryRefusals = TextTooLong ∷ NotATokenStart ∷ lexRefusals
 
 -- the call
 unfoldable pub carry : List ℕ → List ℕ → Outcome

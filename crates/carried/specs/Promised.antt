@@ -2,16 +2,17 @@
 use Prim.Native.Nat.{ℕ, _≤_, _<_}
 use mathlib.Core.Path.{_≡_}
 use mathlib.Core.Bool.{true}
-use mathlib.Core.List.{List}
+use mathlib.Core.List.{List, _∷_}
 use lib.ListN.{length, getD}
 use Rattle.words.specs.Kinds.{EOF}
-use Rattle.tokens.specs.Refusals.{among}
+use Rattle.tokens.specs.Refusals.{TextTooLong, NotATokenStart}
+use Rattle.tokens.specs.RefusalSets.{among, lexRefusals}
 use Rattle.tokens.specs.Walk.{Listed, tokensAt}
 use Rattle.tokens.specs.declared.Fault.the-variants.{Faultless}
 use Rattle.tokens.specs.declared.Refusal.{Refusal}
 use Rattle.tokens.specs.declared.Token.{Token}
 use Rattle.starts.specs.Allowed.{TokenOf}
-use Rattle.carried.specs.Carry.{refusalOf, isStart, covers, carryRefusals, rejected, moved, carry, notesAfter}
+use Rattle.carried.specs.Carry.{refusalOf, isStart, covers, rejected, moved, carry, notesAfter}
 
 -- the list ends at EOF: the whole text is read
 abbrev pub ToEOF : Listed → Type 0
@@ -52,6 +53,9 @@ RefusedMovesNone = (text notes : List ℕ) (r : Refusal) → carry text notes �
 abbrev pub ReadInBoth : Type 0
 ReadInBoth = (text : List ℕ) → ToEOF (tokensAt 1 text 0) → ToEOF (tokensAt 2 text 0)
 
--- 5. The numbers that a call can be refused with.
+-- 5. The numbers that a call can be refused with: 1, 5 to 9 and 20.
+abbrev pub carryRefusals : List ℕ
+carryRefusals = TextTooLong ∷ NotATokenStart ∷ lexRefusals
+
 abbrev pub RefusedWith : Type 0
 RefusedWith = (text notes : List ℕ) (r : Refusal) → carry text notes ≡ rejected r → among carryRefusals (r .number) ≡ true

@@ -19,7 +19,8 @@ use Rattle.records.specs.Tree.{Tree}
 use Rattle.sources.specs.Source.{Source, opened, after}
 use Rattle.answers.specs.Reading.{ok, when}
 use Rattle.grammar.specs.Names.{pairOf, threeOf, lastPart, thirdPart, secondPart, chain}
-use Rattle.forms.specs.Forms.{markIn, spelt, laid, headed}
+use Rattle.forms.specs.Forms.{laid}
+use Rattle.forms.specs.code.Constructs.{markIn, spelt, headed}
 use Rattle.forms.specs.code.Spots.{last, inside, sealed, Placed, wordOf}
 use Rattle.forms.specs.declared.Spot.{Spot}
 use Rattle.forms.proofs.Placing.{placed-long, placed-as, placed-both, placed-headed}

@@ -22,7 +22,8 @@ use Rattle.sources.specs.Source.{start, end}
 use Rattle.answers.specs.Reading.{leafOf}
 use Rattle.grammar.specs.Names.{firstPart}
 use Rattle.grammar.specs.Values.{leafKind, valueKind, leafValue, addressValue, value}
-use Rattle.forms.specs.Forms.{markIn, spelt, laid, headed}
+use Rattle.forms.specs.Forms.{laid}
+use Rattle.forms.specs.code.Constructs.{markIn, spelt, headed}
 use Rattle.forms.specs.code.Spots.{last, inside, sealed, Placed, wordOf}
 use Rattle.forms.specs.declared.Spot.{Spot}
 use Rattle.forms.proofs.Placing.{placed-as, placed-both, placed-headed}

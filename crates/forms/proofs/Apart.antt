@@ -10,7 +10,8 @@ use lib.Dec.{ltb}
 use lib.ListN.{length, take, getD}
 use Rattle.classes.proofs.Bools.{or-left, or-right}
 use Rattle.records.specs.Tree.{Tree, leaf, node}
-use Rattle.records.specs.Stored.{two, span, header, stored, records}
+use Rattle.records.specs.Stored.{records}
+use Rattle.records.specs.code.Narrow.{two, span, header, stored}
 use Rattle.records.proofs.Sizes.{node-size}
 use Rattle.forms.specs.Forms.{FormNarrow, FormWide, isLine, front, written, narrowLimit, formOf}
 use Rattle.forms.proofs.Constructs.{written-stored}

@@ -10,9 +10,11 @@ use lib.ListN.{length}
 use Rattle.classes.specs.Bytes.{bytes}
 use Rattle.records.specs.Kinds.{RecTwoPart, RecThreePart, RecPair, RecType, RecRef, RecRefMut, RecFunction, RecUnit, RecTuple, RecBrackets, RecStruct, RecStructTyped, RecField, RecBindList, RecLambdaBindList, RecAddressValue}
 use Rattle.records.specs.Tree.{Tree, leaf, node, Trees, none, more, build, builds, behind, joined}
-use Rattle.records.specs.Stored.{two, span, header, stored, storedAll, littleEndian, headOf}
+use Rattle.records.specs.Stored.{littleEndian, headOf}
+use Rattle.records.specs.code.Narrow.{two, span, header, stored, storedAll}
 use Rattle.forms.specs.Line.{Piece, plain, others, commas, bars, angles, inBrackets, braces, first, later, initial, final, select, isField, isType, shape, kindOfBuild, line, pieces, shown}
-use Rattle.forms.specs.Forms.{FormNarrow, FormLine, isLine, front, headSize, width, head, markIn, spelt, recorded, recordedAll, laid, written, headed, listedRest, laidItems, inBars, inAngles}
+use Rattle.forms.specs.Forms.{FormNarrow, FormLine, isLine, front, headSize, width, head, recorded, recordedAll, laid, written}
+use Rattle.forms.specs.code.Constructs.{markIn, spelt, headed, listedRest, laidItems, inBars, inAngles}
 
 -- the narrow form and the line
 mutual

@@ -5,10 +5,13 @@ use mathlib.Core.List.{List, [], _++_, append-nil, append-assoc}
 use Prim.Native.Nat.{ℕ, _+_, _^_, _<_}
 use native.Mathlib.Omega.{arith}
 use lib.ListN.{length, length-append}
-use Rattle.records.specs.Tree.{Tree, leaf, node, Trees, none, more, startOf, endOf, Nested, Within}
-use Rattle.records.specs.Stored.{headOf, unspelled, unspelledAll, Kinds, KindsAll}
+use Rattle.records.specs.Tree.{Tree, leaf, node, Trees, none, more}
+use Rattle.records.specs.Spans.{startOf, endOf, Nested, Within, unspelled, unspelledAll}
+use Rattle.records.specs.Stored.{headOf}
+use Rattle.records.specs.code.Narrow.{Kinds, KindsAll}
 use Rattle.records.proofs.Numbers.{split, number-same, head-same}
-use Rattle.forms.specs.Forms.{isLine, isNarrow, front, headSize, width, head, recorded, recordedAll, laid, written, Fitting, FittingAll}
+use Rattle.forms.specs.Forms.{isLine, isNarrow, front, headSize, width, head, recorded, recordedAll, laid, written}
+use Rattle.forms.specs.Sizes.{Fitting, FittingAll}
 use Rattle.forms.proofs.Placing.{head-long}
 use Rattle.forms.proofs.Sizes.{head-is}
 

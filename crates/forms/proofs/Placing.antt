@@ -10,10 +10,12 @@ use lib.Dec.{ltb}
 use lib.ListN.{length, length-append}
 use lib.Seq.{sets, length-sets}
 use Rattle.buffer.proofs.Sets.{sets-append, sets-out}
-use Rattle.records.specs.Stored.{two, span, header, littleEndian, headOf}
+use Rattle.records.specs.Stored.{littleEndian, headOf}
+use Rattle.records.specs.code.Narrow.{two, span, header}
 use Rattle.records.proofs.Numbers.{number-turns, head-long as long-head}
 use Rattle.records.proofs.Runs.{sets-below}
-use Rattle.forms.specs.Forms.{FormNarrow, FormLine, isLine, isNarrow, head, headSize, width, markIn, headed}
+use Rattle.forms.specs.Forms.{FormNarrow, FormLine, isLine, isNarrow, head, headSize, width}
+use Rattle.forms.specs.code.Constructs.{markIn, headed}
 use Rattle.forms.specs.code.Spots.{last, cap, wide, movedBy, sizeBetween, Placed, inside, sealed}
 use Rattle.forms.specs.declared.Spot.{Spot}
 

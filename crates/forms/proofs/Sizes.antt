@@ -8,7 +8,8 @@ use native.Mathlib.Nat.{mul-zero, mul-one, mul-suc, mul-add}
 use lib.ListN.{length, take, length-append}
 use lib.Seq.{take-append-seam}
 use Rattle.records.specs.Tree.{Tree, leaf, node, Trees, none, more, build, builds}
-use Rattle.records.specs.Stored.{littleEndian, headOf, stored, counted, countedAll, records}
+use Rattle.records.specs.Stored.{littleEndian, headOf, counted, countedAll, records}
+use Rattle.records.specs.code.Narrow.{stored}
 use Rattle.records.proofs.Numbers.{number-long}
 use Rattle.forms.specs.Forms.{FormNarrow, FormWide, isLine, front, headSize, width, head, recorded, recordedAll, laid, written}
 use Rattle.forms.proofs.Placing.{head-long}

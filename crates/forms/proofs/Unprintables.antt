@@ -4,7 +4,7 @@ use mathlib.Core.Path.{_≡_, refl, ap, sym, _∙_, subst}
 use mathlib.Core.Bool.{Bool, true, false, cond, not, _&&_, _||_}
 use mathlib.Core.List.{List, [], _∷_, _++_}
 use mathlib.Core.Logic.{_↔_}
-use Rattle.forms.specs.Unprintable.{FirstByte, clean, foundAt}
+use Rattle.forms.specs.Unprintable.{FirstByte, clean, foundAt, isUnprintable, isString, unprintableIn, firstOf, unprintable, unprintableAll}
 use Prim.Native.Nat.{ℕ, suc, _+_, _<_, _≤_}
 use native.Mathlib.Omega.{arith}
 use borrow.Author.Tests.{leb-true, ltb-true, ltb-false, le-ltb, lt-ltb, le-leb, eqb-false, ne-eqb}
@@ -18,7 +18,6 @@ use Rattle.classes.proofs.All.{all-join}
 use Rattle.records.specs.Kinds.{RecTwoPart, RecThreePart, RecPair, RecType, RecRef, RecRefMut, RecFunction, RecUnit, RecTuple, RecBrackets, RecStruct, RecStructTyped, RecField, RecBindList, RecLambdaBindList, RecAddressValue}
 use Rattle.records.specs.Tree.{Tree, leaf, node, Trees, none, more, Build, spelled, made, Builds, bnone, bmore, build, builds}
 use Rattle.forms.specs.Line.{Piece, plain, others, commas, bars, angles, inBrackets, braces, first, later, initial, final, select, isField, isType, shape, line, pieces, shown}
-use Rattle.forms.specs.Unprintable.{isUnprintable, isString, unprintableIn, firstOf, unprintable, unprintableAll}
 
 -- bytes that show; children, and lists of lines, whose bytes do
 abbrev Say : List ℕ → Type 0

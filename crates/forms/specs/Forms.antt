@@ -1,11 +1,10 @@
 -- How a tree is laid down, by its form: as records, narrow or wide, each a head and its children; or as the display line. A form decides
 -- what stands in front of the tree, the head in front of a record, the marks in front of children, between and behind them, and a leaf.
-use Prim.Native.Nat.{ℕ, _+_, _*_, _^_, _<_}
+use Prim.Native.Nat.{ℕ, _+_, _*_}
 use mathlib.Core.Bool.{Bool, cond, _||_}
 use mathlib.Core.List.{List, [], _∷_, _++_}
 use lib.Dec.{eqb, ltb}
 use lib.ListN.{length}
-use Rattle.classes.specs.Bytes.{bytes}
 use Rattle.records.specs.Tree.{Tree, leaf, node, Trees, none, more}
 use Rattle.records.specs.Stored.{headOf, records}
 use Rattle.forms.specs.Line.{shown}
@@ -41,13 +40,6 @@ width f = cond (isNarrow f) 2 4
 unfoldable pub head : ℕ → ℕ → ℕ → ℕ → ℕ → List ℕ
 head f n k s e = cond (isLine f) [] (headOf (width f) (n + headSize f) k s e)
 
--- marks, and a leaf that is spelled w
-unfoldable pub markIn : ℕ → List ℕ → List ℕ
-markIn f m = cond (isLine f) m []
-
-unfoldable pub spelt : ℕ → ℕ → ℕ → ℕ → List ℕ → List ℕ
-spelt f k s e w = cond (isLine f) w (head f 0 k s e)
-
 -- a tree as records
 unfoldable mutual
   pub recorded : ℕ → Tree → List ℕ
@@ -72,39 +64,3 @@ narrowLimit = 65535
 
 unfoldable pub formOf : List ℕ → Tree → ℕ
 formOf text t = cond (ltb narrowLimit (length text) || ltb narrowLimit (8 * records t)) FormWide FormNarrow
-
--- room for the tree of every item of a text of n bytes: at most three records of 14 bytes for each byte of the text, and what stands in
--- front
-abbrev pub treeRoom : ℕ → ℕ
-treeRoom n = 4 + 42 * n
-
--- each number of a tree's records fits the bytes that it has in the form
-unfoldable mutual
-  pub Fitting : ℕ → Tree → Type 0
-  Fitting f (leaf k s e w) = (k < 65536) × (s < 256 ^ width f) × (e < 256 ^ width f)
-  Fitting f (node k s e ts) = (k < 65536) × (s < 256 ^ width f) × (e < 256 ^ width f) × (length (recordedAll f ts) + headSize f < 256 ^ width f) × FittingAll f ts
-
-  pub FittingAll : ℕ → Trees → Type 0
-  FittingAll f none = Unit {0}
-  FittingAll f (more t ts) = Fitting f t × FittingAll f ts
-
--- what the constructs are made of: a head in front of bytes; the items of a list; and lists in marks, where `| |` round nothing keeps
--- its marks apart and a type without arguments has no `<`
-unfoldable pub headed : ℕ → ℕ → ℕ → ℕ → List ℕ → List ℕ
-headed f k s e body = head f (length body) k s e ++ body
-
-unfoldable pub listedRest : ℕ → Trees → List ℕ
-listedRest f none = []
-listedRest f (more t ts) = markIn f (bytes ", ") ++ (laid f t ++ listedRest f ts)
-
-unfoldable pub laidItems : ℕ → Trees → List ℕ
-laidItems f none = []
-laidItems f (more t ts) = laid f t ++ listedRest f ts
-
-unfoldable pub inBars : ℕ → Trees → List ℕ
-inBars f none = markIn f (bytes "|") ++ markIn f (bytes " |")
-inBars f (more t ts) = markIn f (bytes "|") ++ (laidItems f (more t ts) ++ markIn f (bytes "|"))
-
-unfoldable pub inAngles : ℕ → Trees → List ℕ
-inAngles f none = []
-inAngles f (more t ts) = markIn f (bytes "<") ++ (laidItems f (more t ts) ++ markIn f (bytes ">"))

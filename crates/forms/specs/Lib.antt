@@ -1,4 +1,5 @@
 pub mod Line
 pub mod Unprintable
 pub mod Forms
+pub mod Sizes
 pub mod code

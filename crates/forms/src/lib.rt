@@ -9,7 +9,8 @@ ghost use lib.Dec.{ltb};
 ghost use lib.ListN.{length};
 ghost use lib.Seq.{sets};
 ghost use Rattle.classes.specs.Bytes.{bytes};
-ghost use Rattle.forms.specs.Forms.{front, head, headSize, markIn, spelt};
+ghost use Rattle.forms.specs.Forms.{front, head, headSize};
+ghost use Rattle.forms.specs.code.Constructs.{markIn, spelt};
 ghost use Rattle.forms.specs.code.Spots.{cap, movedBy, sizeBetween, Placed, inside, sealed, wordOf};
 use tokens::Token;
 

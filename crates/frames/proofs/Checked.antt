@@ -5,15 +5,16 @@ use mathlib.Core.Bool.{true}
 use mathlib.Core.List.{List, [], _∷_, _++_}
 use Prim.Native.Nat.{ℕ, zero, suc, _+_, _-_, _<_, _≤_}
 use native.Mathlib.Omega.{arith}
-use Rattle.tokens.specs.Refusals.{UnexpectedToken, CommaForItem, ListNotClosed, NoValue, TooDeep, among, lexRefusals}
+use Rattle.tokens.specs.Refusals.{UnexpectedToken, CommaForItem, ListNotClosed, NoValue, TooDeep}
+use Rattle.tokens.specs.RefusalSets.{among, lexRefusals}
 use Rattle.tokens.specs.Token.{Scanned, tok as found, bad as faulty, scan}
 use Rattle.tokens.proofs.RefusalSets.{subset, among-subset, LexMet, lex-met}
 use Rattle.records.specs.Tree.{Tree, Trees}
-use Rattle.records.specs.Stored.{Kinds, KindsAll}
+use Rattle.records.specs.code.Narrow.{Kinds, KindsAll}
 use Rattle.sources.specs.Source.{Source, Lexeme, LexResult, tok, bad, scanned, lex}
 use Rattle.answers.specs.Reading.{Ans, ok, no, Reader}
-use Rattle.frames.specs.Related.{Step, Met, toks, bads, Rel, oks, nos, quit}
-use Rattle.frames.specs.Shape.{Shape, Alike, leaves, nodes, AllAlike, nones, mores, framed, Shapely, Strings}
+use Rattle.frames.specs.code.Related.{Step, Met, toks, bads, Rel, oks, nos, quit}
+use Rattle.frames.specs.code.Shape.{Shape, Alike, leaves, nodes, AllAlike, nones, mores, framed, Shapely, Strings}
 use Rattle.frames.proofs.Shapes.{Obeys}
 
 -- what the lexer refuses, and what readers do

@@ -10,8 +10,8 @@ use Rattle.sources.specs.Source.{Source, Lexeme, LexResult, tok, bad, lex}
 use Rattle.answers.specs.Reading.{Ans, ok, no}
 use Rattle.grammar.specs.Types.{typeOver, brackets, readType}
 use Rattle.grammar.specs.Binds.{readField, readBind}
-use Rattle.frames.specs.Related.{aType, aField, aBind, Step, Met, toks, bads, Rel, oks, nos, quit, RelReader}
-use Rattle.frames.specs.Shape.{Shape, Alike, leaves, nodes, AllAlike, nones, mores, Refused, framed, Shapely}
+use Rattle.frames.specs.code.Related.{aType, aField, aBind, Step, Met, toks, bads, Rel, oks, nos, quit, RelReader}
+use Rattle.frames.specs.code.Shape.{Shape, Alike, leaves, nodes, AllAlike, nones, mores, Refused, framed, Shapely}
 use Rattle.frames.proofs.Ways.{near}
 use Rattle.frames.proofs.Readers.{type-over-rel, bind-over-rel, field-over-rel}
 use Rattle.frames.proofs.Shapes.{law as law-of, short}

@@ -11,7 +11,7 @@ use Rattle.sources.specs.Source.{Source, Lexeme, after, split, LexResult, tok, 
 use Rattle.sources.proofs.Standing.{Standing, Sound, lex-sound}
 use Rattle.answers.specs.Reading.{Ans, ok, no, Reader, listBehind}
 use Rattle.grammar.specs.Types.{bracketed}
-use Rattle.frames.specs.Related.{Sort, Part, mark, leaf, one, many, Frame, Goes, Step, Met, toks, bads, left, Rel, oks, nos, quit, RelReader, Lawful}
+use Rattle.frames.specs.code.Related.{Sort, Part, mark, leaf, one, many, Frame, Goes, Step, Met, toks, bads, left, Rel, oks, nos, quit, RelReader, Lawful}
 use Rattle.frames.proofs.Ways.{near, behind-rel}
 
 pub record Facts : Type 1 where

@@ -7,19 +7,23 @@ use mathlib.Core.List.{List, _++_}
 use Prim.Native.Nat.{ℕ, _*_, _≤_}
 use native.Mathlib.Omega.{arith}
 use lib.ListN.{length}
-use Rattle.tokens.specs.Refusals.{among, lexRefusals}
+use Rattle.tokens.specs.RefusalSets.{among, lexRefusals}
 use Rattle.tokens.specs.Calls.{textLimit}
 use Rattle.tokens.specs.declared.Refusal.{Refusal}
 use Rattle.tokens.proofs.Faults.{unless-sure}
 use Rattle.tokens.proofs.RefusalSets.{subset, among-subset}
 use Rattle.records.specs.Tree.{Tree}
-use Rattle.records.specs.Stored.{unspelled, records, Kinds}
+use Rattle.records.specs.Stored.{records}
+use Rattle.records.specs.Spans.{unspelled}
+use Rattle.records.specs.code.Narrow.{Kinds}
 use Rattle.sources.specs.Source.{opened, Lexeme, LexResult, tok, bad, lex}
 use Rattle.answers.specs.Reading.{Ans, ok, no, look}
-use Rattle.grammar.specs.Items.{Item, item, refused, readKind, followed, finished, Asked, faultOf, faultRefusals, reading, readItem}
+use Rattle.grammar.specs.Items.{Item, item, refused, readKind, followed, finished, Asked, faultOf, reading, readItem}
+use Rattle.grammar.specs.RefusalSets.{faultRefusals}
 use Rattle.grammar.proofs.Asked.{fault-each, in-order}
 use Rattle.frames.proofs.Held.{HeldItem, Held, item-held}
-use Rattle.forms.specs.Forms.{FormNarrow, FormWide, headSize, width, written, formOf, treeRoom, Fitting}
+use Rattle.forms.specs.Forms.{FormNarrow, FormWide, headSize, width, written, formOf}
+use Rattle.forms.specs.Sizes.{treeRoom, Fitting}
 use Rattle.forms.proofs.Constructs.{written-stored}
 use Rattle.forms.proofs.Sizes.{recorded-size, narrow-size, wide-size}
 use Rattle.forms.proofs.Injective.{fitting-tree, written-injective}

@@ -5,8 +5,9 @@ use native.Mathlib.Omega.{arith}
 use lib.ListN.{length, length-drop}
 use Rattle.tokens.specs.Answers.{refusal}
 use Rattle.tokens.proofs.Faults.{Each, unless-sure}
-use Rattle.records.specs.Tree.{Tree, startOf, endOf, Nested}
-use Rattle.records.specs.Stored.{stored}
+use Rattle.records.specs.Tree.{Tree}
+use Rattle.records.specs.Spans.{startOf, endOf, Nested}
+use Rattle.records.specs.code.Narrow.{stored}
 use Rattle.sources.specs.Source.{Source, opened, Lexeme, start, end, LexResult, tok, bad, lex}
 use Rattle.sources.proofs.Standing.{Sound, lex-sound}
 use Rattle.answers.specs.Reading.{Ans, ok, no}

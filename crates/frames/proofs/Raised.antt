@@ -13,15 +13,16 @@ use Rattle.tokens.proofs.Faults.{unless-not}
 use Rattle.records.specs.Tree.{Tree, Trees}
 use Rattle.records.specs.Raise.{raiseTree, raiseTrees}
 use Rattle.sources.specs.Source.{Source, opened, moved, Lexeme, LexResult, tok, bad, lex}
-use Rattle.sources.specs.Raise.{raiseSource, raiseToken, raiseScanned}
+use Rattle.sources.specs.Raise.{raiseSource, raiseToken}
+use Rattle.sources.specs.code.Raise.{raiseScanned}
 use Rattle.sources.proofs.Raised.{past-raised, lex-raised}
 use Rattle.answers.specs.Reading.{Ans, ok, no, look, Reader}
-use Rattle.answers.specs.Raise.{raiseAns}
-use Rattle.grammar.specs.Items.{refused, readKind, followed, finished, Asked, ofText, faultOf, readItem}
-use Rattle.grammar.specs.Raise.{raiseItem}
+use Rattle.answers.specs.code.Raise.{raiseAns}
+use Rattle.grammar.specs.Items.{refused, readKind, followed, finished, Asked, faultOf, readItem}
+use Rattle.grammar.specs.Raise.{ofText, raiseItem}
 use Rattle.grammar.proofs.Asked.{in-order, of-text}
-use Rattle.frames.specs.Related.{Step, Met, toks, bads, Rel, oks, nos, quit}
-use Rattle.frames.specs.Shape.{Shape, Alike, leaves, nodes, AllAlike, nones, mores, Refused, framed, Shapely, Strings}
+use Rattle.frames.specs.code.Related.{Step, Met, toks, bads, Rel, oks, nos, quit}
+use Rattle.frames.specs.code.Shape.{Shape, Alike, leaves, nodes, AllAlike, nones, mores, Refused, framed, Shapely, Strings}
 use Rattle.frames.proofs.Shapes.{Obeys, kind-obeys}
 
 module _ (k : ℕ) where

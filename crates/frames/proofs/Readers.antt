@@ -18,9 +18,7 @@ use Rattle.grammar.specs.Values.{leafKind, valueKind, leafValue, addressValue, 
 use Rattle.grammar.specs.Types.{levels, spanned, bracketed, brackets, reference, function, withArguments, named, typeBy, typeOver, readType}
 use Rattle.grammar.specs.Binds.{isStruct, fields, structOver, unpacked, bindOver, fieldOver, readField, readBind, bindListOver, lambdaListOver, readBindList, readLambdaList}
 use Rattle.grammar.specs.Items.{kindOver, readKind}
-use Rattle.frames.specs.Related.{Sort, aName, aPair, aValue, aType, aField, aBind, aBindList, aLambdaList, Role, name, first, onePart, variable, Fits, aPart, aVariable, Part, mark, one, many}
-use Rattle.frames.specs.Related.{Rule, pair, two, three, address, shared, mutable, function as functional, plain, applied, struct, typed, field as fielded, several, alone, lambda}
-use Rattle.frames.specs.Related.{Frame, Goes, Step, At, Mark, Rel, oks, nos, Near, RelReader, Lawful, Starts, Literal, Short}
+use Rattle.frames.specs.code.Related.{Sort, aName, aPair, aValue, aType, aField, aBind, aBindList, aLambdaList, Role, name, first, onePart, variable, Fits, aPart, aVariable, Part, mark, one, many, Rule, pair, two, three, address, shared, mutable, function as functional, plain, applied, struct, typed, field as fielded, several, alone, lambda, Frame, Goes, Step, At, Mark, Rel, oks, nos, Near, RelReader, Lawful, Starts, Literal, Short}
 use Rattle.frames.proofs.Ways.{goes, is, begins, marks, on, past, look-rel, when-rel, by-kind, then-rel, at-rel, unexpected-rel, also, behind-rel}
 
 -- the kinds of tokens that begin a name or are a value by themselves

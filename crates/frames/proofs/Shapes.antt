@@ -19,8 +19,8 @@ use Rattle.grammar.specs.Types.{spanned, bracketed}
 use Rattle.grammar.specs.Items.{readKind}
 use Rattle.forms.specs.Line.{isField, isType}
 use Rattle.forms.specs.Unprintable.{isString}
-use Rattle.frames.specs.Related.{Sort, aName, aPair, aValue, aType, aField, aBind, aBindList, aLambdaList, Part, Rule, pair, two, three, address, shared, mutable, function, plain, applied, struct, typed, field, several, alone, lambda, Role, name, first, onePart, variable, kindOf, Fits, Step, Rel, RelReader, Lawful, Literal, Short, left}
-use Rattle.frames.specs.Shape.{Shape, Alike, leaves, nodes, AllAlike, nones, mores, framed, Shapely, Strings}
+use Rattle.frames.specs.code.Related.{Sort, aName, aPair, aValue, aType, aField, aBind, aBindList, aLambdaList, Part, Rule, pair, two, three, address, shared, mutable, function, plain, applied, struct, typed, field, several, alone, lambda, Role, name, first, onePart, variable, kindOf, Fits, Step, Rel, RelReader, Lawful, Literal, Short, left}
+use Rattle.frames.specs.code.Shape.{Shape, Alike, leaves, nodes, AllAlike, nones, mores, framed, Shapely, Strings}
 use Rattle.frames.proofs.Ways.{near}
 use Rattle.frames.proofs.Readers.{value-is, sortOf, kind-same}
 

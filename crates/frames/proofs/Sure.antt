@@ -8,8 +8,9 @@ use borrow.Author.Tests.{eqb-true}
 use lib.ListN.{length, getD}
 use Rattle.tokens.specs.declared.Refusal.{Refusal}
 use Rattle.records.specs.Kinds.{RecName, RecVariable, RecField, RecUnit}
-use Rattle.records.specs.Tree.{Tree, node, Trees, none, more, behind, joined, startOf, endOf, Nested, Within}
-use Rattle.records.specs.Stored.{stored, storedAll}
+use Rattle.records.specs.Tree.{Tree, node, Trees, none, more, behind, joined}
+use Rattle.records.specs.Spans.{startOf, endOf, Nested, Within}
+use Rattle.records.specs.code.Narrow.{stored, storedAll}
 use Rattle.records.proofs.Nesting.{wider, nested-order}
 use Rattle.records.proofs.Sizes.{leaf-size, node-size, size-none, size-more}
 use Rattle.sources.specs.Source.{Source, Lexeme, start, end, word, after, bad, lex}
@@ -21,7 +22,7 @@ use Rattle.grammar.specs.Values.{valueKind}
 use Rattle.grammar.specs.Types.{bracketed, readType}
 use Rattle.grammar.specs.Binds.{readField, readBind}
 use Rattle.grammar.specs.Items.{readKind}
-use Rattle.frames.specs.Related.{Sort, aName, aPair, aValue, aType, aField, aBind, aBindList, aLambdaList, Lone, aPart, aVariable, Role, Fits, kindOf, Part, Rule, pair, two, three, address, shared, mutable, function, plain, applied, struct, typed, field, several, alone, lambda, Frame, RelReader, Lawful, Literal, Short}
+use Rattle.frames.specs.code.Related.{Sort, aName, aPair, aValue, aType, aField, aBind, aBindList, aLambdaList, Lone, aPart, aVariable, Role, Fits, kindOf, Part, Rule, pair, two, three, address, shared, mutable, function, plain, applied, struct, typed, field, several, alone, lambda, Frame, RelReader, Lawful, Literal, Short}
 use Rattle.frames.proofs.Ways.{goes-some}
 use Rattle.frames.proofs.Readers.{fits-goes, leaf-goes, sortOf, type-same, field-same, bind-same, kind-same}
 use Rattle.frames.proofs.Facts.{Facts, about, Fact, stands, Of, reader-of, met, weigh}

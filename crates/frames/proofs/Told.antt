@@ -12,7 +12,7 @@ use Rattle.grammar.specs.Types.{bracketed, readType}
 use Rattle.grammar.specs.Binds.{fields, readField, readBind}
 use Rattle.forms.specs.Line.{isField, isType, kindOfBuild}
 use Rattle.forms.proofs.Constructs.{Every}
-use Rattle.frames.specs.Related.{Sort, aType, aField, Role, Lone, aPart, aVariable, kindOf, Frame, Lawful, Short}
+use Rattle.frames.specs.code.Related.{Sort, aType, aField, Role, Lone, aPart, aVariable, kindOf, Frame, Lawful, Short}
 use Rattle.frames.proofs.Readers.{type-same, field-same}
 use Rattle.frames.proofs.Facts.{Facts, about, Fact, Of, list-of, met}
 use Rattle.frames.proofs.Shapes.{due, kind-fits}

@@ -12,7 +12,7 @@ use Rattle.grammar.specs.Types.{levels, bracketed, typeBy}
 use Rattle.grammar.specs.Binds.{bindOver, readField}
 use Rattle.grammar.specs.Items.{Item, refused, readKind, followed, finished, Asked, faultOf, reading, readItem}
 use Rattle.grammar.specs.Rust.{rustBracketed, rustBrackets, rustOver, rustType, rustBind, rustKind, rustItem, unbracketedItem}
-use Rattle.frames.specs.Related.{Frame, Step, Met, toks, bads, Rel, oks, nos, quit, Lawful, Literal, Short}
+use Rattle.frames.specs.code.Related.{Frame, Step, Met, toks, bads, Rel, oks, nos, quit, Lawful, Literal, Short}
 use Rattle.frames.proofs.Ways.{near}
 use Rattle.frames.proofs.Readers.{wrapped, typeBeside, bindBeside, kind-rel}
 use Rattle.frames.proofs.Shapes.{kind-fits}

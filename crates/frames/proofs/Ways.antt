@@ -14,7 +14,7 @@ use Rattle.sources.proofs.Standing.{Standing, Sound, lex-sound}
 use Rattle.answers.specs.Reading.{Ans, no, then, look, when, closed, refusedAt, Reader, list, listBehind}
 use Rattle.answers.proofs.Further.{here-left}
 use Rattle.answers.proofs.Sure.{standing-from}
-use Rattle.frames.specs.Related.{Sort, Frame, Goes, Step, Met, toks, bads, At, Mark, left, On, Rel, oks, nos, quit, Near, RelReader, Lawful}
+use Rattle.frames.specs.code.Related.{Sort, Frame, Goes, Step, Met, toks, bads, At, Mark, left, On, Rel, oks, nos, quit, Near, RelReader, Lawful}
 
 -- a kind that a test named
 pub goes : (k c : ℕ) → eqb k c ≡ true → Goes c → Goes k

@@ -4,7 +4,7 @@
 use mathlib.Core.Path.{_≡_, refl, sym, _∙_, subst}
 use mathlib.Core.Bool.{Bool, true, false, cond, _&&_}
 use mathlib.Core.List.{List, []}
-use Rattle.forms.specs.Unprintable.{FirstByte, clean, foundAt}
+use Rattle.forms.specs.Unprintable.{FirstByte, clean, foundAt, isString, unprintableIn, firstOf, unprintable, unprintableAll}
 use Prim.Native.Nat.{ℕ}
 use native.Mathlib.Omega.{arith}
 use borrow.Author.Tests.{eqb-true}
@@ -27,10 +27,9 @@ use Rattle.answers.proofs.Sure.{when-sure}
 use Rattle.grammar.specs.Names.{isFirst}
 use Rattle.grammar.specs.Values.{valueKind, leafValue, addressValue, value}
 use Rattle.grammar.specs.Items.{Item, item, refused, readKind, followed, finished, Asked, faultOf, reading, readItem}
-use Rattle.forms.specs.Unprintable.{isString, unprintableIn, firstOf, unprintable, unprintableAll}
 use Rattle.forms.proofs.Unprintables.{WordsShow, AllWordsShow, clean-word}
-use Rattle.frames.specs.Related.{Step, Met, toks, bads, Rel, oks, nos, quit}
-use Rattle.frames.specs.Shape.{Shape, Alike, leaves, nodes, AllAlike, nones, mores, framed, Shapely, Strings}
+use Rattle.frames.specs.code.Related.{Step, Met, toks, bads, Rel, oks, nos, quit}
+use Rattle.frames.specs.code.Shape.{Shape, Alike, leaves, nodes, AllAlike, nones, mores, framed, Shapely, Strings}
 use Rattle.frames.proofs.Ways.{near}
 use Rattle.frames.proofs.Shapes.{value-leaf, kind-shaped}
 

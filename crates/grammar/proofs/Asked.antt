@@ -14,7 +14,8 @@ use Rattle.starts.specs.declared.Beginning.the-variants.{Allowed}
 use Rattle.starts.proofs.Allowed.{zero-begins}
 use Rattle.starts.proofs.StartFaults.{OfText, start-each, may-begin, no-start-fault}
 use Rattle.tokens.proofs.Faults.{Each, each-if, each-else, place-each, no-two, neither, if-not, not-if, placed, in-place}
-use Rattle.grammar.specs.Items.{Asked, ofText, noKind, numberFault, faultOf}
+use Rattle.grammar.specs.Items.{Asked, noKind, numberFault, faultOf}
+use Rattle.grammar.specs.Raise.{ofText}
 
 -- what a faultless question is
 pub record InOrder (q : Asked) : Type 0 where

@@ -1,9 +1,9 @@
 -- The five kinds of items, read at an offset of a text in an edition.
 use Prim.Native.Nat.{ℕ}
 use mathlib.Core.Bool.{Bool, _||_}
-use mathlib.Core.List.{List, [], _∷_}
+use mathlib.Core.List.{List}
 use lib.Dec.{eqb, ltb}
-use Rattle.tokens.specs.Refusals.{TextTooLong, StartPastEnd, NoSuchKind, NoSuchEdition, NothingStarts}
+use Rattle.tokens.specs.Refusals.{NoSuchKind}
 use Rattle.tokens.specs.Calls.{faultIf, _orElse_, placeFault, editionFault, unless}
 use Rattle.tokens.specs.declared.Fault.{Fault}
 use Rattle.tokens.specs.declared.Refusal.{Refusal}
@@ -51,13 +51,6 @@ pub record Asked : Type 0 where
 abbrev pub asked : (kind edition : ℕ) (text : List ℕ) (at : ℕ) → Asked
 asked kind ed text at = record { kind = kind; edition = ed; text = text; at = at }
 
--- the same asked of another text, from 0; and in another edition
-abbrev pub ofText : List ℕ → Asked → Asked
-ofText text q = record { kind = q .kind; edition = q .edition; text = text; at = 0 }
-
-abbrev pub inEdition : ℕ → Asked → Asked
-inEdition ed q = record { kind = q .kind; edition = ed; text = q .text; at = q .at }
-
 -- a number that is no kind of item
 abbrev pub noKind : ℕ → Bool
 noKind kind = eqb kind 0 || ltb 5 kind
@@ -69,10 +62,6 @@ numberFault q = placeFault (q .text) (q .at) orElse faultIf (noKind (q .kind)) N
 -- and before the item is: then, where reading may not begin at the offset, 21 or the refusal of what starts before it
 unfoldable pub faultOf : Asked → Fault
 faultOf q = numberFault q orElse startFault (q .edition) (q .text) (q .at)
-
--- the numbers that only a fault has
-abbrev pub faultRefusals : List ℕ
-faultRefusals = TextTooLong ∷ StartPastEnd ∷ NoSuchKind ∷ NoSuchEdition ∷ NothingStarts ∷ []
 
 -- what is read from the offset on, by a reader for each kind
 abbrev pub readingOver : (ℕ → Reader) → Asked → Ans Tree

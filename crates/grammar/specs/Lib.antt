@@ -5,3 +5,5 @@ pub mod Binds
 pub mod Items
 pub mod Rust
 pub mod Raise
+pub mod RefusalSets
+pub mod code

@@ -16,7 +16,7 @@ use Rattle.records.specs.Stored.{countedAll, records}
 use Rattle.sources.specs.Source.{Source, opened, Lexeme, start, end, word, tok, lex}
 use Rattle.answers.specs.Reading.{ok, leafOf}
 use Rattle.grammar.specs.Types.{readType}
-use Rattle.frames.specs.Related.{Sort, aName, aPair, aValue, aType, aField, aBind, aBindList, aLambdaList, Role, name, first, kindOf, Fits, Lone, aPart, aVariable, Part, mark, leaf, one, many, Rule, pair, two, three, address, shared, mutable, function, plain, applied, struct, typed, field, several, alone, lambda, Frame, Lawful, Starts}
+use Rattle.frames.specs.code.Related.{Sort, aName, aPair, aValue, aType, aField, aBind, aBindList, aLambdaList, Role, name, first, kindOf, Fits, Lone, aPart, aVariable, Part, mark, leaf, one, many, Rule, pair, two, three, address, shared, mutable, function, plain, applied, struct, typed, field, several, alone, lambda, Frame, Lawful, Starts}
 use Rattle.frames.proofs.Ways.{goes-some}
 use Rattle.frames.proofs.Readers.{fits-goes, type-same}
 use Rattle.frames.proofs.Facts.{Facts, about, Fact, stands, Of, reader-of, met}

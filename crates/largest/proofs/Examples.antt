@@ -11,7 +11,8 @@ use Rattle.words.specs.Tables.{keywords, longMarks, doubleMarks, singleMarks, m
 use Rattle.words.specs.Search.{same, lookup, kindOf, longest, markOf}
 use Rattle.tokens.specs.Token.{opensString, name, wordToken, mark, findToken, placed, behindGap, scan}
 use Rattle.tokens.specs.Calls.{_orElse_, placeFault, unless}
-use Rattle.records.specs.Tree.{build, builds, behind, startOf, endOf}
+use Rattle.records.specs.Tree.{build, builds, behind}
+use Rattle.records.specs.Spans.{startOf, endOf}
 use Rattle.records.specs.Stored.{counted, countedAll, records}
 use Rattle.sources.specs.Source.{scanned, lex}
 use Rattle.answers.specs.Reading.{then, look, when, closed, list, listBehind}

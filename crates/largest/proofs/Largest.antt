@@ -12,7 +12,8 @@ use Rattle.words.specs.Kinds.{EOF}
 use Rattle.tokens.specs.Answers.{token}
 use Rattle.tokens.specs.Calls.{textLimit, noEdition}
 use Rattle.tokens.proofs.Faults.{unless-not}
-use Rattle.records.specs.Tree.{Tree, startOf, endOf, build, builds}
+use Rattle.records.specs.Tree.{Tree, build, builds}
+use Rattle.records.specs.Spans.{startOf, endOf}
 use Rattle.records.specs.Stored.{counted, countedAll, records}
 use Rattle.sources.specs.Source.{opened, LexResult, tok, bad, scanned, lex}
 use Rattle.answers.specs.Reading.{ok, then, look, when, closed, list, listBehind}

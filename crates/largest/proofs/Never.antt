@@ -7,7 +7,8 @@ use native.Mathlib.Omega.{arith}
 use borrow.Author.Tests.{eqb-true}
 use lib.Dec.{eqb}
 use Rattle.tokens.proofs.Faults.{each-any, unless-sure}
-use Rattle.records.specs.Tree.{Tree, startOf, endOf}
+use Rattle.records.specs.Tree.{Tree}
+use Rattle.records.specs.Spans.{startOf, endOf}
 use Rattle.records.specs.Stored.{records}
 use Rattle.sources.specs.Source.{Source, opened, Lexeme, start, LexResult, tok, bad, lex}
 use Rattle.answers.specs.Reading.{Ans, ok, no, look, when}

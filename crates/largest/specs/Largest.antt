@@ -5,7 +5,8 @@ use mathlib.Core.List.{List, [], _++_}
 use Prim.Native.Nat.{ℕ, zero, suc, _+_, _-_, _*_, _/_, _%_}
 use lib.Dec.{eqb, ltb}
 use Rattle.classes.specs.Bytes.{bytes}
-use Rattle.records.specs.Tree.{Tree, startOf, endOf}
+use Rattle.records.specs.Tree.{Tree}
+use Rattle.records.specs.Spans.{startOf, endOf}
 use Rattle.forms.specs.Forms.{narrowLimit}
 
 -- n, the bytes that a tree spans: from its first byte to its last. Gaps and comments inside count, what is before and behind does not

@@ -8,7 +8,8 @@ use Rattle.classes.specs.Bytes.{bytes}
 use Rattle.words.specs.Kinds.{EOF}
 use Rattle.tokens.specs.Answers.{token}
 use Rattle.tokens.specs.Calls.{noEdition}
-use Rattle.records.specs.Tree.{Tree, startOf, endOf}
+use Rattle.records.specs.Tree.{Tree}
+use Rattle.records.specs.Spans.{startOf, endOf}
 use Rattle.records.specs.Stored.{records}
 use Rattle.sources.specs.Source.{Source, opened, Lexeme, tokenOf, tok, lex}
 use Rattle.answers.specs.Reading.{ok, look}

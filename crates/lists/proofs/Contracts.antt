@@ -9,7 +9,7 @@ use Rattle.tokens.specs.declared.Lexed.the-variants.{Found}
 use Rattle.records.specs.Tree.{Trees}
 use Rattle.sources.specs.Source.{Source}
 use Rattle.answers.specs.Reading.{Ans, ok, Reader, listBehind}
-use Rattle.forms.specs.Forms.{laidItems}
+use Rattle.forms.specs.code.Constructs.{laidItems}
 use Rattle.forms.specs.declared.Spot.{Spot}
 use Rattle.parts.specs.declared.Parsed.the-variants.{Read, Refused as Wrong}
 use Rattle.parts.specs.code.Meets.{Fits, held, Refuses, Had}

@@ -6,7 +6,8 @@ use Prim.Native.Nat.{ℕ}
 use lib.Dec.{eqb}
 use Rattle.classes.specs.Bytes.{bytes}
 use Rattle.records.specs.Tree.{Tree, Trees, none, more, behind, joined}
-use Rattle.forms.specs.Forms.{markIn, laid, listedRest, laidItems, inBars}
+use Rattle.forms.specs.Forms.{laid}
+use Rattle.forms.specs.code.Constructs.{markIn, listedRest, laidItems, inBars}
 use Rattle.lists.specs.code.Lists.{countOf, oneMore}
 
 pub joined-behind : (ts us : Trees) (t : Tree) → joined (behind ts t) us ≡ joined ts (more t us)

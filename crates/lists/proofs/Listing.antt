@@ -21,7 +21,8 @@ use Rattle.tokens.specs.declared.Lexed.the-variants.{Found, Refused as Bad}
 use Rattle.records.specs.Tree.{Tree, Trees, none, more, joined, behind}
 use Rattle.sources.specs.Source.{Source, opened, split, after, lex}
 use Rattle.answers.specs.Reading.{Ans, ok, no, then, look, when, closed, refusedBefore, unexpected, Reader, list, listBehind}
-use Rattle.forms.specs.Forms.{markIn, laid, laidItems}
+use Rattle.forms.specs.Forms.{laid}
+use Rattle.forms.specs.code.Constructs.{markIn, laidItems}
 use Rattle.forms.specs.code.Spots.{last, movedBy, Placed}
 use Rattle.forms.specs.declared.Spot.{Spot}
 use Rattle.forms.proofs.Placing.{capped, moved-twice, placed-long, placed-as, placed-both}

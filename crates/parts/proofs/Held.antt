@@ -13,7 +13,8 @@ use Rattle.tokens.specs.declared.Lexed.the-variants.{Found, Refused as Bad}
 use Rattle.tokens.proofs.Faults.{admits}
 use Rattle.tokens.proofs.Again.{found-fits}
 use Rattle.records.specs.Tree.{leaf}
-use Rattle.sources.specs.Source.{Source, opened, past, Lexeme, start, end, after, LexResult, tok, bad, lex, tokenOf, answerOf}
+use Rattle.sources.specs.Source.{Source, opened, past, Lexeme, start, end, after, LexResult, tok, bad, lex, tokenOf}
+use Rattle.sources.specs.code.Answered.{answerOf}
 use Rattle.sources.proofs.Standing.{Standing, Sound, lex-sound, next-token-same}
 use Rattle.answers.specs.Reading.{Ans, no, look, leafOf, refusedAt}
 use Rattle.forms.specs.code.Spots.{wordOf}

@@ -1,7 +1,8 @@
 -- Spans in their parents' spans.
 use Prim.Native.Nat.{ℕ, _≤_}
 use native.Mathlib.Omega.{arith}
-use Rattle.records.specs.Tree.{Tree, leaf, node, Trees, none, more, startOf, endOf, Nested, Within}
+use Rattle.records.specs.Tree.{Tree, leaf, node, Trees, none, more}
+use Rattle.records.specs.Spans.{startOf, endOf, Nested, Within}
 
 -- what lies between two places lies between wider ones
 pub wider : (ts : Trees) (p p₂ e e₂ : ℕ) → p₂ ≤ p → e ≤ e₂ → Within p ts e → Within p₂ ts e₂

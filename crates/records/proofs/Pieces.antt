@@ -7,7 +7,8 @@ use native.Mathlib.Numerals.{add-one}
 use lib.ListN.{length, set}
 use lib.Seq.{sets}
 use Rattle.buffer.proofs.Sets.{sets-append}
-use Rattle.records.specs.Stored.{two, span, header, littleEndian, headOf}
+use Rattle.records.specs.Stored.{littleEndian, headOf}
+use Rattle.records.specs.code.Narrow.{two, span, header}
 
 pub two-pieces : (l m n : List ℕ) (i v : ℕ) → m ≡ set l i (v % 256) → n ≡ set m (i + 1) (v / 256 % 256) → n ≡ sets l i (two v)
 unfolding two

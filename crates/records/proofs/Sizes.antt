@@ -5,7 +5,7 @@ use Prim.Native.Nat.{ℕ, _+_}
 use native.Mathlib.Omega.{arith}
 use lib.ListN.{length, length-append}
 use Rattle.records.specs.Tree.{Tree, leaf, node, Trees, none, more}
-use Rattle.records.specs.Stored.{two, span, header, stored, storedAll}
+use Rattle.records.specs.code.Narrow.{two, span, header, stored, storedAll}
 
 pub leaf-size : (k s e : ℕ) (w : List ℕ) → length (stored (leaf k s e w)) ≡ 8
 unfolding stored header span two

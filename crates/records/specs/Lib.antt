@@ -3,3 +3,5 @@ pub mod Tree
 pub mod Rust
 pub mod Stored
 pub mod Raise
+pub mod Spans
+pub mod code

@@ -1,6 +1,6 @@
 -- The trees that reading gives: records with a kind, a span and children, and leaves that are spelled; and builds, which are
 -- trees without their spans.
-use Prim.Native.Nat.{ℕ, _≤_}
+use Prim.Native.Nat.{ℕ}
 use mathlib.Core.List.{List}
 
 mutual
@@ -38,22 +38,3 @@ behind (more t ts) u = more t (behind ts u)
 unfoldable pub joined : Trees → Trees → Trees
 joined none us = us
 joined (more t ts) us = more t (joined ts us)
-
--- where a tree starts and ends
-unfoldable pub startOf : Tree → ℕ
-startOf (leaf k s e w) = s
-startOf (node k s e ts) = s
-
-unfoldable pub endOf : Tree → ℕ
-endOf (leaf k s e w) = e
-endOf (node k s e ts) = e
-
--- spans lie in their parents' spans, and siblings start in their order: from p on, up to e
-unfoldable mutual
-  pub Nested : Tree → Type 0
-  Nested (leaf k s e w) = s ≤ e
-  Nested (node k s e ts) = (s ≤ e) × Within s ts e
-
-  pub Within : ℕ → Trees → ℕ → Type 0
-  Within p none e = Unit {0}
-  Within p (more t ts) e = (p ≤ startOf t) × (endOf t ≤ e) × Nested t × Within (startOf t) ts e

@@ -3,7 +3,8 @@ ghost use mathlib.Core.Path.{_≡_};
 ghost use Prim.Native.Nat.{_+_, _≤_};
 ghost use lib.ListN.{length};
 ghost use lib.Seq.{sets};
-ghost use Rattle.records.specs.Stored.{two, header, littleEndian, headOf};
+ghost use Rattle.records.specs.Stored.{littleEndian, headOf};
+ghost use Rattle.records.specs.code.Narrow.{two, header};
 
 pub mod kinds;
 

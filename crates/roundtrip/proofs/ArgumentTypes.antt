@@ -18,7 +18,7 @@ use Rattle.grammar.specs.Values.{leafKind}
 use Rattle.grammar.specs.Types.{bracketed}
 use Rattle.grammar.specs.Items.{Item, item, refused, faultOf, readKind, followed, finished, readItem}
 use Rattle.forms.specs.Line.{kindOfBuild}
-use Rattle.frames.specs.Related.{Sort, Role, Lone, aPart, aVariable, kindOf, Part, mark, leaf, one, many, Rule, pair, two, three, address, shared, mutable, function, plain, applied, struct, typed, field, several, alone, lambda, Starts, Frame, Lawful, Literal, Short}
+use Rattle.frames.specs.code.Related.{Sort, Role, Lone, aPart, aVariable, kindOf, Part, mark, leaf, one, many, Rule, pair, two, three, address, shared, mutable, function, plain, applied, struct, typed, field, several, alone, lambda, Starts, Frame, Lawful, Literal, Short}
 use Rattle.frames.proofs.Readers.{sortOf, kind-same}
 use Rattle.frames.proofs.Facts.{Facts, about, Fact, Of, reader-of, met}
 use Rattle.roundtrip.specs.Arguments.{isFunction, NoneBare, Bracketed, BracketedAll}

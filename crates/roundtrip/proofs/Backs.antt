@@ -17,7 +17,7 @@ use Rattle.grammar.specs.Values.{leafKind, value}
 use Rattle.grammar.specs.Types.{levels, readType}
 use Rattle.grammar.specs.Binds.{readBindList, readLambdaList}
 use Rattle.forms.specs.Line.{kindOfBuild}
-use Rattle.frames.specs.Related.{Sort, aName, aPair, aValue, aType, aField, aBind, aBindList, aLambdaList, Role, Fits, kindOf, Lone, aPart, aVariable, Part, mark, leaf, one, many, Rule, pair, two, three, address, shared, mutable, function, plain, applied, struct, typed, field, several, alone, lambda, Frame, RelReader, Lawful, Starts, Literal, Short}
+use Rattle.frames.specs.code.Related.{Sort, aName, aPair, aValue, aType, aField, aBind, aBindList, aLambdaList, Role, Fits, kindOf, Lone, aPart, aVariable, Part, mark, leaf, one, many, Rule, pair, two, three, address, shared, mutable, function, plain, applied, struct, typed, field, several, alone, lambda, Frame, RelReader, Lawful, Starts, Literal, Short}
 use Rattle.frames.proofs.Readers.{chain-rel, value-rel, type-same, bind-list-same, lambda-list-same}
 use Rattle.frames.proofs.Facts.{Facts, about, Fact, Of, reader-of, met}
 use Rattle.roundtrip.specs.Arguments.{isFunction}

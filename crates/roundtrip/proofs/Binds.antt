@@ -14,7 +14,8 @@ use Rattle.answers.specs.Reading.{leafOf}
 use Rattle.grammar.specs.Types.{levels, readType}
 use Rattle.grammar.specs.Binds.{fields, structOver, unpacked, bindOver, fieldOver, readField, readBind, readBindList, readLambdaList}
 use Rattle.forms.specs.Line.{isField, isType, kindOfBuild, shown}
-use Rattle.forms.specs.Forms.{FormLine, head, markIn, laid, headed, laidItems}
+use Rattle.forms.specs.Forms.{FormLine, head, laid}
+use Rattle.forms.specs.code.Constructs.{markIn, headed, laidItems}
 use Rattle.forms.proofs.Constructs.{Every as EachKind, laid-field, laid-struct, laid-struct-typed, laid-bind-list, laid-lambda-list}
 use Rattle.roundtrip.proofs.Words.{Stops, extends}
 use Rattle.roundtrip.proofs.Tokens.{Met, met-map, Editions, Rest, Near, at-once, blank, Word, Spelled}

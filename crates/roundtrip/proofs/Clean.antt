@@ -2,7 +2,7 @@
 use mathlib.Core.Path.{_≡_, refl, sym, ap, _∙_, subst}
 use mathlib.Core.Bool.{Bool, true, false}
 use mathlib.Core.List.{List, []}
-use Rattle.forms.specs.Unprintable.{FirstByte, clean, foundAt}
+use Rattle.forms.specs.Unprintable.{FirstByte, clean, foundAt, unprintable}
 use Prim.Native.Nat.{ℕ, _+_, _-_, min}
 use native.Mathlib.Omega.{arith}
 use borrow.Author.Tests.{ltb-true, ltb-false}
@@ -13,16 +13,17 @@ use Rattle.classes.specs.Class.{shows}
 use Rattle.classes.specs.Run.{allOf}
 use Rattle.classes.proofs.Bools.{false-true}
 use Rattle.classes.proofs.All.{all-at}
-use Rattle.tokens.specs.Refusals.{LineUnprintable, among}
+use Rattle.tokens.specs.Refusals.{LineUnprintable}
+use Rattle.tokens.specs.RefusalSets.{among}
 use Rattle.tokens.specs.Answers.{refusal}
 use Rattle.tokens.specs.declared.Refusal.{Refusal}
 use Rattle.records.specs.Tree.{Tree}
 use Rattle.sources.specs.Source.{opened, Lexeme}
 use Rattle.answers.specs.Reading.{Ans, when}
-use Rattle.grammar.specs.Items.{Item, item, refused, Asked, ofText, reading, readItem}
+use Rattle.grammar.specs.Items.{Item, item, refused, Asked, reading, readItem}
+use Rattle.grammar.specs.Raise.{ofText}
 use Rattle.forms.specs.Line.{shown}
 use Rattle.forms.specs.Forms.{FormLine, front, laid, written}
-use Rattle.forms.specs.Unprintable.{unprintable}
 use Rattle.forms.proofs.Unprintables.{line-shows, words-clean, build-unprintable}
 use Rattle.frames.proofs.Faithful.{readRefusals, item-refusals}
 use Rattle.frames.proofs.Words.{item-readable, clean-words, shown-words}

@@ -14,7 +14,8 @@ use Rattle.records.specs.Tree.{Tree, Trees, none, more, bmore, build, builds}
 use Rattle.sources.specs.Source.{Source, Lexeme, after, split, lex}
 use Rattle.answers.specs.Reading.{ok, no, then, look, when, closed, refusedBefore, Reader, list, listBehind}
 use Rattle.forms.specs.Line.{shown}
-use Rattle.forms.specs.Forms.{FormLine, markIn, laid, listedRest, laidItems}
+use Rattle.forms.specs.Forms.{FormLine, laid}
+use Rattle.forms.specs.code.Constructs.{markIn, listedRest, laidItems}
 use Rattle.roundtrip.proofs.Words.{Stops, extends, differs}
 use Rattle.roundtrip.proofs.Tokens.{Met, met-map, Editions, Rest, Near, at-once, blank, near-long, Stands}
 use Rattle.roundtrip.proofs.Answers.{Gives, gives, Shuts, Stays, gives-then, gives-look, gives-true, gives-false, gives-stays, gives-shuts}

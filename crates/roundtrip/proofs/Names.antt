@@ -17,7 +17,8 @@ use Rattle.grammar.specs.Names.{isFirst, firstPart, lastPart, thirdPart, second
 use Rattle.grammar.specs.Values.{leafKind, valueKind, leafValue, addressValue, value}
 use Rattle.grammar.specs.Binds.{isStruct}
 use Rattle.forms.specs.Line.{line, shown}
-use Rattle.forms.specs.Forms.{FormLine, head, markIn, spelt, laid, headed}
+use Rattle.forms.specs.Forms.{FormLine, head, laid}
+use Rattle.forms.specs.code.Constructs.{markIn, spelt, headed}
 use Rattle.forms.proofs.Constructs.{laid-leaf, laid-two, laid-three, laid-pair, laid-address}
 use Rattle.roundtrip.proofs.Words.{Stops, extends, differs, Headed, wordy}
 use Rattle.roundtrip.proofs.Tokens.{Met, met-map, Editions, Rest, Near, at-once, Spelled, Good}

@@ -9,14 +9,15 @@ use borrow.Author.Tests.{eqb-true}
 use lib.Dec.{eqb, ltb}
 use lib.ListN.{length, drop}
 use Rattle.classes.proofs.Bools.{false-true}
-use Rattle.tokens.specs.Refusals.{NoRoom, LineUnprintable, among}
+use Rattle.tokens.specs.Refusals.{NoRoom, LineUnprintable}
+use Rattle.tokens.specs.RefusalSets.{among}
 use Rattle.tokens.specs.Answers.{refusal}
 use Rattle.records.specs.Tree.{Tree, leaf, node, Trees, none, more, made, bmore, build, builds}
 use Rattle.records.specs.Raise.{raiseTree, raiseTrees}
 use Rattle.sources.specs.Source.{Lexeme}
 use Rattle.answers.specs.Reading.{when}
-use Rattle.grammar.specs.Items.{Item, item, refused, Asked, ofText, readItem}
-use Rattle.grammar.specs.Raise.{raiseItem}
+use Rattle.grammar.specs.Items.{Item, item, refused, Asked, readItem}
+use Rattle.grammar.specs.Raise.{ofText, raiseItem}
 use Rattle.forms.specs.Line.{shown, line}
 use Rattle.forms.specs.Unprintable.{isUnprintable, isString, FirstByte, clean, foundAt, unprintableIn, firstOf, unprintable, unprintableAll}
 use Rattle.forms.specs.Forms.{FormLine, written}

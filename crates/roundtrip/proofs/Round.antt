@@ -24,7 +24,9 @@ use Rattle.grammar.specs.Names.{chain}
 use Rattle.grammar.specs.Values.{value}
 use Rattle.grammar.specs.Types.{levels, readType}
 use Rattle.grammar.specs.Binds.{readBindList, readLambdaList}
-use Rattle.grammar.specs.Items.{Item, item, refused, readKind, followed, finished, Asked, ofText, inEdition, faultOf, reading, readItem}
+use Rattle.grammar.specs.Items.{Item, item, refused, readKind, followed, finished, Asked, faultOf, reading, readItem}
+use Rattle.grammar.specs.Raise.{ofText}
+use Rattle.grammar.specs.code.Edition.{inEdition}
 use Rattle.grammar.proofs.Asked.{in-order, of-text}
 use Rattle.frames.proofs.Sure.{kind-sure}
 use Rattle.forms.specs.Line.{line, shown}

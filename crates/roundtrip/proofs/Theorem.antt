@@ -2,14 +2,14 @@
 use mathlib.Core.Path.{_≡_, refl, subst, sym, ap, _∙_}
 use mathlib.Core.Bool.{Bool, true, false}
 use mathlib.Core.List.{List, [], _∷_, _++_}
-use Rattle.forms.specs.Unprintable.{FirstByte, clean, foundAt}
+use Rattle.forms.specs.Unprintable.{FirstByte, clean, foundAt, unprintable}
 use Prim.Native.Nat.{ℕ, _*_, _≤_, min}
 use native.Mathlib.Omega.{arith}
 use lib.Dec.{ltb}
 use lib.ListN.{length, drop}
 use lib.Seq.{take-append-seam}
 use Rattle.classes.proofs.Bools.{false-true}
-use Rattle.tokens.specs.Refusals.{among}
+use Rattle.tokens.specs.RefusalSets.{among}
 use Rattle.tokens.specs.Answers.{refusal}
 use Rattle.tokens.specs.declared.Refusal.{Refusal}
 use Rattle.tokens.specs.declared.Token.{Token as Answer}
@@ -20,12 +20,12 @@ use Rattle.answers.specs.Reading.{when}
 use Rattle.grammar.specs.Items.{Item, item, refused, Asked, readItem}
 use Rattle.forms.specs.Line.{shown}
 use Rattle.forms.specs.Forms.{FormNarrow, FormWide, written, narrowLimit, formOf}
-use Rattle.forms.specs.Unprintable.{unprintable}
 use Rattle.forms.proofs.Constructs.{written-stored, written-line}
 use Rattle.forms.proofs.Sizes.{narrow-size, wide-size}
 use Rattle.forms.proofs.Unprintables.{build-unprintable}
 use Rattle.forms.proofs.Apart.{form-narrow, form-cases}
-use Rattle.calls.specs.Calls.{itemRefusals, displayRefusals, lineLimit, roomed, filled, unlessUnprintable, ifPrintable, answeredIn, read, readBuffer, answered, readNumber, readValues, asLine, display, displayBuffer, displayed, displayNumber, displayValues}
+use Rattle.calls.specs.Calls.{lineLimit, roomed, filled, unlessUnprintable, ifPrintable, answeredIn, read, readBuffer, answered, readNumber, readValues, asLine, display, displayBuffer, displayed, displayNumber, displayValues}
+use Rattle.calls.specs.RefusalSets.{itemRefusals, displayRefusals}
 use Rattle.calls.proofs.Room.{roomed-fits, room-for}
 use Rattle.calls.proofs.Faithful.{read-written}
 use Rattle.calls.proofs.RefusalSets.{read-refusals, display-refusals}

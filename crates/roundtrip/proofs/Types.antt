@@ -15,7 +15,8 @@ use Rattle.answers.specs.Reading.{when}
 use Rattle.grammar.specs.Names.{isFirst}
 use Rattle.grammar.specs.Types.{bracketed, brackets, reference, function, withArguments, named, typeOver, readType}
 use Rattle.forms.specs.Line.{isField, isType, kindOfBuild, shown, line}
-use Rattle.forms.specs.Forms.{FormLine, head, markIn, laid, headed, laidItems, inBars, inAngles}
+use Rattle.forms.specs.Forms.{FormLine, head, laid}
+use Rattle.forms.specs.code.Constructs.{markIn, headed, laidItems, inBars, inAngles}
 use Rattle.forms.proofs.Constructs.{laid-ref, laid-ref-mut, laid-unit, laid-brackets, laid-tuple, laid-type, laid-function}
 use Rattle.roundtrip.specs.Arguments.{isFunction}
 use Rattle.roundtrip.proofs.Words.{Stops, stops-less, differs}

@@ -8,7 +8,8 @@ use Rattle.tokens.specs.Answers.{token}
 use Rattle.tokens.specs.declared.Token.{Token as Answer}
 use Rattle.records.specs.Tree.{Tree, build}
 use Rattle.sources.specs.Source.{Lexeme, tokenOf}
-use Rattle.grammar.specs.Items.{Item, item, refused, Asked, ofText}
+use Rattle.grammar.specs.Items.{Item, item, refused, Asked}
+use Rattle.grammar.specs.Raise.{ofText}
 use Rattle.forms.specs.Forms.{written, formOf}
 use Rattle.calls.specs.Calls.{read, readBuffer, answered, readNumber, readValues, display, displayBuffer, displayed, displayNumber, displayValues}
 

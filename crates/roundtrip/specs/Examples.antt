@@ -8,7 +8,7 @@ use Rattle.classes.specs.Bytes.{bytes}
 use Rattle.tokens.specs.Answers.{tokenNumber, tokenValues}
 use Rattle.tokens.specs.Calls.{tokenCall}
 use Rattle.grammar.specs.Items.{Asked, asked}
-use Rattle.forms.specs.Forms.{treeRoom}
+use Rattle.forms.specs.Sizes.{treeRoom}
 use Rattle.calls.specs.Calls.{read as readCall, readBuffer, answered, readNumber, readValues, display as displayCall, displayBuffer, displayed, displayNumber, displayValues}
 
 -- by name and what is asked: the token call's number and values, in an edition, of a text from an offset on; the read call's, with room

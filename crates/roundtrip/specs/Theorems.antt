@@ -12,7 +12,8 @@ use Rattle.classes.specs.Class.{isName, shows}
 use Rattle.classes.specs.Run.{allOf}
 use Rattle.gap.specs.LineFeed.{lineFeed}
 use Rattle.words.specs.Kinds.{NumValue, NumTypedValue}
-use Rattle.tokens.specs.Refusals.{NoRoom, LineUnprintable, among, tokenRefusals, commentRefusals}
+use Rattle.tokens.specs.Refusals.{NoRoom, LineUnprintable}
+use Rattle.tokens.specs.RefusalSets.{among, tokenRefusals, commentRefusals}
 use Rattle.tokens.specs.Answers.{refusal}
 use Rattle.tokens.specs.Token.{tok, bad, scan}
 use Rattle.tokens.specs.Calls.{textLimit, noEdition, nextToken, advanced, tokenCall, nextComment}
@@ -23,15 +24,17 @@ use Rattle.tokens.specs.declared.Fault.the-variants.{Faultless}
 use Rattle.tokens.specs.declared.Token.{Token}
 use Rattle.tokens.specs.declared.Lexed.the-variants.{Found, Refused}
 use Rattle.tokens.specs.declared.DocComment.the-variants.{Broken}
-use Rattle.records.specs.Tree.{Tree, startOf, endOf, Nested, build}
+use Rattle.records.specs.Tree.{Tree, build}
+use Rattle.records.specs.Spans.{startOf, endOf, Nested}
 use Rattle.sources.specs.Source.{Lexeme, start, end}
-use Rattle.grammar.specs.Items.{Item, item, refused, Asked, ofText, faultOf, readItem}
-use Rattle.grammar.specs.Raise.{raiseItem}
+use Rattle.grammar.specs.Items.{Item, item, refused, Asked, faultOf, readItem}
+use Rattle.grammar.specs.Raise.{ofText, raiseItem}
 use Rattle.grammar.specs.Rust.{rustItem, unbracketedItem}
 use Rattle.forms.specs.Line.{shown}
 use Rattle.forms.specs.Unprintable.{clean, foundAt, unprintable}
-use Rattle.forms.specs.Forms.{treeRoom}
-use Rattle.calls.specs.Calls.{itemRefusals, displayRefusals, read, readNumber, answered, display, displayBuffer, displayed, displayNumber}
+use Rattle.forms.specs.Sizes.{treeRoom}
+use Rattle.calls.specs.Calls.{read, readNumber, answered, display, displayBuffer, displayed, displayNumber}
+use Rattle.calls.specs.RefusalSets.{itemRefusals, displayRefusals}
 use Rattle.roundtrip.specs.Demand.{Lent, readOf, displayOf, Accepted, treeLength, lineLength, lineOf, lineBack, ReadBack, AnsweredBack}
 use Rattle.roundtrip.specs.Arguments.{Bracketed}
 

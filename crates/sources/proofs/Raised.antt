@@ -8,7 +8,8 @@ use Rattle.tokens.specs.Token.{Scanned, tok as found, bad as faulty, scan}
 use Rattle.tokens.specs.Raise.{raiseScanned as raiseLexing}
 use Rattle.tokens.proofs.Shift.{lex-up}
 use Rattle.sources.specs.Source.{Source, moved, past, scanned, lex}
-use Rattle.sources.specs.Raise.{raiseSource, raiseScanned}
+use Rattle.sources.specs.Raise.{raiseSource}
+use Rattle.sources.specs.code.Raise.{raiseScanned}
 
 module _ (k : ℕ) where
   pub past-raised : (n : ℕ) (u : Source) → past n (raiseSource k u) ≡ raiseSource k (past n u)

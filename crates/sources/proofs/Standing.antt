@@ -15,7 +15,8 @@ use Rattle.tokens.proofs.Lexing as lexing
 use Rattle.tokens.proofs.Spelled.{markKind, spelling, SpeltToken, lex-spelt, shift-split}
 use Rattle.tokens.proofs.Legible.{legible, LegibleToken, lex-legible}
 use Rattle.tokens.proofs.Again.{lex-again}
-use Rattle.sources.specs.Source.{Source, opened, past, Lexeme, word, after, split, LexResult, tok, bad, scanned, lex, answerOf}
+use Rattle.sources.specs.Source.{Source, opened, past, Lexeme, word, after, split, LexResult, tok, bad, scanned, lex}
+use Rattle.sources.specs.code.Answered.{answerOf}
 
 -- every source is the end of some text
 pad : ℕ → List ℕ → List ℕ

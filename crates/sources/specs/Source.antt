@@ -7,8 +7,6 @@ use Rattle.tokens.specs.Answers.{token}
 use Rattle.tokens.specs.Token.{Scanned, tok as found, bad as faulty, scan}
 use Rattle.tokens.specs.declared.Refusal.{Refusal}
 use Rattle.tokens.specs.declared.Token.{Token as Answer}
-use Rattle.tokens.specs.declared.Lexed.{Lexed}
-use Rattle.tokens.specs.declared.Lexed.the-variants.{Found, Refused}
 
 pub record Source : Type 0 where
   pub edition : ℕ
@@ -65,7 +63,3 @@ lex u = scanned u (scan (u .edition) (u .at) (u .rest))
 -- a token as the calls answer it: its kind and its span
 abbrev pub tokenOf : Lexeme → Answer
 tokenOf t = token (t .kind) (start t) (end t)
-
-unfoldable pub answerOf : LexResult → Lexed
-answerOf (tok t) = Found (tokenOf t)
-answerOf (bad r) = Refused r

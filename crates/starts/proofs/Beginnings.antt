@@ -16,7 +16,7 @@ use Rattle.tokens.specs.declared.Token.{Token}
 use Rattle.tokens.specs.declared.Lexed.{Lexed}
 use Rattle.tokens.specs.declared.Lexed.the-variants.{Found as TokenFound, Refused as TokenRefused}
 use Rattle.starts.specs.Beginning.{bounds, byRefusal, byTokens, beginning}
-use Rattle.starts.specs.Step.{step, reached, stepTo}
+use Rattle.starts.specs.code.Step.{step, reached, stepTo}
 use Rattle.starts.specs.declared.Step.{Step}
 use Rattle.starts.specs.declared.Beginning.{Beginning}
 use Rattle.starts.specs.declared.Beginning.the-variants.{Allowed, Nowhere, Refused}

@@ -14,7 +14,8 @@ use Rattle.gap.specs.declared.GapPart.the-variants.{Unclosed}
 use Rattle.gap.proofs.Gaps.{Ended, gap-ended}
 use Rattle.gap.proofs.PartsEnd.{parts-clear, parts-broken}
 use Rattle.words.specs.Kinds.{EOF}
-use Rattle.tokens.specs.Refusals.{CommentNotClosed, NothingStarts, among, lexRefusals}
+use Rattle.tokens.specs.Refusals.{CommentNotClosed, NothingStarts}
+use Rattle.tokens.specs.RefusalSets.{among, lexRefusals}
 use Rattle.tokens.specs.Answers.{refusal, token}
 use Rattle.tokens.specs.Token.{Front, sized, fault, findToken, Scanned, tok, bad, placed, behindGap, scan}
 use Rattle.tokens.specs.Calls.{textLimit}

@@ -18,7 +18,7 @@ use Rattle.tokens.specs.declared.Lexed.the-variants.{Found, Refused}
 use Rattle.tokens.proofs.Again.{found-fits}
 use Rattle.tokens.proofs.Faults.{unless-faulty, in-place}
 use Rattle.tokens.proofs.Walks.{at-refused, at-eof, at-next}
-use Rattle.starts.specs.Step.{step, reached, stepTo}
+use Rattle.starts.specs.code.Step.{step, reached, stepTo}
 
 injective : {a b : Refusal} → Refused a ≡ Refused b → a ≡ b
 injective p = cc

@@ -1,4 +1,4 @@
 pub mod Beginning
-pub mod Step
 pub mod Allowed
 pub mod Examples
+pub mod code

@@ -1,7 +1,7 @@
 // Whether a read or a display may begin at an offset: where tokens start and end in a walk from 0.
 ghost use mathlib.Core.Path.{_≡_};
 ghost use Rattle.starts.specs.Beginning.{bounds, byRefusal, beginning, startFault};
-ghost use Rattle.starts.specs.Step.{stepTo};
+ghost use Rattle.starts.specs.code.Step.{stepTo};
 use tokens::Fault;
 use tokens::Lexed;
 use tokens::Refusal;

@@ -14,10 +14,9 @@ use Rattle.tokens.specs.declared.DocComment.the-variants.{Doc, Nothing, Broken}
 use Rattle.carried.specs.Carry.{carryNumber, carryValues}
 use Rattle.carried.specs.declared.Carried.{Carried}
 use Rattle.carried.specs.declared.Carried.the-variants.{Moved, Refused as Unmoved}
-use Rattle.calls.specs.Calls.{readNumber, readValues}
+use Rattle.calls.specs.Calls.{readNumber, readValues, displayNumber, displayValues}
 use Rattle.calls.specs.declared.Answer.{Answer}
 use Rattle.calls.specs.declared.Answer.the-variants.{Item, Refused as Rejected}
-use Rattle.calls.specs.Calls.{displayNumber, displayValues}
 use Rattle.calls.specs.declared.Displayed.{Displayed}
 use Rattle.calls.specs.declared.Displayed.the-variants.{Line, Refused as Undisplayed}
 

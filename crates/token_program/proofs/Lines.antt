@@ -7,7 +7,7 @@ use borrow.Author.Tests.{le-leb, lt-leb}
 use lib.ListN.{length, set, take, getD}
 use lib.Seq.{take-suc, take-all}
 use native.Mathlib.Nat.{add-assoc, add-zero}
-use Rattle.buffer.specs.Written.{Written}
+use Rattle.buffer.specs.code.Written.{Written}
 use Rattle.buffer.proofs.Sets.{written-none, written-one, written-both}
 use Rattle.token_program.specs.Printed.{digit, inDecimal, threeLine}
 

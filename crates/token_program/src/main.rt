@@ -4,7 +4,7 @@ ghost use Prim.Native.Nat.{_+_, _*_, _≤_, _<_};
 ghost use lib.ListN.{length};
 ghost use mathlib.Core.List.{[], _∷_};
 ghost use Rattle.classes.specs.Bytes.{bytes};
-ghost use Rattle.buffer.specs.Written.{Written};
+ghost use Rattle.buffer.specs.code.Written.{Written};
 ghost use Rattle.token_program.specs.Printed.{digit, inDecimal, threeLine, tokenLine, refusedLine, printed, inputLimit, output};
 ghost use Rattle.tokens.specs.Walk.{tokensOf};
 use libc::STDIN_FILENO;

@@ -17,7 +17,8 @@ use Rattle.words.specs.Search.{markOf, suffixLen}
 use Rattle.words.specs.Quote.{quoteFrom}
 use Rattle.words.specs.declared.Quote.{Quote}
 use Rattle.words.specs.declared.Quote.the-variants.{Found as Closing, Missing}
-use Rattle.tokens.specs.Refusals.{NoToken, HexStringNotClosed, ByteStringNotClosed, StringNotAscii, among, lexRefusals, tokenRefusals, commentRefusals}
+use Rattle.tokens.specs.Refusals.{NoToken, HexStringNotClosed, ByteStringNotClosed, StringNotAscii}
+use Rattle.tokens.specs.RefusalSets.{among, lexRefusals, tokenRefusals, commentRefusals}
 use Rattle.tokens.specs.Token.{Front, sized, fault, typed, decimal, hexTyped, hexLen, hexNumber, numberToken, stringBy, string, opensString, stringRefusal, name, wordToken, mark, findToken, Scanned, tok, bad, placed, behindGap, scan}
 use Rattle.tokens.specs.Calls.{textLimit, placeFault, callFault, lexed, nextToken, advanced, refusedCall, tokenCall, commentOf, nextComment}
 use Rattle.tokens.specs.declared.Refusal.{Refusal}

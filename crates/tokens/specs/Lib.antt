@@ -4,4 +4,5 @@ pub mod Token
 pub mod Calls
 pub mod Walk
 pub mod Raise
+pub mod RefusalSets
 pub mod code

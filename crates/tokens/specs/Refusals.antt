@@ -1,8 +1,5 @@
--- The numbers of the refusals, by the specification, and which of them the lexer's calls can meet.
+-- The numbers of the refusals, by the specification.
 use Prim.Native.Nat.{ℕ}
-use mathlib.Core.Bool.{Bool, false, _||_}
-use mathlib.Core.List.{List, [], _∷_}
-use lib.Dec.{eqb}
 
 abbrev pub TextTooLong : ℕ
 TextTooLong = 1
@@ -57,19 +54,3 @@ NotATokenStart = 20
 
 abbrev pub NothingStarts : ℕ
 NothingStarts = 21
-
--- whether a number is one of a set of them
-unfoldable pub among : List ℕ → ℕ → Bool
-among [] n = false
-among (m ∷ ms) n = eqb m n || among ms n
-
--- what the bytes of a text can say of their next token; with what the caller can be told, all that a token call meets
-abbrev pub lexRefusals : List ℕ
-lexRefusals = NoToken ∷ CommentNotClosed ∷ HexStringNotClosed ∷ ByteStringNotClosed ∷ StringNotAscii ∷ []
-
-abbrev pub tokenRefusals : List ℕ
-tokenRefusals = TextTooLong ∷ StartPastEnd ∷ NoSuchEdition ∷ lexRefusals
-
--- all that a comment call meets
-abbrev pub commentRefusals : List ℕ
-commentRefusals = TextTooLong ∷ StartPastEnd ∷ NoSuchEdition ∷ CommentNotClosed ∷ []

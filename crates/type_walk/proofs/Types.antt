@@ -22,7 +22,8 @@ use Rattle.sources.specs.Source.{Source, opened, Lexeme, start, tok, lex}
 use Rattle.answers.specs.Reading.{Ans, ok, then, look, when, Reader, listBehind}
 use Rattle.grammar.specs.Names.{chain}
 use Rattle.grammar.specs.Types.{spanned, bracketed, brackets, reference, function, withArguments, named, typeOver, readType}
-use Rattle.forms.specs.Forms.{markIn, laid, headed, laidItems, inBars, inAngles}
+use Rattle.forms.specs.Forms.{laid}
+use Rattle.forms.specs.code.Constructs.{markIn, headed, laidItems, inBars, inAngles}
 use Rattle.forms.specs.code.Spots.{last, movedBy, inside, sealed, Placed}
 use Rattle.forms.specs.declared.Spot.{Spot}
 use Rattle.forms.proofs.Placing.{placed-long, placed-as, placed-both, placed-front, placed-headed}

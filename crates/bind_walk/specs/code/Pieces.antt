@@ -17,7 +17,8 @@ use Rattle.sources.specs.Source.{Lexeme, after, lex}
 use Rattle.answers.specs.Reading.{Ans, ok, look, when, leafOf, Reader, listBehind}
 use Rattle.grammar.specs.Types.{readType}
 use Rattle.grammar.specs.Binds.{readField, readBind}
-use Rattle.forms.specs.Forms.{markIn, laid, laidItems}
+use Rattle.forms.specs.Forms.{laid}
+use Rattle.forms.specs.code.Constructs.{markIn, laidItems}
 use Rattle.forms.specs.code.Spots.{movedBy, sealed}
 use Rattle.forms.specs.declared.Spot.{Spot}
 use Rattle.parts.specs.declared.Part.{Part}

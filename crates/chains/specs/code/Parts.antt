@@ -15,7 +15,8 @@ use Rattle.records.specs.Kinds.{RecName, RecAddress, RecThreePart, RecPair, Rec
 use Rattle.records.specs.Tree.{Tree, leaf, node, none, more}
 use Rattle.sources.specs.Source.{Lexeme}
 use Rattle.answers.specs.Reading.{Reader}
-use Rattle.forms.specs.Forms.{markIn, laid, headed}
+use Rattle.forms.specs.Forms.{laid}
+use Rattle.forms.specs.code.Constructs.{markIn, headed}
 use Rattle.forms.specs.code.Spots.{wordOf}
 use Rattle.forms.specs.declared.Spot.{Spot}
 use Rattle.parts.specs.declared.Parsed.{Parsed}

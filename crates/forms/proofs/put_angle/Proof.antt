@@ -1,5 +1,5 @@
 use borrow.Author.Tests.{eq-eqb, ne-eqb}
-use Rattle.forms.specs.Forms.{markIn}
+use Rattle.forms.specs.code.Constructs.{markIn}
 use borrow.Author.Needs.{needs}
 use Rattle.forms.proofs.put_angle.Statement.{statement}
 use Rattle.forms.proofs.put_angle.Tie as tie

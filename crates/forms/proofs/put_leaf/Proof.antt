@@ -1,6 +1,6 @@
 use borrow.Author.Tests.{eq-eqb, ne-eqb}
 use mathlib.Core.Path.{ap, sym, _∙_}
-use Rattle.forms.specs.Forms.{spelt}
+use Rattle.forms.specs.code.Constructs.{spelt}
 use Rattle.forms.specs.code.Spots.{movedBy}
 use Rattle.forms.proofs.Placing.{head-long}
 use borrow.Author.Needs.{needs}

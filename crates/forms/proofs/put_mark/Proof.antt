@@ -1,6 +1,6 @@
 use borrow.Author.Tests.{eq-eqb, ne-eqb}
 use mathlib.Core.Path.{refl}
-use Rattle.forms.specs.Forms.{markIn}
+use Rattle.forms.specs.code.Constructs.{markIn}
 use borrow.Author.Needs.{needs}
 use Rattle.forms.proofs.put_mark.Statement.{statement}
 use Rattle.forms.proofs.put_mark.Tie as tie

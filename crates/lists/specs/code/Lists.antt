@@ -16,7 +16,8 @@ use Rattle.tokens.specs.declared.Lexed.the-variants.{Found, Refused as Bad}
 use Rattle.records.specs.Tree.{Trees, none, more}
 use Rattle.sources.specs.Source.{Source}
 use Rattle.answers.specs.Reading.{Ans, ok, Reader, listBehind}
-use Rattle.forms.specs.Forms.{markIn, laid, laidItems}
+use Rattle.forms.specs.Forms.{laid}
+use Rattle.forms.specs.code.Constructs.{markIn, laidItems}
 use Rattle.forms.specs.code.Spots.{Placed}
 use Rattle.forms.specs.declared.Spot.{Spot}
 use Rattle.parts.specs.code.Meets.{Fits, held, ReadsBy}

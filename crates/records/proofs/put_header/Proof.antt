@@ -1,6 +1,6 @@
 use mathlib.Core.Path.{sym}
 use Rattle.buffer.proofs.Sets.{sets-out}
-use Rattle.records.specs.Stored.{header}
+use Rattle.records.specs.code.Narrow.{header}
 use Rattle.records.proofs.Pieces.{header-pieces}
 use borrow.Author.Needs.{needs}
 use Rattle.records.proofs.put_header.Statement.{statement}

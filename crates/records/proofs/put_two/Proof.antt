@@ -1,6 +1,6 @@
 use mathlib.Core.Path.{sym}
 use Rattle.buffer.proofs.Sets.{sets-out}
-use Rattle.records.specs.Stored.{two}
+use Rattle.records.specs.code.Narrow.{two}
 use Rattle.records.proofs.Pieces.{two-pieces}
 use borrow.Author.Needs.{needs}
 use Rattle.records.proofs.put_two.Statement.{statement}

@@ -2,7 +2,7 @@ use mathlib.Core.Path.{_≡_, _∙_, sym, refl}
 use Prim.Native.Nat.{_-_}
 use native.Mathlib.Omega.{arith}
 use lib.ListN.{length}
-use Rattle.starts.specs.Step.{stepTo}
+use Rattle.starts.specs.code.Step.{stepTo}
 use Rattle.starts.proofs.Steps.{step-refused, step-eof, step-behind, step-on}
 use borrow.Author.Needs.{needs}
 use Rattle.starts.proofs.step_to.Statement.{statement}

@@ -2,7 +2,7 @@ use mathlib.Core.Path.{_∙_, ap}
 use Prim.Native.Nat.{_+_, _-_, _≤_}
 use lib.ListN.{length, take}
 use lib.Seq.{length-sets}
-use Rattle.buffer.specs.Written.{Written}
+use Rattle.buffer.specs.code.Written.{Written}
 use Rattle.token_program.proofs.Lines.{copy-start, copy-step, copy-end}
 use borrow.Author.Needs.{needs}
 use Rattle.token_program.proofs.put_all.Statement.{statement}

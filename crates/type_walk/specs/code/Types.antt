@@ -8,7 +8,7 @@ use lib.ListN.{length}
 use lib.Seq.{sets}
 use Rattle.classes.specs.Bytes.{bytes}
 use Rattle.records.specs.Kinds.{RecUnit, RecTuple, RecBrackets}
-use Rattle.forms.specs.Forms.{markIn}
+use Rattle.forms.specs.code.Constructs.{markIn}
 use Rattle.forms.specs.code.Spots.{movedBy}
 use Rattle.forms.specs.declared.Spot.{Spot}
 

@@ -12,7 +12,7 @@ use Rattle.records.specs.Tree.{Tree, leaf, node, Trees, none, more}
 use Rattle.sources.specs.Source.{Source, Lexeme, start, end, word, lex}
 use Rattle.grammar.specs.Types.{bracketed}
 use Rattle.forms.specs.Unprintable.{isString}
-use Rattle.frames.specs.Related.{Frame, Met}
+use Rattle.frames.specs.code.Related.{Frame, Met}
 
 -- what is chosen: where tokens start, where they end, sources, and what is asked of the kinds of records, of a token's kind and word with
 -- the two places where it starts, and of the numbers of refusals

@@ -1,0 +1,2 @@
+-- The words that only inner contracts and laws use.
+pub mod Narrow
