@@ -12,7 +12,7 @@ use Rattle.classes.proofs.Bools.{false-true}
 use Rattle.words.specs.Kinds.{EOF}
 use Rattle.tokens.specs.Walk.{Listed, eof, refused, next, tokensAt}
 use Rattle.tokens.specs.declared.Token.{Token}
-use Rattle.starts.specs.Allowed.{TokenOf, last, first, later}
+use Rattle.starts.specs.Allowed.{TokenOf, last, first, inRest}
 use Rattle.carried.specs.Carry.{refusalOf, isStart, covers, coveringStart}
 use Rattle.carried.specs.Promised.{ToEOF}
 use Rattle.carried.proofs.Walked.{Walked, over, stopped, going, walked}
@@ -27,7 +27,7 @@ start-token (next t l) x h = go (eqb (t .start) x) refl h (start-token l x)
   where
     go : (b : Bool) → eqb (t .start) x ≡ b → b || isStart l x ≡ true → (isStart l x ≡ true → (t : Token) × TokenOf t l × (t .start ≡ x)) → (u : Token) × TokenOf u (next t l) × (u .start ≡ x)
     go true q k ih = (t, first, eqb-true (t .start) x q)
-    go false q k ih = let u = ih k in (u .0, later (u .1), u .2)
+    go false q k ih = let u = ih k in (u .0, inRest (u .1), u .2)
 
 pub or-either : (a b : Bool) → b ≡ true → a || b ≡ true
 or-either true b h = refl
@@ -52,7 +52,7 @@ module _ (text : List ℕ) where
   -- what is settled, and not by the first token, is so by the rest
   pub settled-rest : (t : Token) (l : Listed) (x : ℕ) → covers t x ≡ false → Settled text (next t l) x → Settled text l x
   settled-rest t l x q (inl (u, first, h)) = false-true _ (sym q ∙ h)
-  settled-rest t l x q (inl (u, later m, h)) = inl (u, m, h)
+  settled-rest t l x q (inl (u, inRest m, h)) = inl (u, m, h)
   settled-rest t l x q (inr e) = inr e
 
   -- EOF covers nothing
@@ -65,12 +65,12 @@ module _ {ed : ℕ} {text : List ℕ} where
   pub from : {at : ℕ} {l : Listed} → Walked ed text at l → (u : Token) → TokenOf u l → at ≤ u .start
   from (over a b c d) u last = a
   from (going e a b c d w) u first = a
-  from (going e a b c d w) u (later m) = omega (arith, from w u m)
+  from (going e a b c d w) u (inRest m) = omega (arith, from w u m)
 
   pub eof-end : {at : ℕ} {l : Listed} → Walked ed text at l → (u : Token) → TokenOf u l → u .kind ≡ EOF → u .start ≡ length text
   eof-end (over a b c d) u last z = b
   eof-end (going e a b c d w) u first z = absurd (d z)
-  eof-end (going e a b c d w) u (later m) z = eof-end w u m z
+  eof-end (going e a b c d w) u (inRest m) z = eof-end w u m z
 
   -- what is settled by a list from `at` on is not before it
   settled-from : {at : ℕ} {l : Listed} → Walked ed text at l → at ≤ length text → (x : ℕ) → Settled text l x → at ≤ x
@@ -81,7 +81,7 @@ module _ {ed : ℕ} {text : List ℕ} where
   pub within : {at : ℕ} {l : Listed} → Walked ed text at l → (u : Token) → TokenOf u l → u .end ≤ length text
   within (over a b c d) u last = omega arith
   within (going e a b c d w) u first = c
-  within (going e a b c d w) u (later m) = within w u m
+  within (going e a b c d w) u (inRest m) = within w u m
 
   pub settled-within : {at : ℕ} {l : Listed} → Walked ed text at l → (x : ℕ) → Settled text l x → x ≤ length text
   settled-within w x (inl (u, m, c)) = omega (arith, within w u m, covers-in u x c)

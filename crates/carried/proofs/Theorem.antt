@@ -9,7 +9,7 @@ use Rattle.tokens.specs.Calls.{_orElse_}
 use Rattle.tokens.specs.Walk.{Listed, tokensAt}
 use Rattle.tokens.specs.declared.Token.{Token}
 use Rattle.tokens.proofs.Faults.{no-two, unless-not}
-use Rattle.starts.specs.Allowed.{TokenOf, last, first, later}
+use Rattle.starts.specs.Allowed.{TokenOf, last, first, inRest}
 use Rattle.carried.specs.Carry.{refusalOf, isStart, covers, coveringStart, badNote, rejected, moved, carryFault, carry, notesAfter}
 use Rattle.carried.specs.Promised.{ToEOF, OldStartsLieInOneNewToken, MovedAs, StartsAreMoved, RefusedMovesNone, ReadInBoth}
 use Rattle.carried.proofs.Walked.{Walked, over, going, walked}
@@ -23,11 +23,11 @@ module _ {ed : ℕ} {text : List ℕ} where
   only-one : {at : ℕ} {l : Listed} → Walked ed text at l → (x : ℕ) (u v : Token) → TokenOf u l → TokenOf v l → covers u x ≡ true → covers v x ≡ true → v ≡ u
   only-one (over a b c d) x u v last last i j = refl
   only-one (going {t = t} e a b c d w) x u v first first i j = refl
-  only-one (going {t = t} e a b c d w) x u v first (later q) i j =
+  only-one (going {t = t} e a b c d w) x u v first (inRest q) i j =
       absurd (omega (arith, covers-in u x i, covers-in v x j, from w v q))
-  only-one (going {t = t} e a b c d w) x u v (later p) first i j =
+  only-one (going {t = t} e a b c d w) x u v (inRest p) first i j =
       absurd (omega (arith, covers-in u x i, covers-in v x j, from w u p))
-  only-one (going {t = t} e a b c d w) x u v (later p) (later q) i j = only-one w x u v p q i j
+  only-one (going {t = t} e a b c d w) x u v (inRest p) (inRest q) i j = only-one w x u v p q i j
 
 -- 1
 pub old-starts-lie-in-one-new-token : OldStartsLieInOneNewToken

@@ -27,7 +27,7 @@ use Rattle.tokens.proofs.Editions.{isNumber, Longer, editions-same, editions-nu
 use Rattle.tokens.proofs.Faults.{in-place}
 use Rattle.tokens.proofs.Lexing.{Good, Sound, lex-sound}
 use Rattle.tokens.proofs.Walks.{at-next, at-eof, at-refused}
-use Rattle.starts.specs.Allowed.{TokenOf, last, first, later}
+use Rattle.starts.specs.Allowed.{TokenOf, last, first, inRest}
 use Rattle.carried.specs.Carry.{refusalOf, covers}
 use Rattle.carried.specs.Promised.{ToEOF}
 use Rattle.carried.proofs.Walked.{stands, scan-found, scan-refused}
@@ -68,7 +68,7 @@ module _ (t : Token) where
       where
         go : (v : Token) → TokenOf v (next t old) → (v .kind ≡ EOF → ⊥) → (w : Token) × TokenOf w (next u new) × (covers w (v .start) ≡ true)
         go v first n = (u, first, h)
-        go v (later m) n = let c = p .covered v m n in (c .0, later (c .1), c .2)
+        go v (inRest m) n = let c = p .covered v m n in (c .0, inRest (c .1), c .2)
 
     -- one more of edition 1
     pair-old : Pair old (next u new) → Pair (next t old) (next u new)
@@ -77,12 +77,12 @@ module _ (t : Token) where
       where
         go : (v : Token) → TokenOf v (next t old) → (v .kind ≡ EOF → ⊥) → (w : Token) × TokenOf w (next u new) × (covers w (v .start) ≡ true)
         go v first n = (u, first, h)
-        go v (later m) n = p .covered v m n
+        go v (inRest m) n = p .covered v m n
 
   -- one more of edition 2
   pair-new : (old new : Listed) → Pair old new → Pair old (next t new)
   unfolding refusalOf
-  pair-new old new p = record { whole = p .whole; covered = λ v m n. let c = p .covered v m n in (c .0, later (c .1), c .2) }
+  pair-new old new p = record { whole = p .whole; covered = λ v m n. let c = p .covered v m n in (c .0, inRest (c .1), c .2) }
 
 module _ (text : List ℕ) where
   reach-pair : (old : Listed) (e a : ℕ) → Reaches 2 text e a → Pair old (tokensAt 2 text e) → Pair old (tokensAt 2 text a)

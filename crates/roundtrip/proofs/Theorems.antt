@@ -12,12 +12,14 @@ use Rattle.tokens.proofs.Shift.{token-from as token-raised, comment-from as com
 use Rattle.tokens.proofs.TokenLines.{flag-from as flag-raised, tokens-hold-no-line-feed, Walk as WalkOf, lastStart as lastOf, flags as flagsOf, same-line as on-one-line}
 use Rattle.tokens.proofs.RefusalSets.{token-refusals as token-meets, comment-refusals as comment-meets}
 use Rattle.tokens.proofs.Walks.{tokens-end as list-ends}
+use Rattle.starts.proofs.Allowed.{allowed, allowed-only, refused-before, refused-only, nowhere, nowhere-only}
 use Rattle.frames.proofs.Held.{Held, item-held}
+use Rattle.frames.proofs.Faithful.{item-fitting as numbers-fit}
 use Rattle.frames.proofs.Raised.{item-from as item-raised}
 use Rattle.frames.proofs.Unbracketed.{rust-item as rust-unbracketed}
 use Rattle.calls.proofs.RefusalSets.{read-refusals as read-meets, display-refusals as display-meets}
-use Rattle.calls.proofs.Faithful.{room-enough as tree-fits}
-use Rattle.roundtrip.specs.Theorems.{ReadsBack, AnswersBack, TokenFrom, FlagFrom, CommentFrom, ItemFrom, RustItem, TokenRefusals, CommentRefusals, ReadRefusals, DisplayRefusals, EditionsSame, EditionsNumber, EditionsRefused, OthersFirst, LineFeedThere, NoTokenHoldsLineFeed, Walk, lastStart, flags, SameLine, TokensEnd, ItemPlaced, RoomEnough}
+use Rattle.calls.proofs.Faithful.{room-enough as tree-fits, read-faithful as told-apart}
+use Rattle.roundtrip.specs.Theorems.{ReadsBack, AnswersBack, TokenFrom, FlagFrom, CommentFrom, ItemFrom, RustItem, TokenRefusals, CommentRefusals, ReadRefusals, DisplayRefusals, BeginsExactly, EditionsSame, EditionsNumber, EditionsRefused, OthersFirst, LineFeedThere, NoTokenHoldsLineFeed, Walk, lastStart, flags, SameLine, TokensEnd, ItemPlaced, ItemFitting, ReadFaithful, RoomEnough}
 use Rattle.roundtrip.proofs.Theorem.{reads-back as read-again, answers-back as answered-again}
 
 pub reads-back : ReadsBack
@@ -52,6 +54,13 @@ read-refusals = read-meets
 
 pub display-refusals : DisplayRefusals
 display-refusals = display-meets
+
+pub begins-exactly : BeginsExactly
+begins-exactly ed text offset = (
+  (allowed-only ed text offset, allowed ed text offset),
+  λ r. (refused-only ed text offset r, refused-before ed text offset r),
+  (nowhere-only ed text offset, λ h. nowhere ed text offset (h .0) (h .1)),
+)
 
 pub editions-same : EditionsSame
 editions-same = same-in-both
@@ -93,6 +102,12 @@ tokens-end = list-ends
 
 pub item-placed : ItemPlaced
 item-placed q x n e = let h = subst (Held (q .text) (q .at)) e (item-held q) in (h .from, h .some, h .follows, h .within, h .nested)
+
+pub item-fitting : ItemFitting
+item-fitting = numbers-fit
+
+pub read-faithful : ReadFaithful
+read-faithful = told-apart
 
 pub room-enough : RoomEnough
 room-enough = tree-fits

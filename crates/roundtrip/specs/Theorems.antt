@@ -1,6 +1,6 @@
 -- What is proved of the definitions that the contracts of the calls cite, as statements: each is a type, and proofs/Theorems has a proof of
 -- each under the same name in small letters. Demand 3; reading from an offset; the Rust's trees; which refusals a call can meet; the
--- bytes of a line; the two editions; the flag of a line feed; sizes.
+-- bytes of a line; where reading may begin; the two editions; the flag of a line feed; sizes.
 use mathlib.Core.Path.{_≡_}
 use mathlib.Core.Bool.{Bool, true, false, cond, _||_}
 use mathlib.Core.Logic.{_↔_}
@@ -24,15 +24,19 @@ use Rattle.tokens.specs.declared.Fault.the-variants.{Faultless}
 use Rattle.tokens.specs.declared.Token.{Token}
 use Rattle.tokens.specs.declared.Lexed.the-variants.{Found, Refused}
 use Rattle.tokens.specs.declared.DocComment.the-variants.{Broken}
+use Rattle.starts.specs.Beginning.{beginning}
+use Rattle.starts.specs.Allowed.{MayBegin, RefusedBefore}
+use Rattle.starts.specs.declared.Beginning.the-variants.{Allowed, Nowhere, Refused as StartRefused}
 use Rattle.records.specs.Tree.{Tree, build}
-use Rattle.records.specs.Spans.{startOf, endOf, Nested}
+use Rattle.records.specs.Spans.{unspelled, startOf, endOf, Nested}
 use Rattle.sources.specs.Source.{Lexeme, start, end}
 use Rattle.grammar.specs.Items.{Item, item, refused, Asked, faultOf, readItem}
 use Rattle.grammar.specs.Raise.{ofText, raiseItem}
 use Rattle.grammar.specs.Rust.{rustItem, unbracketedItem}
 use Rattle.forms.specs.Line.{shown}
 use Rattle.forms.specs.Unprintable.{clean, foundAt, unprintable}
-use Rattle.forms.specs.Sizes.{treeRoom}
+use Rattle.forms.specs.Forms.{written, formOf}
+use Rattle.forms.specs.Sizes.{treeRoom, Fitting}
 use Rattle.calls.specs.Calls.{read, readNumber, answered, display, displayBuffer, displayed, displayNumber}
 use Rattle.calls.specs.RefusalSets.{itemRefusals, displayRefusals}
 use Rattle.roundtrip.specs.Demand.{Lent, readOf, displayOf, Accepted, treeLength, lineLength, lineOf, lineBack, ReadBack, AnsweredBack}
@@ -138,6 +142,15 @@ UnprintableExactly =
     → ((b : ℕ) → UnprintableAt q b → display q room ≡ refused (refusal LineUnprintable b (b + 1)))
     × ((r : Refusal) → display q room ≡ refused r → r .number ≡ LineUnprintable → UnprintableAt q (r .place .start))
 
+-- Where a read or a display may begin: exactly at the offsets of the list; with a refusal of what stands before the offset exactly where
+-- the walk ends in it; and nothing starts there exactly where neither holds
+abbrev pub BeginsExactly : Type 0
+BeginsExactly =
+    (ed : ℕ) (text : List ℕ) (offset : ℕ)
+    → ((beginning ed text offset ≡ Allowed) ↔ MayBegin ed text offset)
+    × ((r : Refusal) → (beginning ed text offset ≡ StartRefused r) ↔ RefusedBefore ed text offset r)
+    × ((beginning ed text offset ≡ Nowhere) ↔ ((MayBegin ed text offset → ⊥) × ((r : Refusal) → RefusedBefore ed text offset r → ⊥)))
+
 -- The editions. A token of edition 1 that is no number is the same in edition 2
 abbrev pub isNumber : ℕ → Bool
 isNumber k = eqb k NumValue || eqb k NumTypedValue
@@ -199,6 +212,16 @@ abbrev pub ItemPlaced : Type 0
 ItemPlaced =
     (q : Asked) (x : Tree) (n : Lexeme) → readItem q ≡ item x n
     → (q .at ≤ startOf x) × (startOf x < endOf x) × (endOf x ≤ start n) × (end n ≤ length (q .text)) × Nested x
+
+-- each number of an item's tree fits the bytes that it has in the tree's form
+abbrev pub ItemFitting : Type 0
+ItemFitting = (q : Asked) (x : Tree) (n : Lexeme) → readItem q ≡ item x n → Fitting (formOf (q .text) x) x
+
+-- what is written tells the form, and a tree from every other, but for its words
+abbrev pub ReadFaithful : Type 0
+ReadFaithful =
+    (q r : Asked) (room space : ℕ) (x y : Tree) (n m : Lexeme) → read q room ≡ item x n → read r space ≡ item y m
+    → written (formOf (q .text) x) x ≡ written (formOf (r .text) y) y → (formOf (q .text) x ≡ formOf (r .text) y) × (unspelled x ≡ unspelled y)
 
 -- there is room for every tree of a text in so many bytes
 abbrev pub RoomEnough : Type 0

@@ -14,7 +14,7 @@ use Rattle.tokens.specs.Walk.{Listed, eof, refused, next, tokensAt}
 use Rattle.tokens.specs.declared.Refusal.{Refusal}
 use Rattle.tokens.specs.declared.Token.{Token}
 use Rattle.starts.specs.Beginning.{bounds, byRefusal, byTokens, beginning}
-use Rattle.starts.specs.Allowed.{TokenOf, last, first, later, RefusedBehind, here, later as behind, MayBegin, atZero, atStart, atEnd, inMiddle, atRefused, RefusedBefore}
+use Rattle.starts.specs.Allowed.{TokenOf, last, first, inRest, RefusedBehind, here, behindToken, MayBegin, atZero, atStart, atEnd, inMiddle, atRefused, RefusedBefore}
 use Rattle.starts.specs.declared.Beginning.{Beginning}
 use Rattle.starts.specs.declared.Beginning.the-variants.{Allowed, Nowhere, Refused}
 use Rattle.starts.proofs.Ordered.{Ordered, tokens-ordered}
@@ -26,11 +26,11 @@ module _ (t : Token) where
   token-behind : {l : Listed} (p : ℕ) → Ordered p l → TokenOf t l → (p ≤ t .start) × (t .start ≤ t .end)
   token-behind p o last = o
   token-behind p o first = (o .0, omega (arith, o .1))
-  token-behind p o (later {u = u} m) = let r = token-behind (u .end) (o .2) m in (omega (arith, o .0, o .1, r .0), r .1)
+  token-behind p o (inRest {u = u} m) = let r = token-behind (u .end) (o .2) m in (omega (arith, o .0, o .1, r .0), r .1)
 
 refused-later : (m : ℕ) (r : Refusal) (p : ℕ) (l : Listed) → Ordered p l → RefusedBehind m r p l → p ≤ m
 refused-later m r p l o here = omega arith
-refused-later m r p (next t l) o (behind d) = omega (arith, o .0, o .1, refused-later m r (t .end) l (o .2) d)
+refused-later m r p (next t l) o (behindToken d) = omega (arith, o .0, o .1, refused-later m r (t .end) l (o .2) d)
 
 not-allowed : (A : Type 0) → Nowhere ≡ Allowed → A
 not-allowed A e = let z : _≡_ {A = ℕ} 0 1 = cc in absurd (omega arith)
@@ -49,7 +49,7 @@ module _ (text : List ℕ) (offset : ℕ) where
   unfolding byTokens
   token-allowed t p o last b = rw b
   token-allowed t p o first b = rw b
-  token-allowed t p o (later {u = u} {l = l} m) b =
+  token-allowed t p o (inRest {u = u} {l = l} m) b =
       let r = token-behind t (u .end) (o .2) m in
       passes u l p (omega (arith, r .0, bound-inside t offset (r .1) b)) (token-allowed t (u .end) (o .2) m b)
 
@@ -57,13 +57,13 @@ module _ (text : List ℕ) (offset : ℕ) where
       → offset ≡ partsEnd 0 m (drop m text) → byTokens text offset p l ≡ Allowed
   unfolding byTokens
   refused-allowed m r p l o here n e = sym (refusal-at r (partsEnd 0 m (drop m text)) offset (omega arith) e n)
-  refused-allowed m r p (next t l) o (behind d) n e =
+  refused-allowed m r p (next t l) o (behindToken d) n e =
       passes t l p (omega (arith, refused-later m r (t .end) l (o .2) d, parts-later (drop m text) 0 m)) (refused-allowed m r (t .end) l (o .2) d n e)
 
   refused-told : (m : ℕ) (r : Refusal) (p : ℕ) (l : Listed) → Ordered p l → RefusedBehind m r p l → partsEnd 0 m (drop m text) < offset → byTokens text offset p l ≡ Refused r
   unfolding byTokens
   refused-told m r p l o here h = sym (refusal-before r (partsEnd 0 m (drop m text)) offset h)
-  refused-told m r p (next t l) o (behind d) h =
+  refused-told m r p (next t l) o (behindToken d) h =
       let g : t .end < offset = omega (arith, refused-later m r (t .end) l (o .2) d, parts-later (drop m text) 0 m) in
       rw (none-behind t offset (o .1) g, le-ltb offset (t .end) (omega arith)) (refused-told m r (t .end) l (o .2) d h)
 
@@ -73,8 +73,8 @@ module _ (text : List ℕ) (offset : ℕ) where
     byStart : (m : ℕ) (r : Refusal) → RefusedBehind m r p l → (r .number ≡ CommentNotClosed → ⊥) → offset ≡ partsEnd 0 m (drop m text) → Why p l
 
   why-later : (p : ℕ) (t : Token) (l : Listed) → Why (t .end) l → Why p (next t l)
-  why-later p t l (byToken u m b) = byToken u (later m) b
-  why-later p t l (byStart m r d n e) = byStart m r (behind d) n e
+  why-later p t l (byToken u m b) = byToken u (inRest m) b
+  why-later p t l (byStart m r d n e) = byStart m r (behindToken d) n e
 
   why-refusal : (r : Refusal) (q : ℕ) → byRefusal r q offset ≡ Allowed → (offset ≡ q) × (r .number ≡ CommentNotClosed → ⊥)
   unfolding byRefusal
@@ -130,7 +130,7 @@ module _ (text : List ℕ) (offset : ℕ) where
       go : (b c : Bool) → cond b Allowed (cond c Nowhere (byTokens text offset (t .end) l)) ≡ Refused s → (byTokens text offset (t .end) l ≡ Refused s → Told s (t .end) l) → Told s p (next t l)
       go true c e ih = neither _ s true e
       go false true e ih = neither _ s false e
-      go false false e ih = let w = ih e in record { behindWhat = w .behindWhat; met = behind (w .met); before = w .before }
+      go false false e ih = let w = ih e in record { behindWhat = w .behindWhat; met = behindToken (w .met); before = w .before }
 
 -- for every edition, text and offset
 module _ (ed : ℕ) (text : List ℕ) (offset : ℕ) where

@@ -27,7 +27,7 @@ use Rattle.tokens.proofs.Faults.{Each, admits}
 use Rattle.tokens.proofs.RefusalSets.{frontRefusals, Met, find-met, LexMet, lex-met}
 use Rattle.tokens.proofs.Walks.{walk-ends}
 use Rattle.starts.specs.Beginning.{beginning, beginningFault, startFault}
-use Rattle.starts.specs.Allowed.{RefusedBehind, here, later}
+use Rattle.starts.specs.Allowed.{RefusedBehind, here, behindToken}
 use Rattle.starts.specs.declared.Beginning.{Beginning}
 use Rattle.starts.specs.declared.Beginning.the-variants.{Allowed, Nowhere, Refused}
 use Rattle.starts.proofs.Allowed.{refused-only, zero-begins}
@@ -66,7 +66,7 @@ module _ (ed : ℕ) (text : List ℕ) where
 
   ends-in : (m : ℕ) (r : Refusal) (p : ℕ) (l : Listed) → Ends p l → RefusedBehind m r p l → (m ≤ length text) × (scan ed m (drop m text) ≡ bad r)
   ends-in m r p l h here = h
-  ends-in m r p (next t l) h (later d) = ends-in m r (t .end) l h d
+  ends-in m r p (next t l) h (behindToken d) = ends-in m r (t .end) l h d
 
   module _ (short : length text ≤ textLimit) (m : ℕ) (r : Refusal) (d : RefusedBehind m r 0 (tokensAt ed text 0)) where
     scanned : (m ≤ length text) × (scan ed m (drop m text) ≡ bad r)

@@ -16,12 +16,12 @@ use Rattle.tokens.specs.declared.Token.{Token}
 pub data TokenOf (t : Token) : Listed → Type 0 where
   last : TokenOf t (eof t)
   first : {l : Listed} → TokenOf t (next t l)
-  later : {u : Token} {l : Listed} → TokenOf t l → TokenOf t (next u l)
+  inRest : {u : Token} {l : Listed} → TokenOf t l → TokenOf t (next u l)
 
 -- the list, whose tokens stand behind p, ends in the refusal r behind m, where the last token before it ends
 pub data RefusedBehind (m : ℕ) (r : Refusal) : ℕ → Listed → Type 0 where
   here : RefusedBehind m r m (refused r)
-  later : {p : ℕ} {t : Token} {l : Listed} → RefusedBehind m r (t .end) l → RefusedBehind m r p (next t l)
+  behindToken : {p : ℕ} {t : Token} {l : Listed} → RefusedBehind m r (t .end) l → RefusedBehind m r p (next t l)
 
 -- the offsets that are allowed
 pub data MayBegin (ed : ℕ) (text : List ℕ) (offset : ℕ) : Type 0 where
