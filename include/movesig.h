@@ -1,9 +1,10 @@
 /* The calls of the Move signature reader, for C and C++. See README.md.
  *
- * Five calls read a text of Move source: the next token, the next doc comment, an item as a stored
- * tree, an item as one line; and movesig_carry, which moves notes on a text's tokens from edition 1 to
- * edition 2. They are proved: each answers every text, every offset, every buffer and every list of notes
- * as the definitions in crates/ say, stays inside the buffers it is lent, and returns.
+ * Six calls read a text of Move source: the next token, the next doc comment, an item as a stored
+ * tree, an item as one line; movesig_carry, which moves notes on a text's tokens from edition 1 to
+ * edition 2; and movesig_outline, which lists what a text declares, so many tokens a call. They are proved:
+ * each answers every text, every offset, every buffer and every list of notes as the definitions in crates/
+ * say, stays inside the buffers it is lent, and returns.
  *
  * WHAT EVERY CALL DOES
  *
@@ -19,10 +20,11 @@
  * WHAT THE CALLER SEES TO
  *
  * - `text` points to `len` bytes that nobody writes during the call; `answer` to six numbers, aligned
- *   as uint64_t is; `out` and `line` to `room` bytes; `notes` to `count` numbers, aligned as size_t is.
- * - `text`, `answer` and the buffer, or the notes, do not overlap.
- * - `answer` is not null. `text` may be null, or any other pointer, where `len` is 0; `out` and `line` where
- *   `room` is 0; `notes` where `count` is 0.
+ *   as uint64_t is, and `pending` to three such; `out` and `line` to `room` bytes; `notes` to `count` numbers,
+ *   aligned as size_t is.
+ * - `text`, `answer`, `pending` and the buffer, or the notes, do not overlap.
+ * - `answer` and `pending` are not null. `text` may be null, or any other pointer, where `len` is 0; `out` and
+ *   `line` where `room` is 0; `notes` where `count` is 0.
  * - The edition is the one that the text is written in. A wrong one is not noticed: most texts are read alike
  *   in both, and another answer need be no refusal. The value `65_535u16` read in edition 1 is `65`, followed by
  *   the name `_535u16`.
@@ -45,14 +47,14 @@
  *
  * WHERE A READ OR A DISPLAY MAY BEGIN
  *
- * The token call and the comment call read from any offset. A read and a display make sure that `at` is a
- * place where reading can begin: they walk over the tokens from 0, in the call's edition, and `at` must be 0,
- * the start or the end of a token of that walk, the text's end, the byte between the two of a `>>`, or the
- * start of the token at which the walk is refused. Where a token that the walk is refused for, with 5, 7, 8
- * or 9, or a comment that is not closed, 6, starts before `at`, that refusal is the answer, and its place may
- * stand before `at`. Any other offset is refused with 21: one inside a token, a comment or blanks, and one where
- * a comment starts or ends and no token does. Start and end of every token that movesig_next_token answers, from 0
- * and then each from the end of the one before, are allowed.
+ * The token call, the comment call and the outline call read from any offset. A read and a display make sure
+ * that `at` is a place where reading can begin: they walk over the tokens from 0, in the call's edition, and
+ * `at` must be 0, the start or the end of a token of that walk, the text's end, the byte between the two of a
+ * `>>`, or the start of the token at which the walk is refused. Where a token that the walk is refused for,
+ * with 5, 7, 8 or 9, or a comment that is not closed, 6, starts before `at`, that refusal is the answer, and
+ * its place may stand before `at`. Any other offset is refused with 21: one inside a token, a comment or
+ * blanks, and one where a comment starts or ends and no token does. Start and end of every token that
+ * movesig_next_token answers, from 0 and then each from the end of the one before, are allowed.
  * To go on behind an item, go on from the start of the token that follows it, which its read answers, and not
  * from that token's end: where a `>>` was split to end the item, the token that follows is none of the walk. Of
  * `a<b>>==c` the type `a<b>` is read and `>=`, 4 to 6, follows; 4 is allowed, 6 is not, since the walk from 0
@@ -70,9 +72,10 @@
  *
  * REFUSALS
  *
- * A refused call answers { start, end, second start, second end, 0, 0 }: the span it is about, and a
- * second span, which is the first one again unless the list names another. It leaves the buffer that it
- * was lent as it was, every byte. (s, s) stands for a span without length at the byte or token meant.
+ * A refused call answers { start, end, second start, second end, 0, 0 }: the span it is about, and a second
+ * span, which is the first one again unless the list names another. It leaves what it was lent as it was: the
+ * buffer, every byte, the notes and what is pending. (s, s) stands for a span without length at the byte or
+ * token meant.
  * Of 20 alone the place is no place of the text: its i is the index of a note in the list that was lent,
  * counted from 0. Nothing of the text is to be pointed at for it.
  *
@@ -109,7 +112,8 @@
  *
  * They are tried in this order: 1, 2, 3, 19; then, for a read and a display whose `at` is not 0, the walk to
  * it: its 5 to 9, or 21; then 5 to 14 of what is read, whichever is met first; then 18; 4 last. movesig_carry
- * tries 1, then 5 to 9 of the whole text in edition 1, then in edition 2, and 20 last.
+ * tries 1, then 5 to 9 of the whole text in edition 1, then in edition 2, and 20 last. movesig_outline tries 1,
+ * 2 and 19, and then meets 5 to 9 among the tokens that it reads.
  */
 #ifndef MOVESIG_H
 #define MOVESIG_H
@@ -147,6 +151,10 @@ extern "C" {
 /* The most levels of an item. */
 #define MOVESIG_LEVELS 64
 
+/* The bytes of each record of the outline of a text of `len` bytes: 12, and 22 where it has more than 65,535. A
+ * portion of n tokens has at most (n + 1) / 2 records. A constant where `len` is one. */
+#define MOVESIG_ENTRY_SIZE(len) ((size_t)(len) <= 65535 ? (size_t)12 : (size_t)22)
+
 /* The most notes that movesig_carry moves. */
 #define MOVESIG_MOST_NOTES 256
 
@@ -159,15 +167,16 @@ extern "C" {
 /* The version of this header and of the calls in it, by semantic versioning: before 1.0 another MINOR may
  * change answers or calls, from then on only another MAJOR. CHANGELOG.md says what changed for a station.
  * A station can compare it when it is compiled: the calls take an edition from MINOR 5 on, trees may be wide
- * from MINOR 6 on, and a read or a display may be refused with 21 from MINOR 8 on. */
+ * from MINOR 6 on, a read or a display may be refused with 21 from MINOR 9 on, and movesig_outline is there from
+ * MINOR 11 on. */
 #define MOVESIG_VERSION_MAJOR 0
-#define MOVESIG_VERSION_MINOR 10
+#define MOVESIG_VERSION_MINOR 11
 #define MOVESIG_VERSION (MOVESIG_VERSION_MAJOR * 65536 + MOVESIG_VERSION_MINOR)
 
-/* The library has its version in the name of a symbol too, movesig_version_0_10, whose value is
+/* The library has its version in the name of a symbol too, movesig_version_0_11, whose value is
  * MOVESIG_VERSION. What includes this header and is compiled by gcc or clang refers to that symbol: with a
  * library of another version, whose calls may take other arguments, it is not linked (`undefined reference to
- * movesig_version_0_10`), and with a shared one not started (`undefined symbol`). A source file that wants
+ * movesig_version_0_11`), and with a shared one not started (`undefined symbol`). A source file that wants
  * numbers and names from here and is linked without the library defines MOVESIG_NO_VERSION_CHECK before. */
 #define MOVESIG_JOINED(word, major, minor) word##major##_##minor
 #define MOVESIG_VERSIONED(word, major, minor) MOVESIG_JOINED(word, major, minor)
@@ -320,6 +329,46 @@ uint32_t movesig_display(uint64_t kind, uint64_t edition, const uint8_t *text, s
  * What it costs: some four walks over the text's tokens, whatever the notes are; no buffer but the list. */
 MOVESIG_NODISCARD
 uint32_t movesig_carry(const uint8_t *text, size_t len, size_t *notes, size_t count, uint64_t answer[6]);
+
+/* The outline of at most `limit` tokens from `at` on, EOF not counted: one record for each MOVESIG_STRUCT,
+ * MOVESIG_FUN or MOVESIG_CONST with a MOVESIG_IDENTIFIER right behind it, in order, into the first bytes of the
+ * `room` bytes at `out`. Accepted: { full, tokens read, bytes written, end, 0, 0 }; full is 1 where the call stopped
+ * before a name whose record did not fit, else 0; end is that of the last token read, or `at` where none was. Bytes
+ * of `out` past the records stay as they are. Refusals 1, 2, 19 and 5 to 9; a refusal that is met within the limit is
+ * the whole answer, and tokens behind the limit are not looked at. It is refused neither with 4, since it stops
+ * where it is full, nor with 21: it reads from any offset, as the token call does.
+ *
+ * A record has MOVESIG_ENTRY_SIZE(len) bytes. The whole text tells its layout, so that all records of a text have the
+ * same one; nothing stands in front of them. Every number has its low byte first.
+ *
+ *   `len` at most 65,535: 12 bytes      `len` above: 22 bytes
+ *     bytes 0 and 1    length, 12         bytes 0 to 3     length, 22
+ *     bytes 2 and 3    keyword            bytes 4 and 5    keyword
+ *     bytes 4 and 5    name's start       bytes 6 to 9     name's start
+ *     bytes 6 and 7    name's end         bytes 10 to 13   name's end
+ *     bytes 8 and 9    comment's start    bytes 14 to 17   comment's start
+ *     bytes 10 and 11  comment's end      bytes 18 to 21   comment's end
+ *
+ * The keyword is its token's kind (enum movesig_token). The comment is the last doc comment before the name since
+ * `at` or the last `;`, `{` or `}`, all of it; 0, 0 where there is none. Other tokens between comment and name do not
+ * part them. Each line that begins with three slashes is a doc comment of its own, so that the last one counts.
+ * movesig_next_comment from the comment's start answers its text.
+ *
+ * To go on: `pending` is { keyword, comment's start, comment's end }, handed in and handed back: the kind of the token
+ * right before where that is one of the three keywords, else 0; and the last doc comment since the last `;`, `{` or
+ * `}`, or 0, 0. At the start of a file hand in three zeros; then ask again with the same `pending` and the answered
+ * end as `at`. The file ends where full is 0 and fewer tokens were read than `limit`. However a file that is readable
+ * to its end is divided among calls that are not full, the records one after the other are those of a single call.
+ * Where full is 1, nothing of the name is read, neither it nor a comment before it: ask on with more room, or with the
+ * same buffer once its records are taken out. A limit of 0 reads nothing.
+ * A keyword that is handed in and none of the three counts as 0. A comment that is handed in is taken as it is,
+ * backwards too, and as 0, 0 where one of its numbers is past the text's end.
+ *
+ * What it costs: a walk over the tokens that are read. Where more than 1,024 bytes of records come of a limit of at
+ * most 169 tokens, or more than 8,192 of a higher one, the tokens are walked over twice. */
+MOVESIG_NODISCARD
+uint32_t movesig_outline(uint64_t edition, const uint8_t *text, size_t len, size_t at, uint64_t limit,
+                         uint64_t pending[3], uint8_t *out, size_t room, uint64_t answer[6]);
 
 /* The kinds of records of a tree. Behind each its children in order; `leaf` has none, and its spelling is
  * the bytes of its span. `first` is an address or a name; a chain is one of 3 to 5; a type one of 10 to

@@ -5,7 +5,7 @@
 use crate::{
     carrying,
     longer::{self, Unit},
-    over,
+    outlining, over,
     runs::{each_length, READ},
     starts, texts,
     walks::Walk,
@@ -57,6 +57,11 @@ pub fn measure_starts() -> bool {
 /// The same for notes that are carried, which are held to walks.
 pub fn measure_carrying() -> bool {
     there_is_valgrind() && carrying::measure_all(Unit::Instructions)
+}
+
+/// The same for outlines, which are held to walks.
+pub fn measure_outlines() -> bool {
+    there_is_valgrind() && outlining::measure_all(Unit::Instructions)
 }
 
 /// The counts in edition 1: those of bench/COUNTS, by the name of the row, and the lines of those

@@ -6,6 +6,7 @@ mod counts;
 mod displays;
 mod items;
 mod longer;
+mod outlining;
 mod reads;
 mod runs;
 mod starts;
@@ -31,12 +32,12 @@ small lexer in C.
 
 usage: bench [--check] [--displays-only | --counts-only | --longer-only | --starts-only]
              [--record]
-       bench [--check] --carry-only | --carry-counts
+       bench [--check] --carry-only | --carry-counts | --outline-only | --outline-counts
        bench --walk ROW | --short-walks ROW [--edition N]
        bench --longest-walk ROW | --parts-walk ROW [--edition N]
        bench --read ROW | --wide-read ROW | --display ROW [--edition N]
        bench --read-at ROW | --walk-to ROW
-       bench --carry 'ROW: LIST'
+       bench --carry 'ROW: LIST' | --outline ROW
        bench --help
 
   --check          exit status 1 where the port is slower than the Rust on some text but
@@ -49,6 +50,8 @@ usage: bench [--check] [--displays-only | --counts-only | --longer-only | --star
   --starts-only    only reads at offsets other than 0, in both
   --carry-only     only notes that are carried, in time and in instructions
   --carry-counts   the same in instructions alone
+  --outline-only   only outlines, in time and in instructions
+  --outline-counts the same in instructions alone
   --record         the counts become those that later ones are held to (bench/COUNTS)
   --walk ROW       walks once over the text of 60 KB of a row, by the port in the edition
                    (1 if left out) and, in edition 1, by the lexer in C
@@ -61,6 +64,7 @@ usage: bench [--check] [--displays-only | --counts-only | --longer-only | --star
   --read-at ROW    reads the type behind the source of a row, at its offset
   --walk-to ROW    walks over that source, and reads the type from there on
   --carry ROW      carries the notes of a list over the longest text of a row once
+  --outline ROW    reads the outlines of a row's texts once
   --help           these words
 
 Prints a table in nanoseconds a byte: the median of the runs and, in brackets, the
@@ -90,6 +94,11 @@ edition 1 and in edition 2: --check fails where 256 notes take more than 1.3 tim
 at the end more than 1.1 times, 256 equal ones more than one or 100,000 entries more than 257
 (by a tenth in time, by a hundredth in instructions), or a byte a fifth more than in texts of
 1 KB.
+
+Outlines are measured beside a walk of token calls over the same text: --check fails where one
+call over 60 KB of Move source or of comments takes more than 1.2 times as much, over 60 KB of
+declarations alone or over 1 MB of anything more than 2.3 times, calls of 1,000 tokens over Move
+source more than 1.25 times, or a byte a fifth more at 1 MB than at 60 KB by the same calls.
 ";
 
 /// Each time is taken this often, over walks that last this long.
@@ -117,6 +126,8 @@ fn main() {
                 | counts::measure_starts()
                 | carrying::measure_all(Unit::Nanoseconds)
                 | counts::measure_carrying()
+                | outlining::measure_all(Unit::Nanoseconds)
+                | counts::measure_outlines()
         }
         Only::Displays => displays::measure_all(),
         Only::Counts => counts::measure_all(options.record) | counts::measure_longer(),
@@ -124,6 +135,8 @@ fn main() {
         Only::Starts => starts::measure_all(Unit::Nanoseconds) | counts::measure_starts(),
         Only::Carry => carrying::measure_all(Unit::Nanoseconds) | counts::measure_carrying(),
         Only::CarryCounts => counts::measure_carrying(),
+        Only::Outline => outlining::measure_all(Unit::Nanoseconds) | counts::measure_outlines(),
+        Only::OutlineCounts => counts::measure_outlines(),
     };
     if options.check && failed {
         eprintln!(
@@ -138,6 +151,9 @@ fn main() {
 fn once(what: &str, row: &str, edition: u64) {
     if what == "--carry" {
         return carrying::once(row);
+    }
+    if what == "--outline" {
+        return outlining::once(row);
     }
     if let Some(task) = TASKS.iter().find(|task| task.option == what) {
         return (task.once)(&runs::row(row), edition);
@@ -217,6 +233,8 @@ enum Only {
     Starts,
     Carry,
     CarryCounts,
+    Outline,
+    OutlineCounts,
 }
 
 #[derive(Default)]
@@ -244,12 +262,16 @@ fn options() -> Options {
             "--starts-only" => options.only = Only::Starts,
             "--carry-only" => options.only = Only::Carry,
             "--carry-counts" => options.only = Only::CarryCounts,
+            "--outline-only" => options.only = Only::Outline,
+            "--outline-counts" => options.only = Only::OutlineCounts,
             "--record" => options.record = true,
             "--walk" | "--short-walks" | "--longest-walk" | "--parts-walk" | "--read"
-            | "--wide-read" | "--display" | "--read-at" | "--walk-to" | "--carry" => match words.next() {
-                Some(row) => options.once = Some((word, row)),
-                None => bad_usage(),
-            },
+            | "--wide-read" | "--display" | "--read-at" | "--walk-to" | "--carry" | "--outline" => {
+                match words.next() {
+                    Some(row) => options.once = Some((word, row)),
+                    None => bad_usage(),
+                }
+            }
             "--edition" => match words.next().as_deref() {
                 Some("1") => options.edition = 1,
                 Some("2") => options.edition = 2,

@@ -33,6 +33,9 @@ pub const KINDS: [Kind; 10] = [
 /// held to its growth alone.
 pub const LEVEL: &str = "line feeds";
 
+/// The text with the most declarations.
+pub const DENSEST: Kind = ("fun f fun f", densest);
+
 /// A list of types, as a text.
 pub const LIST: Kind = ("flat list", items::flat_types);
 
@@ -208,6 +211,10 @@ fn fill_in(random: &mut Random, piece: &str) -> String {
         text += behind;
     }
     text
+}
+
+fn densest(_: &mut Random, length: usize) -> String {
+    "fun f ".repeat(length / 6)
 }
 
 fn punctuation(random: &mut Random, length: usize) -> String {

@@ -88,7 +88,7 @@ fn maker(row: &str) -> fn(&mut Random, usize) -> String {
     let mut all = texts::KINDS
         .iter()
         .chain(&texts::NUMBERS)
-        .chain([&texts::LIST]);
+        .chain([&texts::LIST, &texts::DENSEST]);
     let found = all.find(|(name, _)| *name == row);
     found.unwrap_or_else(|| panic!("no row '{row}'")).1
 }

@@ -25,6 +25,8 @@ pub mod line;
 pub mod long_items;
 mod memo;
 pub mod numbers;
+pub mod outline_sets;
+pub mod outlining;
 pub mod parsing;
 pub mod points;
 pub mod properties;

@@ -73,6 +73,16 @@ impl<'t> Reading<'t> {
             (self.base + text_start, self.base + text_end),
         ))
     }
+
+    /// The spans of all doc comments met so far that start at the place or behind it, in order.
+    pub fn doc_comments_from(&self, place: usize) -> Vec<(usize, usize)> {
+        let from = ((place - self.base) as u32, 0);
+        let comments = self.lexer.doc_comments().range(from..);
+        let raised = |place: u32| self.base + place as usize;
+        comments
+            .map(|((start, end), _)| (raised(*start), raised(*end)))
+            .collect()
+    }
 }
 
 /// The number that the specification gives to a refusal of the lexer.

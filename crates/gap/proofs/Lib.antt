@@ -6,6 +6,7 @@ pub mod LineFeeds
 pub mod Lines
 pub mod Parts
 pub mod Gaps
+pub mod Spans
 pub mod PartsEnd
 pub mod Shift
 pub mod Stops

@@ -12,7 +12,7 @@ ghost use Rattle.gap.specs.Gap.{gap, gapEndOf, docOf};
 ghost use Rattle.gap.specs.PartsEnd.{partsEnd};
 ghost use Rattle.gap.specs.LineFeed.{lineFeed, gapFeed};
 ghost use Rattle.gap.specs.code.Blocks.{blockPart, depthAt, openerAt};
-ghost use Rattle.gap.specs.code.Ends.{endOfPart};
+ghost use Rattle.gap.specs.code.Ends.{endOfPart, textless, docScan};
 ghost use Rattle.gap.specs.declared.Close.the-variants.{At};
 ghost use Rattle.gap.specs.declared.GapEnd.the-variants.{Clear};
 ghost use Rattle.gap.specs.declared.PartEnd.the-variants.{Ends};
@@ -76,6 +76,13 @@ pub enum GapEnd {
 pub struct GapScan {
     pub end: GapEnd,
     pub feed: bool,
+}
+
+// The end of a gap, and the span of its last doc comment, (0,0) where it has none.
+pub struct DocScan {
+    pub end: GapEnd,
+    pub from: usize,
+    pub to: usize,
 }
 
 // The first doc comment of a gap; none; or the span of an opener that is not closed before any.
@@ -503,4 +510,84 @@ pub fn parts_end(text: &[u8], at: usize) -> usize
         }
     }
     i
+}
+
+// The line comment at i; of its span alone, so that its bytes are looked over once.
+fn line_span(text: &[u8], i: usize) -> GapPart
+    requires { ⌜ i < length (now text) ⌝ }
+    ensures { λ r. ⌜ textless r ≡ textless (lineComment i (drop i (now (text .entry)))) ⌝ }
+{
+    let e = classes::run_end(LINE, text, i);
+    let a = classes::byte_at(text, i + 2);
+    let b = classes::byte_at(text, i + 3);
+    if doc_line(a, b) {
+        return GapPart::Doc(Comment {
+            start: i,
+            end: e,
+            from: i,
+            to: i,
+        });
+    }
+    GapPart::Pass(e)
+}
+
+// The part of a gap that stands at i; of a doc comment the span alone.
+fn part_span(text: &[u8], i: usize) -> GapPart
+    requires { ⌜ i < length (now text) ⌝ }
+    ensures { λ r. ⌜ textless r ≡ textless (partAt i (drop i (now (text .entry)))) ⌝ }
+{
+    let a = text[i];
+    let b = classes::byte_at(text, i + 1);
+    if pair(a, b, b'/', b'/') {
+        return line_span(text, i);
+    }
+    part_at(text, i)
+}
+
+// A gap that ends so, and its last doc comment.
+fn documented(end: GapEnd, from: usize, to: usize) -> DocScan
+    ensures { λ r. ⌜ r ≡ record { end = end; from = from; to = to } ⌝ }
+{
+    DocScan {
+        end: end,
+        from: from,
+        to: to,
+    }
+}
+
+// Where the gap from `at` on ends, and its last doc comment. This is no answer of `gap_scan`: the token call, in
+// which that scan stands, would store it at every token.
+pub fn doc_scan(text: &[u8], at: usize) -> DocScan
+    ensures { λ r. ⌜ r ≡ docScan 0 0 (gap 0 at (drop at (now (text .entry)))) ⌝ }
+{
+    let mut i = at;
+    let mut from: usize = 0;
+    let mut to: usize = 0;
+    while i < text.len() {
+        let a = text[i];
+        if classes::is_space(a) {
+            i += 1;
+        } else if classes::begins_part(a) {
+            let p = part_span(text, i);
+            match p {
+                GapPart::Pass(e) => {
+                    i = e;
+                }
+                GapPart::Doc(c) => {
+                    from = c.start;
+                    to = c.end;
+                    i = c.end;
+                }
+                GapPart::Unclosed(o, q) => {
+                    return documented(GapEnd::Broken(o, q), from, to);
+                }
+                GapPart::Other => {
+                    return documented(GapEnd::Clear(i), from, to);
+                }
+            }
+        } else {
+            return documented(GapEnd::Clear(i), from, to);
+        }
+    }
+    documented(GapEnd::Clear(i), from, to)
 }

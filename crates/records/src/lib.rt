@@ -9,7 +9,7 @@ ghost use Rattle.records.specs.code.Narrow.{two, header};
 pub mod kinds;
 
 // Writes a number in two bytes, the low one first.
-fn put_two(out: &mut [u8], pos: usize, v: usize)
+pub fn put_two(out: &mut [u8], pos: usize, v: usize)
     ensures { λ _. ⌜ now (out .exit) ≡ sets (now (out .entry)) pos (two v) ⌝ }
 {
     if pos < out.len() {

@@ -3,6 +3,7 @@ use mathlib.Core.Path.{_≡_, refl}
 use mathlib.Core.Bool.{cond}
 use mathlib.Core.List.{List, [], _∷_}
 use Prim.Native.Nat.{ℕ}
+use lib.ListN.{length}
 use Rattle.gap.specs.declared.Comment.{Comment}
 use Rattle.tokens.specs.Answers.{places, tokenNumber, tokenValues, commentNumber, commentValues}
 use Rattle.tokens.specs.declared.Advanced.{Advanced}
@@ -11,6 +12,12 @@ use Rattle.tokens.specs.declared.Token.{Token}
 use Rattle.tokens.specs.declared.Lexed.the-variants.{Found, Refused}
 use Rattle.tokens.specs.declared.DocComment.{DocComment}
 use Rattle.tokens.specs.declared.DocComment.the-variants.{Doc, Nothing, Broken}
+use Rattle.outline.specs.Outline.{Outlined, outlined}
+use Rattle.outline.specs.Calls.{answered as outlineAnswer, outlineNumber, outlineValues, pendingOf, pendingValues, pendingLeft, outlineBuffer}
+use Rattle.outline.specs.declared.Answer.{Answer as Outline}
+use Rattle.outline.specs.declared.Answer.the-variants.{Read, Refused as Unread}
+use Rattle.outline.specs.declared.Pending.{Pending}
+use Rattle.outline.specs.declared.Summary.{Summary}
 use Rattle.carried.specs.Carry.{carryNumber, carryValues}
 use Rattle.carried.specs.declared.Carried.{Carried}
 use Rattle.carried.specs.declared.Carried.the-variants.{Moved, Refused as Unmoved}
@@ -69,3 +76,19 @@ module _ (a : Carried) where
   pub none-moved : (r : Refusal) → a ≡ Unmoved r → (v : List ℕ) → v ≡ places r → (r .number ≡ carryNumber a) × (v ≡ carryValues a)
   unfolding carryNumber carryValues
   none-moved r e v f = rw e (refl, f)
+
+-- the outline call: p is what the three numbers l hand in, a the answer, and `exit` the lent buffer behind the call
+module _ (ed : ℕ) (text : List ℕ) (at limit : ℕ) (l out : List ℕ) (p : Pending) (h : p ≡ pendingOf l) where
+  abbrev pub Told : ℕ → (values pending exit : List ℕ) → Outlined → Type 0
+  Told n v q exit x =
+      (n ≡ outlineNumber (outlineAnswer text x)) × (v ≡ outlineValues (outlineAnswer text x)) × (q ≡ pendingLeft l (outlineAnswer text x)) × (exit ≡ outlineBuffer text x out)
+
+  module _ (a : Outline) (exit : List ℕ) (ea : a ≡ outlineAnswer text (outlined ed text at limit p (length out))) (eb : exit ≡ outlineBuffer text (outlined ed text at limit p (length out)) out) where
+    pub portion-read : (s : Summary) → a ≡ Read s → (f : ℕ) → f ≡ cond (s .full) 1 0
+        → Told 0 (f ∷ s .count ∷ s .length ∷ s .end ∷ 0 ∷ 0 ∷ []) (pendingValues (s .pending)) exit (outlined ed text at limit (pendingOf l) (length out))
+    unfolding outlineNumber outlineValues pendingLeft
+    portion-read s e f g = rw (← h, ← ea, e, g) (refl, refl, refl, eb)
+
+    pub portion-refused : (r : Refusal) → a ≡ Unread r → (v : List ℕ) → v ≡ places r → Told (r .number) v l exit (outlined ed text at limit (pendingOf l) (length out))
+    unfolding outlineNumber outlineValues pendingLeft
+    portion-refused r e v f = rw (← h, ← ea, e) (refl, f, refl, eb)

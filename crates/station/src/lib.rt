@@ -8,11 +8,15 @@ ghost use lib.ListN.{length};
 ghost use Rattle.grammar.specs.Items.{asked};
 ghost use Rattle.calls.specs.Calls.{answered, readNumber, readValues, read, readBuffer, displayed, displayNumber, displayValues, display, displayBuffer};
 ghost use Rattle.carried.specs.Carry.{carry, answerOf, notesAfter, carryNumber, carryValues};
+ghost use Rattle.outline.specs.Outline.{outlined};
+ghost use Rattle.outline.specs.Calls.{answered as outlineAnswer, pendingOf, outlineNumber, outlineValues, pendingLeft, outlineBuffer};
 use calls::Answer;
 use calls::Displayed;
 use carried::Carried;
+use outline::Pending;
 use tokens::DocComment;
 use tokens::Lexed;
+use tokens::Place;
 use tokens::Refusal;
 
 // A refusal's values: its place and its second place.
@@ -37,6 +41,19 @@ fn one_if(b: bool) -> u64
         return 1;
     }
     0
+}
+
+// What three numbers hand in: a keyword's kind, and a comment's start and end.
+fn pending_of(n: &[u64; 3]) -> Pending
+    ensures { λ r. ⌜ r ≡ pendingOf (now (n .entry)) ⌝ }
+{
+    Pending {
+        keyword: n[0] as usize,
+        comment: Place {
+            start: n[1] as usize,
+            end: n[2] as usize,
+        },
+    }
 }
 
 // The next token from `at` on, and whether LF stands between `at` and it.
@@ -168,6 +185,44 @@ pub extern "C" fn movesig_carry(text: &[u8], notes: &mut [usize], answer: &mut [
             0
         }
         Carried::Refused(r) => {
+            *answer = refusal_values(r);
+            r.number
+        }
+    }
+}
+
+// The outline of at most `limit` tokens from `at` on: its records into the lent buffer. What is pending is handed in and
+// handed back: a keyword's kind, and a comment's start and end.
+#[no_mangle]
+pub extern "C" fn movesig_outline(
+    edition: u64,
+    text: &[u8],
+    at: usize,
+    limit: u64,
+    pending: &mut [u64; 3],
+    out: &mut [u8],
+    answer: &mut [u64; 6],
+) -> u32
+    ensures number { λ r. ⌜ r ≡ outlineNumber (outlineAnswer (now (text .entry)) (outlined edition (now (text .entry)) at limit (pendingOf (now (pending .entry))) (length (now (out .entry))))) ⌝ }
+    ensures values { λ r. ⌜ now (answer .exit) ≡ outlineValues (outlineAnswer (now (text .entry)) (outlined edition (now (text .entry)) at limit (pendingOf (now (pending .entry))) (length (now (out .entry))))) ⌝ }
+    ensures pending { λ r. ⌜ now (pending .exit) ≡ pendingLeft (now (pending .entry)) (outlineAnswer (now (text .entry)) (outlined edition (now (text .entry)) at limit (pendingOf (now (pending .entry))) (length (now (out .entry))))) ⌝ }
+    ensures buffer { λ r. ⌜ now (out .exit) ≡ outlineBuffer (now (text .entry)) (outlined edition (now (text .entry)) at limit (pendingOf (now (pending .entry))) (length (now (out .entry)))) (now (out .entry)) ⌝ }
+{
+    let p = pending_of(pending);
+    let a = outline::outline(edition, text, at, limit as usize, p, out);
+    match a {
+        outline::Answer::Read(s) => {
+            let q = s.pending;
+            let f = one_if(s.full);
+            *pending = [
+                q.keyword as u64,
+                q.comment.start as u64,
+                q.comment.end as u64,
+            ];
+            *answer = [f, s.count as u64, s.length as u64, s.end as u64, 0, 0];
+            0
+        }
+        outline::Answer::Refused(r) => {
             *answer = refusal_values(r);
             r.number
         }

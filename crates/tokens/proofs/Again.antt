@@ -17,7 +17,7 @@ use Rattle.tokens.proofs.Lexing.{Sound, lex-sound}
 use Rattle.tokens.proofs.Faults.{in-place, admits}
 
 -- where a gap ends, no further gap begins
-gap-again : (p q : ℕ) (s u : List ℕ) → gap 0 p s .last ≡ clear q u → gap 0 q u .last ≡ clear q u
+pub gap-again : (p q : ℕ) (s u : List ℕ) → gap 0 p s .last ≡ clear q u → gap 0 q u .last ≡ clear q u
 unfolding gap
 gap-again p q s [] h = refl
 gap-again p q s (a ∷ u) h = rw (gap-stops q a u s 0 p h)

@@ -10,6 +10,7 @@ pub mod Alone
 pub mod Spelled
 pub mod Legible
 pub mod Again
+pub mod Documents
 pub mod RefusalSets
 pub mod TokenLines
 pub mod Editions

@@ -1,16 +1,19 @@
 -- The token call and the comment call, for every edition, text and offset.
 use Prim.Native.Nat.{ℕ}
 use mathlib.Core.Bool.{Bool, false, cond, _||_}
-use mathlib.Core.List.{List}
+use mathlib.Core.List.{List, [], _∷_}
 use lib.Dec.{eqb, ltb}
 use lib.ListN.{length, drop}
 use Rattle.tokens.specs.Refusals.{TextTooLong, StartPastEnd, CommentNotClosed, NoSuchEdition}
 use Rattle.gap.specs.Gap.{gap, docOf}
 use Rattle.gap.specs.LineFeed.{lineFeed}
+use Rattle.gap.specs.declared.Comment.{Comment}
 use Rattle.gap.specs.declared.FirstDoc.{FirstDoc}
 use Rattle.gap.specs.declared.FirstDoc.the-variants.{Found as DocFound, Nothing as NoDoc, BrokenFirst}
-use Rattle.tokens.specs.Answers.{refusal, token}
+use Rattle.tokens.specs.Answers.{place, refusal, token}
 use Rattle.tokens.specs.Token.{Scanned, tok, bad, scan}
+use Rattle.tokens.specs.declared.Documented.{Documented}
+use Rattle.tokens.specs.declared.Place.{Place}
 use Rattle.tokens.specs.declared.Refusal.{Refusal}
 use Rattle.tokens.specs.declared.Fault.{Fault}
 use Rattle.tokens.specs.declared.Fault.the-variants.{Faultless, Faulty}
@@ -71,6 +74,20 @@ lineFeedBefore text at (Refused r) = false
 -- the next token, and beside it whether LF stands before it
 unfoldable pub advanced : ℕ → List ℕ → ℕ → Advanced
 advanced ed text at = record { lexed = nextToken ed text at; feed = lineFeedBefore text at (nextToken ed text at) }
+
+-- the span of the last doc comment of a list, c where there is none
+unfoldable pub lastSpan : Place → List Comment → Place
+lastSpan c [] = c
+lastSpan c (d ∷ ds) = lastSpan (place (d .start) (d .end)) ds
+
+-- the last doc comment between `at` and the token, (0,0) where there is none; a refusal has none
+unfoldable pub docBefore : List ℕ → ℕ → Lexed → Place
+docBefore text at (Found t) = lastSpan (place 0 0) (gap 0 at (drop at text) .docs)
+docBefore text at (Refused r) = place 0 0
+
+-- the next token, and beside it the last doc comment before it
+unfoldable pub documented : ℕ → List ℕ → ℕ → Documented
+documented ed text at = record { lexed = nextToken ed text at; doc = docBefore text at (nextToken ed text at) }
 
 -- the token call; a refusal has no flag
 abbrev pub refusedCall : Refusal → Advanced

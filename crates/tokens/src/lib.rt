@@ -10,8 +10,8 @@ ghost use Rattle.gap.specs.Gap.{gap, gapEndOf};
 ghost use Rattle.gap.specs.LineFeed.{lineFeed, gapFeed};
 ghost use Rattle.tokens.specs.Answers.{refusal};
 ghost use Rattle.tokens.specs.Token.{opensString, stringRefusal, findToken, decimal, hexNumber, numberToken, string, wordToken, name, mark};
-ghost use Rattle.tokens.specs.Calls.{noEdition, placeFault, editionFault, callFault, nextToken, advanced, refusedCall, tokenCall, commentOf, nextComment};
-ghost use Rattle.tokens.specs.code.Found.{digitsClass, hexClass, begun, digitsEnd, lexedAt, typedAt, editionRefusal, flagged};
+ghost use Rattle.tokens.specs.Calls.{noEdition, placeFault, editionFault, callFault, nextToken, advanced, documented, refusedCall, tokenCall, commentOf, nextComment};
+ghost use Rattle.tokens.specs.code.Found.{digitsClass, hexClass, begun, digitsEnd, lexedAt, typedAt, editionRefusal, flagged, withDoc};
 ghost use Rattle.words.specs.Search.{markOf};
 use classes::ASCII;
 use classes::DIGIT;
@@ -73,6 +73,12 @@ pub enum Lexed {
 pub struct Advanced {
     pub lexed: Lexed,
     pub feed: bool,
+}
+
+// The next token, and the span of the last doc comment between the start offset and it, (0,0) where there is none.
+pub struct Documented {
+    pub lexed: Lexed,
+    pub doc: Place,
 }
 
 // Where blanks end, and whether LF is one of them.
@@ -427,7 +433,7 @@ pub fn edition_fault(edition: u64) -> Fault
 }
 
 // The faults of a call: refusals 1, 2 and 19, in this order.
-fn call_fault(edition: u64, text: &[u8], at: usize) -> Fault
+pub fn call_fault(edition: u64, text: &[u8], at: usize) -> Fault
     ensures { λ r. ⌜ r ≡ callFault edition (now (text .entry)) at ⌝ }
 {
     let f = place_fault(text, at);
@@ -466,6 +472,44 @@ pub fn next_token(edition: u64, text: &[u8], at: usize) -> Lexed
 {
     let a = advance(edition, text, at);
     a.lexed
+}
+
+// What is found, with the comment before it; a refusal has none.
+fn with_doc(l: Lexed, from: usize, to: usize) -> Documented
+    ensures { λ r. ⌜ r ≡ withDoc l from to ⌝ }
+{
+    match l {
+        Lexed::Found(t) => Documented {
+            lexed: Lexed::Found(t),
+            doc: Place {
+                start: from,
+                end: to,
+            },
+        },
+        Lexed::Refused(r) => Documented {
+            lexed: Lexed::Refused(r),
+            doc: Place { start: 0, end: 0 },
+        },
+    }
+}
+
+// The next token from `at` on, and the last doc comment before it. The token is asked for where the gap ends, so
+// that no comment is read twice; of a gap that does not end the refusal is wanted.
+pub fn next_documented(edition: u64, text: &[u8], at: usize) -> Documented
+    ensures { λ r. ⌜ r ≡ documented edition (now (text .entry)) at ⌝ }
+{
+    let g = gap::doc_scan(text, at);
+    let e = g.end;
+    match e {
+        GapEnd::Clear(k) => {
+            let l = next_token(edition, text, k);
+            with_doc(l, g.from, g.to)
+        }
+        GapEnd::Broken(_, _) => {
+            let l = next_token(edition, text, at);
+            with_doc(l, 0, 0)
+        }
+    }
 }
 
 // The refusal of a call whose edition is none: 1 and 2 come first.

@@ -6,6 +6,8 @@ mod carry_comparison;
 mod display_comparison;
 #[path = "../item_sets.rs"]
 mod item_sets;
+#[path = "../outline_comparison.rs"]
+mod outline_comparison;
 #[path = "../point_comparison.rs"]
 mod point_comparison;
 #[path = "../read_comparison.rs"]
@@ -41,7 +43,7 @@ first some points whose answers are written down.
 
 usage: compare [--quick] [--seed N] [--edition N] [--reads-only | --displays-only]
                [--long-only | --types-only | --starts-only] [--help]
-       compare --carry-only [--quick] [--seed N]
+       compare --carry-only | --outline-only [--quick] [--seed N]
 
   --quick          fewer texts: some 93 million answers, in a minute or two
   --edition N      one edition alone, 1 or 2 (default both)
@@ -53,6 +55,7 @@ usage: compare [--quick] [--seed N] [--edition N] [--reads-only | --displays-onl
   --starts-only    only reads and displays of the sets of offsets other than 0
   --carry-only     only notes that are carried from edition 1 to edition 2, which
                    the other options that choose leave out
+  --outline-only   only outlines, which those leave out too
   --help           these words
 
 Prints the sha256 of the Rust sources, how many answers were compared, how many of
@@ -78,10 +81,13 @@ fn main() {
     println!("seed {}\n", options.seed);
 
     let mut all = Found::default();
-    if options.carries() {
+    if options.of_whole_texts() && !options.outline_only {
         all += carry_comparison::run(options.size());
     }
-    if options.carry_only {
+    if options.of_whole_texts() && !options.carry_only {
+        all += outline_comparison::run(options.size());
+    }
+    if options.carry_only || options.outline_only {
         return told(&all);
     }
     if options.only.is_none() && !options.types_only && !options.starts_only {
@@ -173,13 +179,15 @@ struct Options {
     starts_only: bool,
     /// Whether only notes that are carried are compared.
     carry_only: bool,
+    /// Whether only outlines are compared.
+    outline_only: bool,
 }
 
 impl Options {
-    /// Whether notes are carried: a call of both editions, on texts of every length.
-    fn carries(&self) -> bool {
+    /// Whether notes are carried and outlines are made: in both editions, on texts of every length.
+    fn of_whole_texts(&self) -> bool {
         let chosen = self.only.is_some() || self.edition.is_some();
-        !chosen && !self.long_only && !self.starts_only
+        !chosen && !self.long_only && !self.types_only && !self.starts_only
     }
 
     fn size(&self) -> Size {
@@ -212,6 +220,7 @@ fn options() -> Options {
         types_only: false,
         starts_only: false,
         carry_only: false,
+        outline_only: false,
     };
     let mut words = env::args().skip(1);
     while let Some(word) = words.next() {
@@ -232,6 +241,7 @@ fn options() -> Options {
             "--types-only" => options.types_only = true,
             "--starts-only" => options.starts_only = true,
             "--carry-only" => options.carry_only = true,
+            "--outline-only" => options.outline_only = true,
             "--help" => {
                 print!("{HELP}");
                 exit(0);
@@ -245,8 +255,9 @@ fn options() -> Options {
     if options.starts_only && (options.long_only || options.types_only) {
         bad_usage("--starts-only excludes --long-only and --types-only");
     }
-    if options.carry_only && !options.carries() {
-        bad_usage("--carry-only goes with --quick and --seed alone");
+    let alone = options.carry_only != options.outline_only && options.of_whole_texts();
+    if (options.carry_only || options.outline_only) && !alone {
+        bad_usage("--carry-only and --outline-only go with --quick and --seed alone");
     }
     options
 }

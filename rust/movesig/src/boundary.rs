@@ -7,14 +7,14 @@
 //!   be read; through `&mut` they can be written too, and they hold some value already. Of a list of notes it is
 //!   aligned, and a `usize` is C's `size_t`.
 //! - Nobody writes the text during the call, since it is lent as `&[u8]`.
-//! - Text, buffer or notes, and the six numbers do not overlap, since a `&mut` shuts out every other
-//!   reference to the same bytes.
+//! - Text, buffer or notes, the three numbers that are pending and the six of the answer do not overlap, since a
+//!   `&mut` shuts out every other reference to the same bytes.
 //!
-//! And what the calls do is proved (crates/station): for every text, offset, kind number,
-//! edition number, buffer and list of notes they return, read no byte outside the text and the list, write no
-//! byte outside the buffer or the list and the six numbers, write all six, and keep no pointer. So no further test is needed here, and
-//! none is made. That the library is the one whose calls take these arguments is told by a symbol with the
-//! version in its name, which every program refers to.
+//! And what the calls do is proved (crates/station): for every text, offset, limit, kind number, edition number,
+//! buffer, list of notes and numbers that are pending they return, read no byte outside the text, the list and
+//! those numbers, write no byte outside the buffer or the list, those numbers and the six, write all six, and
+//! keep no pointer. So no further test is needed here, and none is made. That the library is the one whose calls
+//! take these arguments is told by a symbol with the version in its name, which every program refers to.
 
 #![allow(unsafe_code)]
 
@@ -23,7 +23,8 @@ mod calls;
 mod fuzz;
 
 use calls::{
-    movesig_carry, movesig_display, movesig_next_comment, movesig_next_token, movesig_read,
+    movesig_carry, movesig_display, movesig_next_comment, movesig_next_token, movesig_outline,
+    movesig_read,
 };
 use std::mem::MaybeUninit;
 
@@ -172,6 +173,29 @@ pub(crate) fn carry<'n>(text: &[u8], notes: &mut [usize], numbers: &'n mut Numbe
     // Every number is a valid `usize`, and the call writes all six numbers of the answer.
     unsafe {
         let result = movesig_carry(text.as_ptr(), text.len(), start, count, answer);
+        numbers.answer(result)
+    }
+}
+
+#[inline]
+pub(crate) fn outline<'n>(
+    edition: u64,
+    text: &[u8],
+    at: usize,
+    limit: u64,
+    pending: &mut [u64; 3],
+    out: &mut [u8],
+    numbers: &'n mut Numbers,
+) -> Answer<'n> {
+    let answer = numbers.0.as_mut_ptr();
+    let (start, room) = (out.as_mut_ptr(), out.len());
+    // SAFETY: each pointer stands with the length of its own slice, or points to three numbers or six, and all
+    // are lent for the call; `pending`, `out` and `numbers` are `&mut`, so they overlap neither `text` nor one
+    // another. Any edition, offset, limit and three numbers may be handed in. Every byte and every number that is
+    // written is a valid one, and the call writes all six numbers of the answer.
+    unsafe {
+        let (text, len) = (text.as_ptr(), text.len());
+        let result = movesig_outline(edition, text, len, at, limit, pending, start, room, answer);
         numbers.answer(result)
     }
 }

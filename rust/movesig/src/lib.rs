@@ -1,4 +1,4 @@
-//! The proved Move signature reader, for Rust: the five calls of `movesig.h` over slices.
+//! The proved Move signature reader, for Rust: the six calls of `movesig.h` over slices.
 //!
 //! Each call takes a text, any bytes at all, the [`Edition`] of Move that it is written in, and
 //! an offset from which it reads; [`carry`] takes neither edition nor offset. It gives an
@@ -12,6 +12,7 @@
 //! | [`read`] | an item as a [`Tree`], stored in a buffer of yours |
 //! | [`display`] | an item as one line, in a buffer of yours |
 //! | [`carry`] | moves notes on token starts from edition 1 to edition 2 |
+//! | [`outline`] | what a text declares, so many tokens a call; [`portions`] goes on by itself |
 //!
 //! ```
 //! use movesig::{display, read, tree_room, Edition, Kind, RecordKind, Refusal};
@@ -55,6 +56,7 @@ mod carry;
 mod comment;
 mod edition;
 mod item;
+mod outline;
 mod refusal;
 mod span;
 mod token;
@@ -65,6 +67,9 @@ pub use carry::{carry, CarryRefusal, MOST_NOTES};
 pub use comment::{comments, next_comment, Comment, Comments};
 pub use edition::Edition;
 pub use item::{display, display_to_string, read, Kind, Read};
+pub use outline::{
+    entry_size, outline, portions, Entries, Entry, Keyword, Pending, Portion, Portions,
+};
 pub use refusal::Refusal;
 pub use span::Span;
 pub use token::{next_token, tokens, Following, Token, TokenKind, Tokens};

@@ -88,6 +88,7 @@ fn dropped_results() {
         "read(3, 1, 0, 0, 0, 0, 0, answer)",
         "display(3, 1, 0, 0, 0, 0, 0, answer)",
         "carry(0, 0, 0, 0, answer)",
+        "outline(1, 0, 0, 0, 0, answer + 6, 0, 0, answer)",
     ];
     let source = Path::new(env!("CARGO_TARGET_TMPDIR")).join("dropped.c");
     let write = |before: &str, behind: &str| {
@@ -152,7 +153,7 @@ fn huge_texts() {
             for (index = 0; index < sizeof lengths / sizeof *lengths; index++) {
                 size_t len = lengths[index], room = MOVESIG_TREE_ROOM(len), count;
                 size_t note = 0;
-                uint64_t answer[5][6];
+                uint64_t answer[6][6], pending[3] = {62, 0, 0};
                 /* which nobody may read */
                 uint8_t *text = mmap(NULL, len, PROT_NONE, MAP_PRIVATE | MAP_ANONYMOUS | MAP_NORESERVE, -1, 0);
                 uint8_t *out = malloc(room);
@@ -162,9 +163,10 @@ fn huge_texts() {
                     movesig_next_comment(1, text, len, 0, answer[1]) != MOVESIG_TEXT_TOO_LONG ||
                     movesig_read(3, 1, text, len, 0, out, room, answer[2]) != MOVESIG_TEXT_TOO_LONG ||
                     movesig_display(3, 1, text, len, 0, out, room, answer[3]) != MOVESIG_TEXT_TOO_LONG ||
-                    movesig_carry(text, len, &note, 1, answer[4]) != MOVESIG_TEXT_TOO_LONG)
+                    movesig_carry(text, len, &note, 1, answer[4]) != MOVESIG_TEXT_TOO_LONG ||
+                    movesig_outline(1, text, len, 0, 9, pending, out, room, answer[5]) != MOVESIG_TEXT_TOO_LONG)
                     return 3;
-                for (count = 0; count < 30; count++)
+                for (count = 0; count < 36; count++)
                     if (answer[count / 6][count % 6] != 0)
                         return 4;
                 free(out);

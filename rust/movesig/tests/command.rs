@@ -419,6 +419,7 @@ fn long_files_and_far_offsets() {
     let error = "f.move: refused 1: text over 1,048,575 bytes: it has 1048576\n";
     assert_eq!(refused(&too_long, "tokens f.move"), error);
     assert_eq!(refused(&too_long, "comments f.move"), error);
+    assert_eq!(refused(&too_long, "outline f.move"), error);
     assert_eq!(refused(&too_long, "read type f.move 3"), error);
 
     for words in [
@@ -463,6 +464,9 @@ fn hostile_long_files() {
         (filled("(", "a,", "b c)"), "--json read type", 1),
         (filled("", "\n", ""), "tokens", 0),
         (filled("", "\r", ""), "tokens", 1),
+        (filled("/**", "x", "*/fun f"), "outline", 0),
+        (filled("", "/**x*/fun f ", ""), "outline --tokens 1", 0),
+        (filled("", "struct s", "$"), "--json outline", 1),
     ] {
         let begins = &text[..8];
         let (ended, output, errors) = movesig(text.as_bytes(), &format!("{words} f.move"));
@@ -513,7 +517,14 @@ fn binary_files() {
                 state as u8
             })
             .collect();
-        for words in ["tokens -", "comments -", "read type -", "line binds - 3"] {
+        for words in [
+            "tokens -",
+            "comments -",
+            "outline -",
+            "outline --tokens 2 -",
+            "read type -",
+            "line binds - 3",
+        ] {
             let mut command = Command::new(MOVESIG);
             let (status, output, errors) = run(command.args(words.split(' ')), &bytes);
             assert!(status == 0 || status == 1, "{words}: {status}, {errors}");
@@ -729,9 +740,10 @@ fn for_machines() {
     );
     // the help names each key
     let (_, help, _) = run(Command::new(MOVESIG).arg("help"), b"");
-    for words in ["tokens", "comments", "read type", "line type"] {
+    for words in ["tokens", "comments", "outline", "read type", "line type"] {
         for (text, place) in [
             (&b"/// a\n(u8, b)"[..], ""),
+            (b"/// a\nfun f", ""),
             (b"(u8", ""),
             (b"$", ""),
             (b"abc", "1"),
@@ -1024,7 +1036,7 @@ fn completions() {
     };
     assert_eq!(
         commands,
-        "tokens comments read line carry help man completions"
+        "tokens comments outline read line carry help man completions"
     );
     assert_eq!(complete(&["movesig", "read", "t"]).as_deref(), Some("type"));
     assert_eq!(
@@ -1040,6 +1052,12 @@ fn completions() {
     assert_eq!(
         complete(&["movesig", "--edition", "2", "line", "b"]).as_deref(),
         Some("binds")
+    );
+    assert_eq!(complete(&["movesig", "--t"]).as_deref(), Some("--tokens"));
+    assert_eq!(complete(&["movesig", "--tokens", ""]).as_deref(), Some(""));
+    assert_eq!(
+        complete(&["movesig", "--tokens", "9", "o"]).as_deref(),
+        Some("outline")
     );
     assert_eq!(
         complete(&["movesig", "tokens", "/dev/nul"]).as_deref(),

@@ -56,6 +56,14 @@ uint32_t movesig_next_comment(uint64_t edition, const uint8_t *text, size_t len,
     return accepted(answer, 0, 0, 0);
 }
 
+uint32_t movesig_outline(uint64_t edition, const uint8_t *text, size_t len, size_t at, uint64_t limit,
+                         uint64_t pending[3], uint8_t *out, size_t room, uint64_t answer[6])
+{
+    (void)edition, (void)text, (void)len, (void)limit, (void)pending, (void)out, (void)room;
+    accepted(answer, 0, 0, at);
+    return MOVESIG_ACCEPTED;
+}
+
 uint32_t movesig_carry(const uint8_t *text, size_t len, size_t *notes, size_t count, uint64_t answer[6])
 {
     (void)text, (void)len, (void)notes;

@@ -1,9 +1,9 @@
 //! The crate's functions: examples of the specification, all refusals, trees and their views.
 
 use movesig::{
-    comments, display, display_to_string, library_version, next_comment, next_token, read, tokens,
-    tree_room, type_room, Edition, Kind, RecordKind, Refusal, Span, TokenKind, Tree, LEVELS,
-    LONGEST, LONGEST_LINE, STACK,
+    comments, display, display_to_string, entry_size, library_version, next_comment, next_token,
+    read, tokens, tree_room, type_room, Edition, Kind, RecordKind, Refusal, Span, TokenKind, Tree,
+    LEVELS, LONGEST, LONGEST_LINE, STACK,
 };
 use std::error::Error;
 
@@ -663,6 +663,10 @@ fn versions() {
     assert_eq!(header.matches(&format!("{symbol},")).count(), 1);
     assert_eq!(header.matches(&format!("{symbol}`")).count(), 1);
     assert_eq!(defined("MOVESIG_LEVELS"), LEVELS);
+    assert!(header.contains(
+        "#define MOVESIG_ENTRY_SIZE(len) ((size_t)(len) <= 65535 ? (size_t)12 : (size_t)22)\n"
+    ));
+    assert_eq!((entry_size(65_535), entry_size(65_536)), (12, 22));
     assert_eq!(defined("MOVESIG_MOST_NOTES"), movesig::MOST_NOTES);
     assert_eq!(defined("MOVESIG_STACK"), STACK);
 }

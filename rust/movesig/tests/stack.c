@@ -2,9 +2,9 @@
  * and round a list that is so long that their tree is wide or that the text is the longest; and on random
  * nests of all constructs. MOVESIG_STACK is held to it: at least a fortieth more than what is measured, and at
  * most four tenths. The call that carries notes may take no more than a few registers beside what the token
- * call takes on the tokens of the same texts. The stack of a thread is painted, and what is no longer paint was
- * used. Then all is asked again in threads that have MOVESIG_STACK bytes beside their own: below them lies a
- * page that nobody may touch.
+ * call takes on the tokens of the same texts; an outline takes less than 12 KB. The stack of a thread is painted,
+ * and what is no longer paint was used. Then all is asked again in threads that have MOVESIG_STACK bytes beside
+ * their own: below them lies a page that nobody may touch.
  *
  *     stack [ROUNDS]    so many random nests
  */
@@ -21,6 +21,8 @@
 #define ROUNDS 1000
 #define PAINT 0xa5
 #define MORE_TO_CARRY 128
+/* An outline has a buffer of its own of 8 KB, and takes less than this. */
+#define MOST_OF_OUTLINES ((size_t)12 * 1024)
 #define LONG_NAME "a_name_of_more_than_16_bytes" /* the table of classes is on the stack for such */
 
 static uint8_t text[MOVESIG_LONGEST];
@@ -78,6 +80,23 @@ static void *carry(void *given)
     return given;
 }
 
+/* The outline in one call, and in a call of few tokens. */
+static void *outline_whole(void *given)
+{
+    uint64_t answer[6], pending[3] = {0, 0, 0};
+    entry = (uint8_t *)answer;
+    number = movesig_outline(MOVESIG_EDITION_2, text, length, 0, SIZE_MAX, pending, out, sizeof out, answer);
+    return given;
+}
+
+static void *outline_few(void *given)
+{
+    uint64_t answer[6], pending[3] = {0, 0, 0};
+    entry = (uint8_t *)answer;
+    number = movesig_outline(MOVESIG_EDITION_2, text, length, 0, 100, pending, out, sizeof out, answer);
+    return given;
+}
+
 /* The bytes of stack that a call takes, made by a thread of its own. */
 static size_t used(void *(*work)(void *), uint64_t kind)
 {
@@ -128,14 +147,15 @@ static const struct nest nests[] = {
     {MOVESIG_LAMBDA_BIND_LIST, "|S<", "& ", A_TYPE, "a::b", "", ">{}|"},
 };
 
-enum call { TOKEN, COMMENT, READ, DISPLAY, CARRY, CALLS };
+enum call { TOKEN, COMMENT, READ, DISPLAY, CARRY, OUTLINE, OUTLINE_OF_FEW, CALLS };
 
 static size_t most, most_of[CALLS], accepted, wide;
 
 /* Asks all calls about the text. */
 static void measure(uint64_t kind)
 {
-    static void *(*const calls[CALLS])(void *) = {token, comment, read_item, display_item, carry};
+    static void *(*const calls[CALLS])(void *) = {token, comment, read_item, display_item, carry,
+                                                    outline_whole, outline_few};
     size_t call;
     for (call = 0; call < CALLS; call++) {
         size_t bytes = used(calls[call], kind);
@@ -258,6 +278,16 @@ static void measure_mix(void)
     measure(bound == 0 ? MOVESIG_TYPE : lambda ? MOVESIG_LAMBDA_BIND_LIST : MOVESIG_BIND_LIST);
 }
 
+/* Declarations up to the longest text, each with a doc comment in comments. */
+static void measure_declarations(void)
+{
+    static const char piece[] = "/** /* /* a */ */ b */ // c\n/// d\npublic fun f const C struct S;";
+    length = 0;
+    while (length + sizeof piece <= MOVESIG_LONGEST)
+        put(piece);
+    measure(MOVESIG_TYPE);
+}
+
 /* Every nest, and so many at random, always the same ones. */
 static void measure_all(long rounds)
 {
@@ -273,11 +303,13 @@ static void measure_all(long rounds)
            (unsigned long)accepted, (unsigned long)wide);
     while (rounds-- > 0)
         measure_mix();
+    measure_declarations();
     printf("in all: at most %lu bytes of stack, %lu read; MOVESIG_STACK is %lu\n", (unsigned long)most,
            (unsigned long)accepted, (unsigned long)MOVESIG_STACK);
-    printf("tokens %lu, comments %lu, reads %lu, displays %lu, notes carried %lu\n", (unsigned long)most_of[TOKEN],
-           (unsigned long)most_of[COMMENT], (unsigned long)most_of[READ], (unsigned long)most_of[DISPLAY],
-           (unsigned long)most_of[CARRY]);
+    printf("tokens %lu, comments %lu, reads %lu, displays %lu, notes carried %lu, outlines %lu and of few tokens %lu\n",
+           (unsigned long)most_of[TOKEN], (unsigned long)most_of[COMMENT], (unsigned long)most_of[READ],
+           (unsigned long)most_of[DISPLAY], (unsigned long)most_of[CARRY], (unsigned long)most_of[OUTLINE],
+           (unsigned long)most_of[OUTLINE_OF_FEW]);
 }
 
 int main(int count, char **words)
@@ -298,6 +330,10 @@ int main(int count, char **words)
     }
     if (most_of[CARRY] > most_of[TOKEN] + MORE_TO_CARRY) {
         printf("carrying notes takes more than the token call and %d bytes\n", MORE_TO_CARRY);
+        return 1;
+    }
+    if (most_of[OUTLINE] >= MOST_OF_OUTLINES || most_of[OUTLINE_OF_FEW] >= MOST_OF_OUTLINES) {
+        printf("an outline should take less than %lu\n", (unsigned long)MOST_OF_OUTLINES);
         return 1;
     }
     /* what a thread takes before its call, in steps of its alignment */

@@ -6,12 +6,13 @@ use lib.Dec.{eqb, ltb}
 use lib.ListN.{length, drop}
 use Rattle.classes.specs.Class.{inClass}
 use Rattle.words.specs.Kinds.{NumValue, NumTypedValue}
-use Rattle.tokens.specs.Answers.{refusal, token}
+use Rattle.tokens.specs.Answers.{place, refusal, token}
 use Rattle.words.specs.Search.{isEdition2}
 use Rattle.tokens.specs.Refusals.{TextTooLong, StartPastEnd, NoSuchEdition}
 use Rattle.tokens.specs.Token.{Front, sized, fault, digitsLen}
 use Rattle.tokens.specs.Calls.{textLimit}
 use Rattle.tokens.specs.declared.Advanced.{Advanced}
+use Rattle.tokens.specs.declared.Documented.{Documented}
 use Rattle.tokens.specs.declared.Lexed.{Lexed}
 use Rattle.tokens.specs.declared.Lexed.the-variants.{Found, Refused}
 
@@ -43,6 +44,11 @@ typedAt p e v = Found (token (cond (eqb v 0) NumValue NumTypedValue) p (e + v))
 unfoldable pub flagged : Lexed → Bool → Advanced
 flagged (Found t) f = record { lexed = Found t; feed = f }
 flagged (Refused r) f = record { lexed = Refused r; feed = false }
+
+-- what is found, and the last doc comment before it
+unfoldable pub withDoc : Lexed → ℕ → ℕ → Documented
+withDoc (Found t) s e = record { lexed = Found t; doc = place s e }
+withDoc (Refused r) s e = record { lexed = Refused r; doc = place 0 0 }
 
 -- the refusal of a call whose edition is none
 unfoldable pub editionRefusal : List ℕ → ℕ → ℕ

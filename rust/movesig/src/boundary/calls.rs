@@ -44,4 +44,15 @@ unsafe extern "C" {
         count: usize,
         answer: *mut [u64; 6],
     ) -> u32;
+    pub fn movesig_outline(
+        edition: u64,
+        text: *const u8,
+        len: usize,
+        at: usize,
+        limit: u64,
+        pending: *mut [u64; 3],
+        out: *mut u8,
+        room: usize,
+        answer: *mut [u64; 6],
+    ) -> u32;
 }

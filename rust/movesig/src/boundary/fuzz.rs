@@ -35,6 +35,17 @@ fn display(kind: u64, edition: u64, text: &[u8], at: usize, line: &mut [u8]) -> 
     asked(|numbers| super::display(kind, edition, text, at, line, numbers))
 }
 
+fn outline(
+    edition: u64,
+    text: &[u8],
+    at: usize,
+    limit: u64,
+    pending: &mut [u64; 3],
+    out: &mut [u8],
+) -> Answer {
+    asked(|numbers| super::outline(edition, text, at, limit, pending, out, numbers))
+}
+
 const ROUNDS: usize = 100_000;
 const BESIDE: usize = 16;
 
@@ -102,6 +113,21 @@ const WORDS: [&[u8]; 40] = [
     b"b\" ~\"",
     b"x\"",
     b"\xff",
+];
+
+const DECLARING: [&[u8]; 12] = [
+    b" fun ",
+    b" struct S",
+    b" const C",
+    b" fun f",
+    b"f",
+    b";",
+    b"{",
+    b"/** a */",
+    b"/// b\n",
+    b" public",
+    b"1_f",
+    b"$",
 ];
 
 const ITEMS: [&[u8]; 7] = [
@@ -360,6 +386,66 @@ fn displaying() {
     with_a_buffer(3, display, false);
 }
 
+/// What any outline has: numbers that fit one another, records of one size and in order, and beside what is
+/// written nothing that changed; where it is refused, nothing at all.
+#[test]
+fn outlining() {
+    let mut random = Random(4);
+    let mut whole = vec![0; MOST_ROOM + 2 * BESIDE];
+    let (mut too_long, mut records, mut fulls) = (0, 0, 0);
+    for _ in 0..ROUNDS {
+        let text = match random.below(4) {
+            0 => text_of(&mut random),
+            _ => {
+                let words = (0..random.below(12)).map(|_| random.of(&DECLARING));
+                words.collect::<Vec<_>>().concat()
+            }
+        };
+        let at = offset_of(&mut random, text.len());
+        let (edition, fill) = (edition_of(&mut random), random.next() as u8);
+        let limit = [random.below(9) as u64, u64::MAX][random.below(2)];
+        let room = [random.below(40), random.below(MOST_ROOM)][usize::from(random.below(50) == 0)];
+        let handed = [[0, 0, 0], [62, 0, 1], [random.next(), 1, random.next()]][random.below(3)];
+        let mut pending = handed;
+        let used = &mut whole[..room + 2 * BESIDE];
+        used.fill(fill);
+        let lent = &mut used[BESIDE..BESIDE + room];
+        let (number, values) = outline(edition, &text, at, limit, &mut pending, lent);
+        let written = if number == 0 { values[2] } else { 0 };
+        assert!(written <= room);
+        let kept = |place: &[u8]| place.iter().all(|&byte| byte == fill);
+        assert!(kept(&used[..BESIDE]) && kept(&used[BESIDE + written..]));
+        if number != 0 {
+            assert_eq!(pending, handed);
+        }
+        let wrong = asked_wrongly(None, edition, &text, at);
+        too_long += usize::from(wrong == Some(1));
+        match number {
+            _ if wrong.is_some() => assert_eq!((Some(number), values), (wrong, [0; 6])),
+            0 => {
+                let [full, tokens, _, end, rest @ ..] = values;
+                assert!(full <= 1 && tokens as u64 <= limit && at <= end && end <= text.len());
+                assert_eq!(rest, [0; 2]);
+                assert!([0, 54, 62, 64].contains(&pending[0]));
+                assert!(pending[1..].iter().all(|&place| place <= text.len() as u64));
+                let size = crate::entry_size(text.len());
+                assert_eq!(written % size, 0);
+                assert!(
+                    written / size <= tokens.div_ceil(2) && (full == 0 || room - written < size)
+                );
+                records += written / size;
+                fulls += full;
+            }
+            _ => refused_well(number, values, &text, &[5, 6, 7, 8, 9]),
+        }
+    }
+    let told = format!("{too_long} texts too long, {records} records, {fulls} calls full");
+    assert!(
+        too_long > 0 && records > ROUNDS / 20 && fulls > ROUNDS / 100,
+        "{told}"
+    );
+}
+
 #[test]
 fn empty_everything() {
     for edition in [1, 2] {
@@ -369,6 +455,11 @@ fn empty_everything() {
         assert_eq!(display(3, edition, &[], 0, &mut []), (10, [0; 6]));
         assert_eq!(read(3, edition, b"u8", 0, &mut []), (4, [0; 6]));
         assert_eq!(display(3, edition, b"u8", 0, &mut []), (4, [0; 6]));
+        let mut pending = [0; 3];
+        for limit in [0, 1, u64::MAX] {
+            let answer = outline(edition, &[], 0, limit, &mut pending, &mut []);
+            assert_eq!((answer, pending), ((0, [0; 6]), [0; 3]));
+        }
     }
 }
 
@@ -381,6 +472,14 @@ fn no_edition() {
         assert_eq!(next_comment(edition, b"/*", 0), (19, [0; 6]));
         assert_eq!(next_token(edition, b"$", 2), (2, [0; 6]));
         assert_eq!(next_comment(edition, &long, 0), (1, [0; 6]));
+        for (text, at, number) in [(&b"$"[..], 0, 19), (b"$", 2, 2), (&long, 0, 1)] {
+            let (mut pending, mut buffer) = ([9, 8, 7], [7; 20]);
+            let answer = outline(edition, text, at, 0, &mut pending, &mut buffer);
+            assert_eq!(
+                (answer, pending, buffer),
+                ((number, [0; 6]), [9, 8, 7], [7; 20])
+            );
+        }
         for call in [read, display] {
             let mut buffer = [7; 20];
             for kind in 1..=5 {

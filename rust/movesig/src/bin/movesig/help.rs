@@ -4,9 +4,10 @@ use movesig::Kind;
 
 const PURPOSE: &str = "reads Move source with the proved signature reader";
 
-const USAGE: [&str; 6] = [
+const USAGE: [&str; 7] = [
     "movesig [--json] [--edition N] tokens FILE ...",
     "movesig [--json] [--edition N] comments FILE ...",
+    "movesig [--json] [--edition N] [--tokens N] outline FILE ...",
     "movesig [--json] [--edition N] read KIND FILE [PLACE] ...",
     "movesig [--json] [--edition N] line KIND FILE [PLACE] ...",
     "movesig [--json] carry FILE PLACE ...",
@@ -21,6 +22,9 @@ const SECTIONS: [(&str, &str); 8] = [
   tokens       each token: its span, its kind and its spelling; the first of a
                line under the line's number
   comments     each doc comment: its span, its place and its text
+  outline      each name that struct, fun or const declares: its span, the
+               keyword, the name and the first line of its doc comment, the
+               last one before it since the last ; { or }
   read         the item as a tree: each record's kind, its span and, for a
                leaf, its spelling, to the right of what it belongs to; then the
                token that follows
@@ -41,6 +45,8 @@ const SECTIONS: [(&str, &str); 8] = [
   --edition N    the edition of Move that the files are written in: 1, which it
                  is if left out, or 2, where a number may hold _ behind its
                  first digit and end in u16, u32 and u256 too
+  --tokens N     outline reads the files in portions of N tokens, 1 or more,
+                 and shows the same; all at once if left out
   -h, --help     this text
   -V, --version  the version
   --             no word behind it is an option
@@ -109,7 +115,8 @@ as four blanks, and what could deceive or disturb a terminal as \x1b or
 \u{202e}: controls, characters that turn text round, invisible and unassigned
 ones, more than four marks on a letter, and bytes that are not UTF-8. Where
 the widths of a line's characters are not certain, the line is shown once more,
-with escapes, above the marks. Spellings of more than 100 bytes are cut.
+with escapes, above the marks. Spellings of more than 100 bytes are cut, and
+the comments of an outline where the screen ends, with ... .
 Records of a tree are indented up to 136 levels below the first; deeper ones
 begin with the number of their level.
 
@@ -125,6 +132,9 @@ bytes that are not UTF-8 become U+FFFD, and the spans tell which they are.
   tokens    file, token (its kind), number, start, end, line, column, text
   comments  file, comment (its text), start, end, line, column, text_start,
             text_end
+  outline   file, keyword, number (of its token's kind), name, start, end,
+            line, column; where it has a comment: comment (its text),
+            comment_start, comment_end
   read      file, item, at, tree, next, notes
   line      file, item, at, shown (the line), next, notes
   carry     file, note (its byte), token (the kind of that which covers it),
@@ -218,15 +228,17 @@ pub fn completions() -> String {
 _movesig() {{
     local word=${{COMP_WORDS[COMP_CWORD]}} plain=() other last=
     for other in "${{COMP_WORDS[@]:1:COMP_CWORD-1}}"; do
-        [[ $other == --* || $last == --edition ]] || plain+=("$other")
+        [[ $other == --* || $last == --edition || $last == --tokens ]] || plain+=("$other")
         last=$other
     done
     if [[ $last == --edition ]]; then
         mapfile -t COMPREPLY < <(compgen -W '1 2' -- "$word")
+    elif [[ $last == --tokens ]]; then
+        COMPREPLY=()
     elif [[ $word == --* ]]; then
-        mapfile -t COMPREPLY < <(compgen -W '--json --edition --help --version --' -- "$word")
+        mapfile -t COMPREPLY < <(compgen -W '--json --edition --tokens --help --version --' -- "$word")
     elif ((${{#plain[@]}} == 0)); then
-        mapfile -t COMPREPLY < <(compgen -W 'tokens comments read line carry help man completions' -- "$word")
+        mapfile -t COMPREPLY < <(compgen -W 'tokens comments outline read line carry help man completions' -- "$word")
     elif ((${{#plain[@]}} == 1)) && [[ ${{plain[0]}} == read || ${{plain[0]}} == line ]]; then
         mapfile -t COMPREPLY < <(compgen -W '{kinds}' -- "$word")
     else

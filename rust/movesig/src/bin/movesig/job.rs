@@ -5,6 +5,7 @@ use crate::{
     json::{self, Answer, Beside},
     listing,
     notes::{self, Note},
+    outline,
     paint::Paint,
     places::Places,
     report::Report,
@@ -34,6 +35,8 @@ pub enum Place {
 pub enum Work {
     Tokens,
     Comments,
+    /// In portions of so many tokens.
+    Outline(usize),
     Read(Kind),
     Line(Kind),
 }
@@ -114,6 +117,7 @@ impl Job {
             (Work::Read(_), Some(item)) => self.tree(text, item, said),
             (Work::Line(_), Some(item)) => self.line(text, item, said),
             (Work::Comments, _) => self.comments(&text.bytes, said),
+            (Work::Outline(limit), _) => self.outline(&text.bytes, limit, said),
             _ => self.tokens(&text.bytes, said),
         }
     }
@@ -145,6 +149,28 @@ impl Job {
             if done.is_ok() && comments.is_empty() {
                 said.errors = format!("{}: no doc comments\n", self.name());
             }
+        }
+        done
+    }
+
+    fn outline(&self, text: &[u8], limit: usize, said: &mut Said) -> Result<(), Refusal> {
+        let (all, done) = outline::declared(self.edition, text, limit);
+        if self.json {
+            let places = Places::new(text);
+            let objects = all.iter();
+            said.output = objects
+                .map(|one| json::declaration(self.file_bytes(), text, &places, one))
+                .collect();
+            return done;
+        }
+        let before = match self.several {
+            true => self.name().chars().count() + 2,
+            false => 0,
+        };
+        let left = screen().saturating_sub(before);
+        outline::list(text, &all, left, &mut said.output);
+        if done.is_ok() && all.is_empty() {
+            said.errors = format!("{}: no declarations\n", self.name());
         }
         done
     }

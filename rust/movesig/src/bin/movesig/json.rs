@@ -4,6 +4,7 @@ use crate::{
     carry::Carried,
     due::{self, Item},
     notes::{self, Note},
+    outline::Declaration,
     places::Places,
     starts,
     text::Text,
@@ -113,6 +114,24 @@ pub fn comment(file: &[u8], text: &[u8], places: &Places, comment: Comment) -> S
         .number("text_start", comment.text.start)
         .number("text_end", comment.text.end)
         .line()
+}
+
+/// A name that is declared; its comment where it has one.
+pub fn declaration(file: &[u8], text: &[u8], places: &Places, one: &Declaration) -> String {
+    let Declaration { entry, comment } = one;
+    let object = Object::of(file)
+        .text("keyword", entry.keyword().name().as_bytes())
+        .number("number", entry.keyword().number().into())
+        .text("name", entry.name().of(text))
+        .place(places, entry.name());
+    match comment {
+        None => object.line(),
+        Some(comment) => object
+            .text("comment", comment.text.of(text))
+            .number("comment_start", comment.span.start)
+            .number("comment_end", comment.span.end)
+            .line(),
+    }
 }
 
 /// An item's tree, or its display line, and what is beside it.

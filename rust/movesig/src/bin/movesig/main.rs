@@ -1,4 +1,4 @@
-//! The command-line program: tokens, doc comments, trees and lines for people and machines.
+//! The command-line program: tokens, doc comments, outlines, trees and lines for people and machines.
 
 #![forbid(unsafe_code)]
 
@@ -9,6 +9,7 @@ mod job;
 mod json;
 mod listing;
 mod notes;
+mod outline;
 mod paint;
 mod places;
 mod report;

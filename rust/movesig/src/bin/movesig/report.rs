@@ -6,7 +6,7 @@ use crate::{
     places::Places,
     starts,
     text::Text,
-    visible::{self, Piece},
+    visible::{self, Piece, CUT},
 };
 use movesig::{Refusal, Span, LONGEST_LINE};
 use std::{cell::OnceCell, fmt::Write};
@@ -24,8 +24,6 @@ pub struct Report<'a> {
     pub screen: usize,
     pub paint: Paint,
 }
-
-const CUT: &str = "...";
 
 impl Report<'_> {
     /// `FILE:LINE:COLUMN (byte OFFSET): refused NUMBER: reason`, the line and the marks; one line

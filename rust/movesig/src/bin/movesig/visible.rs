@@ -152,6 +152,32 @@ pub fn cut(bytes: &[u8], most: usize) -> String {
     }
 }
 
+/// What marks a cut.
+pub const CUT: &str = "...";
+
+/// A line of source, cut where it takes more than so many columns, with `...` for what is left out. What takes no
+/// certain number of columns counts as two.
+pub fn fitted(line: &[u8], columns: usize) -> String {
+    let pieces = pieces(line);
+    let width = |piece: &Piece| if piece.certain { piece.width } else { 2 };
+    let whole: usize = pieces.iter().map(width).sum();
+    if whole <= columns {
+        return pieces.into_iter().map(|piece| piece.shown).collect();
+    }
+    let mut left = columns.saturating_sub(CUT.len());
+    let fits = |piece: &Piece| {
+        let rest = left.checked_sub(width(piece));
+        left = rest.unwrap_or(0);
+        rest.is_some()
+    };
+    let shown = pieces.into_iter().take_while(fits);
+    let shown: String = shown.map(|piece| piece.shown).collect();
+    match columns {
+        0..3 => String::new(),
+        _ => shown + CUT,
+    }
+}
+
 /// Whether the character has a look of its own: it is assigned, and neither a control, nor formatting
 /// (what turns text round is that), nor a blank other than the space, nor private.
 fn is_visible(character: char) -> bool {

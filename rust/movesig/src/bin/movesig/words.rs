@@ -22,7 +22,7 @@ pub enum Asked {
 pub fn asked(mut words: impl Iterator<Item = OsString>) -> Result<Asked, String> {
     let mut plain = vec![];
     let (mut options, mut json) = (true, false);
-    let mut edition = None;
+    let (mut edition, mut tokens) = (None, None);
     while let Some(word) = words.next() {
         match word.to_str() {
             Some("--") if options => options = false,
@@ -30,6 +30,7 @@ pub fn asked(mut words: impl Iterator<Item = OsString>) -> Result<Asked, String>
             Some("--version" | "-V") if options => return Ok(Asked::Version),
             Some("--json") if options => json = true,
             Some("--edition") if options => edition = Some(edition_of(words.next())?),
+            Some("--tokens") if options => tokens = Some(tokens_of(words.next())?),
             Some(name) if options && is_option(name) => {
                 return Err(format!("no such option: {}", shown(&word)));
             }
@@ -38,9 +39,13 @@ pub fn asked(mut words: impl Iterator<Item = OsString>) -> Result<Asked, String>
     }
     let mut words = plain.into_iter();
     let command = words.next().ok_or("no command is given")?;
+    if tokens.is_some() && command != "outline" {
+        return Err("--tokens goes with outline alone".to_string());
+    }
     let work = match command.to_str() {
         Some("tokens") => Work::Tokens,
         Some("comments") => Work::Comments,
+        Some("outline") => Work::Outline(tokens.unwrap_or(usize::MAX)),
         Some("read") => Work::Read(kind(words.next())?),
         Some("line") => Work::Line(kind(words.next())?),
         Some("carry") => {
@@ -141,6 +146,18 @@ fn edition_of(word: Option<OsString>) -> Result<Edition, String> {
         Some("1") => Ok(Edition::One),
         Some("2") => Ok(Edition::Two),
         _ => Err(format!("no such edition: {}: it is 1 or 2", shown(&word))),
+    }
+}
+
+/// How many tokens a portion has, by the word behind `--tokens`.
+fn tokens_of(word: Option<OsString>) -> Result<usize, String> {
+    let word = word.ok_or("no number of tokens is given")?;
+    match number(word.as_encoded_bytes()) {
+        Some(tokens @ 1..) => Ok(tokens),
+        _ => Err(format!(
+            "not a number of tokens: {}: it is 1 or more",
+            shown(&word)
+        )),
     }
 }
 

@@ -1,0 +1,6 @@
+pub mod Entry
+pub mod Outline
+pub mod Calls
+pub mod Theorems
+pub mod Examples
+pub mod code

@@ -1,0 +1,2 @@
+-- The words that only contracts of private functions use.
+pub mod Steps
