@@ -42,6 +42,12 @@ const char *movesig_reason(uint32_t refusal)
         return "no value here";
     case MOVESIG_TOO_DEEP:
         return "more than 64 levels";
+    case MOVESIG_RECORD_UNFIT:
+        return "record that does not fit its bytes";
+    case MOVESIG_NO_RECORD_KIND:
+        return "no such kind of record";
+    case MOVESIG_NOT_ALLOWED:
+        return "child or span not allowed";
     case MOVESIG_LINE_UNPRINTABLE:
         return "the line would hold a control byte";
     case MOVESIG_NO_SUCH_EDITION:

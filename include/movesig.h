@@ -2,15 +2,19 @@
  *
  * Six calls read a text of Move source: the next token, the next doc comment, an item as a stored
  * tree, an item as one line; movesig_carry, which moves notes on a text's tokens from edition 1 to
- * edition 2; and movesig_outline, which lists what a text declares, so many tokens a call. They are proved:
- * each answers every text, every offset, every buffer and every list of notes as the definitions in crates/
- * say, stays inside the buffers it is lent, and returns.
+ * edition 2; and movesig_outline, which lists what a text declares, so many tokens a call. Three calls take a tree
+ * that was saved beside its text: movesig_open opens it, movesig_child and movesig_opened_child give a child of one
+ * of its records. All nine are proved: each answers every text, every offset, every buffer, every list of notes and
+ * all bytes in the place of a tree as the definitions in crates/ say, stays inside the buffers it is lent, and
+ * returns.
  *
  * WHAT EVERY CALL DOES
  *
- * It takes a text of `len` bytes at `text`, any bytes at all. It takes an offset `at` from which it reads, and
- * it takes the edition of Move that the text is written in (enum movesig_edition): all calls do but
- * movesig_carry, which reads the whole text and names both editions itself.
+ * It takes a text of `len` bytes at `text`, any bytes at all; movesig_opened_child alone takes none. The calls
+ * that read it, for a token, a comment, an item, a line or an outline, take an offset `at` from which they read, and
+ * the edition of Move that the text is written in (enum movesig_edition). movesig_carry takes neither: it reads the
+ * whole text and names both editions itself. Nor do the three calls on saved trees: they read no tokens, and
+ * take the `tree_len` bytes at `tree` that a read wrote once.
  * It returns 0 where it accepts, else the number of a refusal, and writes all six numbers of `answer`. What
  * they mean is told by the result alone, so look at it first: the numbers of a refused token call can be
  * those of an accepted EOF at 0. Compilers warn where a result is dropped (MOVESIG_NODISCARD).
@@ -19,12 +23,12 @@
  *
  * WHAT THE CALLER SEES TO
  *
- * - `text` points to `len` bytes that nobody writes during the call; `answer` to six numbers, aligned
- *   as uint64_t is, and `pending` to three such; `out` and `line` to `room` bytes; `notes` to `count` numbers,
- *   aligned as size_t is.
- * - `text`, `answer`, `pending` and the buffer, or the notes, do not overlap.
- * - `answer` and `pending` are not null. `text` may be null, or any other pointer, where `len` is 0; `out` and
- *   `line` where `room` is 0; `notes` where `count` is 0.
+ * - `text` points to `len` bytes and `tree` to `tree_len` bytes that nobody writes during the call; `answer` to
+ *   six numbers, aligned as uint64_t is, and `pending` to three such; `out` and `line` to `room` bytes; `notes` to
+ *   `count` numbers, aligned as size_t is.
+ * - `text`, `answer`, `pending` and the buffer, or the notes, do not overlap; nor does `answer` overlap `tree`.
+ * - `answer` and `pending` are not null. `text` may be null, or any other pointer, where `len` is 0; `tree` where
+ *   `tree_len` is 0; `out` and `line` where `room` is 0; `notes` where `count` is 0.
  * - The edition is the one that the text is written in. A wrong one is not noticed: most texts are read alike
  *   in both, and another answer need be no refusal. The value `65_535u16` read in edition 1 is `65`, followed by
  *   the name `_535u16`.
@@ -44,6 +48,8 @@
  *
  * A span is a start and an end, counted in bytes from the first byte of the text, which is 0. `end` is
  * the first byte behind the span. Where start and end are equal the span is a place between two bytes.
+ * The offset of a record is no place of the text: it counts the bytes of the TREE, from its first byte, which
+ * is 0, those in front of a wide tree too.
  *
  * WHERE A READ OR A DISPLAY MAY BEGIN
  *
@@ -76,8 +82,9 @@
  * span, which is the first one again unless the list names another. It leaves what it was lent as it was: the
  * buffer, every byte, the notes and what is pending. (s, s) stands for a span without length at the byte or
  * token meant.
- * Of 20 alone the place is no place of the text: its i is the index of a note in the list that was lent,
- * counted from 0. Nothing of the text is to be pointed at for it.
+ * Two sorts of places are no places of the text, and nothing of it is to be pointed at for them. The i of 20 is
+ * the index of a note in the list that was lent, counted from 0. The o of 15, 16, 17 and, from movesig_open and
+ * movesig_child, of 14 is the offset of a record in the TREE that was lent.
  *
  * number  when                                                  span
  *   By what the caller asked:
@@ -109,11 +116,24 @@
  *  14     more than 64 levels                                   the first token of the item at level 65
  *   By the text, for movesig_display alone:
  *  18     a string holds a byte below 32 or the byte 127        the first such byte
+ *   By the tree, for movesig_open and movesig_child alone:
+ *  15     a record does not fit: fewer bytes are left for it
+ *         than a head has, its length is less than that or
+ *         runs past its parent, or the outermost record is
+ *         not all the bytes                                     (o, o) at the record
+ *  16     its kind is none of enum movesig_record               (o, o) at the record
+ *  17     its kind may not stand there, its end is before its
+ *         start, or its span is not inside its parent's, the
+ *         outermost one's not inside the text                   (o, o) at the record
+ *         a child is missing                                    (o, o) at the parent
+ *  14     more than 64 levels                                   (o, o) at the record at level 65
  *
  * They are tried in this order: 1, 2, 3, 19; then, for a read and a display whose `at` is not 0, the walk to
  * it: its 5 to 9, or 21; then 5 to 14 of what is read, whichever is met first; then 18; 4 last. movesig_carry
  * tries 1, then 5 to 9 of the whole text in edition 1, then in edition 2, and 20 last. movesig_outline tries 1,
- * 2 and 19, and then meets 5 to 9 among the tokens that it reads.
+ * 2 and 19, and then meets 5 to 9 among the tokens that it reads. movesig_open and movesig_child try 1, and then
+ * the records, one after the other as they stand in the bytes: of each 15, 16, 17 and 14 in this order, then all
+ * that is in it, and behind its last child whether one is missing.
  */
 #ifndef MOVESIG_H
 #define MOVESIG_H
@@ -161,22 +181,23 @@ extern "C" {
 /* Bytes of stack that are enough for any call. The most that was measured, over nests of every construct
  * and 1,000 at random, in texts of up to MOVESIG_LONGEST bytes, is 47,792; this is at least a fortieth more.
  * Measured, not proved: a test holds it to what is measured, and makes the calls in threads of this stack
- * beside their own. Put no buffer for a line or a tree on the same small stack. */
+ * beside their own. Put no buffer for a line or a tree on the same small stack. The three calls on saved trees
+ * take less than 2,048 bytes, measured too. */
 #define MOVESIG_STACK 49152
 
 /* The version of this header and of the calls in it, by semantic versioning: before 1.0 another MINOR may
  * change answers or calls, from then on only another MAJOR. CHANGELOG.md says what changed for a station.
  * A station can compare it when it is compiled: the calls take an edition from MINOR 5 on, trees may be wide
- * from MINOR 6 on, a read or a display may be refused with 21 from MINOR 9 on, and movesig_outline is there from
- * MINOR 11 on. */
+ * from MINOR 6 on, a read or a display may be refused with 21 from MINOR 9 on, movesig_outline is there from MINOR 11
+ * on, and the three calls on saved trees from MINOR 12 on. */
 #define MOVESIG_VERSION_MAJOR 0
-#define MOVESIG_VERSION_MINOR 11
+#define MOVESIG_VERSION_MINOR 12
 #define MOVESIG_VERSION (MOVESIG_VERSION_MAJOR * 65536 + MOVESIG_VERSION_MINOR)
 
-/* The library has its version in the name of a symbol too, movesig_version_0_11, whose value is
+/* The library has its version in the name of a symbol too, movesig_version_0_12, whose value is
  * MOVESIG_VERSION. What includes this header and is compiled by gcc or clang refers to that symbol: with a
  * library of another version, whose calls may take other arguments, it is not linked (`undefined reference to
- * movesig_version_0_11`), and with a shared one not started (`undefined symbol`). A source file that wants
+ * movesig_version_0_12`), and with a shared one not started (`undefined symbol`). A source file that wants
  * numbers and names from here and is linked without the library defines MOVESIG_NO_VERSION_CHECK before. */
 #define MOVESIG_JOINED(word, major, minor) word##major##_##minor
 #define MOVESIG_VERSIONED(word, major, minor) MOVESIG_JOINED(word, major, minor)
@@ -224,6 +245,9 @@ enum movesig_result {
     MOVESIG_LIST_NOT_CLOSED = 12,
     MOVESIG_NO_VALUE = 13,
     MOVESIG_TOO_DEEP = 14,
+    MOVESIG_RECORD_UNFIT = 15,
+    MOVESIG_NO_RECORD_KIND = 16,
+    MOVESIG_NOT_ALLOWED = 17,
     MOVESIG_LINE_UNPRINTABLE = 18,
     MOVESIG_NO_SUCH_EDITION = 19,
     MOVESIG_NOT_A_TOKEN_START = 20,
@@ -369,6 +393,48 @@ uint32_t movesig_carry(const uint8_t *text, size_t len, size_t *notes, size_t co
 MOVESIG_NODISCARD
 uint32_t movesig_outline(uint64_t edition, const uint8_t *text, size_t len, size_t at, uint64_t limit,
                          uint64_t pending[3], uint8_t *out, size_t room, uint64_t answer[6]);
+
+/* Opens a tree that was saved: tells whether the `tree_len` bytes at `tree` are a stored tree over the text.
+ * What to save are the first bytes of `out`, as many as movesig_read answers, all of them. Accepted:
+ * { 1, offset, kind, start, end, 0 } of the outermost record, its kind as in enum movesig_record, its span in the
+ * text; its offset is 0, or 4 where the tree is wide. What movesig_read writes is accepted, in every kind and
+ * edition, over the text that it was read from, and is the tree that it was. Refusals 1 and 14 to 17; the places
+ * of the latter count bytes of the TREE.
+ *
+ * Accepted are the bytes of one record, narrow or wide, whose children may stand where they stand (enum
+ * movesig_record) and are all there, with at most 64 levels, each span inside that of the record it belongs to
+ * and the outermost one inside the text. The outermost record may be of any kind. Not looked at is what the
+ * text spells, nor whether a tree has the form that a read would write today: trees that earlier versions wrote
+ * open as they did. So another text that is long enough opens too: who wants to know that the text is the same
+ * saves a sum of it beside the tree.
+ *
+ * A tree that was read from a part of a text, lent from a token's end on, opens over that part: its spans count
+ * from there.
+ *
+ * Levels are counted by the records alone: the outermost record is level 1, and a type (10 to 16) or a field (24)
+ * is one level deeper than the record it stands in, nothing else is.
+ *
+ * What it costs: each record is looked at once, whatever they are nested in; nothing of the text is read. */
+MOVESIG_NODISCARD
+uint32_t movesig_open(const uint8_t *tree, size_t tree_len, const uint8_t *text, size_t len, uint64_t answer[6]);
+
+/* A child of a record of a saved tree: of the record at the offset `record` in the TREE, the child of the index,
+ * counted from 0. Accepted: { 1, offset, kind, start, end, 0 }, or { 0, 0, 0, 0, 0, 0 } where there is none: past
+ * the last child, in a record without any, and where no record starts, any number being allowed. Records start at
+ * the multiples of 8, in a wide tree at 4 and each multiple of 14 behind it. Refused as movesig_open is: the
+ * whole tree is opened each time, so who asks for many children opens it once and asks movesig_opened_child. */
+MOVESIG_NODISCARD
+uint32_t movesig_child(const uint8_t *tree, size_t tree_len, const uint8_t *text, size_t len, uint64_t record,
+                       uint64_t index, uint64_t answer[6]);
+
+/* The same in a tree that movesig_open accepted, and that nobody changed since: its answer is that of
+ * movesig_child. It always returns 0. Nothing is tested, and it costs as many steps as the index. Of a tree that
+ * was not opened the answer is some record that the lengths lead to, or none; no byte outside the tree is read. To
+ * go over all children, ask for the first, and then go along the lengths in their heads, which are sound in a
+ * tree that was opened; asking for each index in turn takes the square of their number. */
+MOVESIG_NODISCARD
+uint32_t movesig_opened_child(const uint8_t *tree, size_t tree_len, uint64_t record, uint64_t index,
+                              uint64_t answer[6]);
 
 /* The kinds of records of a tree. Behind each its children in order; `leaf` has none, and its spelling is
  * the bytes of its span. `first` is an address or a name; a chain is one of 3 to 5; a type one of 10 to

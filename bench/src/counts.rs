@@ -5,7 +5,7 @@
 use crate::{
     carrying,
     longer::{self, Unit},
-    outlining, over,
+    opening, outlining, over,
     runs::{each_length, READ},
     starts, texts,
     walks::Walk,
@@ -62,6 +62,11 @@ pub fn measure_carrying() -> bool {
 /// The same for outlines, which are held to walks.
 pub fn measure_outlines() -> bool {
     there_is_valgrind() && outlining::measure_all(Unit::Instructions)
+}
+
+/// The same for saved trees, which are held to reads.
+pub fn measure_opening() -> bool {
+    there_is_valgrind() && opening::measure_all(Unit::Instructions)
 }
 
 /// The counts in edition 1: those of bench/COUNTS, by the name of the row, and the lines of those

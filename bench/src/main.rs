@@ -6,6 +6,7 @@ mod counts;
 mod displays;
 mod items;
 mod longer;
+mod opening;
 mod outlining;
 mod reads;
 mod runs;
@@ -33,11 +34,13 @@ small lexer in C.
 usage: bench [--check] [--displays-only | --counts-only | --longer-only | --starts-only]
              [--record]
        bench [--check] --carry-only | --carry-counts | --outline-only | --outline-counts
+       bench [--check] --open-only | --open-counts
        bench --walk ROW | --short-walks ROW [--edition N]
        bench --longest-walk ROW | --parts-walk ROW [--edition N]
        bench --read ROW | --wide-read ROW | --display ROW [--edition N]
        bench --read-at ROW | --walk-to ROW
        bench --carry 'ROW: LIST' | --outline ROW
+       bench --open ROW | --walk-tree ROW
        bench --help
 
   --check          exit status 1 where the port is slower than the Rust on some text but
@@ -52,6 +55,8 @@ usage: bench [--check] [--displays-only | --counts-only | --longer-only | --star
   --carry-counts   the same in instructions alone
   --outline-only   only outlines, in time and in instructions
   --outline-counts the same in instructions alone
+  --open-only      only saved trees that are opened, in time and in instructions
+  --open-counts    the same in instructions alone
   --record         the counts become those that later ones are held to (bench/COUNTS)
   --walk ROW       walks once over the text of 60 KB of a row, by the port in the edition
                    (1 if left out) and, in edition 1, by the lexer in C
@@ -65,6 +70,8 @@ usage: bench [--check] [--displays-only | --counts-only | --longer-only | --star
   --walk-to ROW    walks over that source, and reads the type from there on
   --carry ROW      carries the notes of a list over the longest text of a row once
   --outline ROW    reads the outlines of a row's texts once
+  --open ROW       opens each saved tree of a row once; of items, behind their reads
+  --walk-tree ROW  asks for each child of each record of the trees of a row
   --help           these words
 
 Prints a table in nanoseconds a byte: the median of the runs and, in brackets, the
@@ -99,6 +106,10 @@ Outlines are measured beside a walk of token calls over the same text: --check f
 call over 60 KB of Move source or of comments takes more than 1.2 times as much, over 60 KB of
 declarations alone or over 1 MB of anything more than 2.3 times, calls of 1,000 tokens over Move
 source more than 1.25 times, or a byte a fifth more at 1 MB than at 60 KB by the same calls.
+
+Saved trees are opened beside the reads of the same items: --check fails where opening takes
+more than half as long as the read, or where a record takes a fifth more than in trees of 100
+records, in trees of up to 8,191 and in wide ones of a million, in time and in instructions.
 ";
 
 /// Each time is taken this often, over walks that last this long.
@@ -128,6 +139,8 @@ fn main() {
                 | counts::measure_carrying()
                 | outlining::measure_all(Unit::Nanoseconds)
                 | counts::measure_outlines()
+                | opening::measure_all(Unit::Nanoseconds)
+                | counts::measure_opening()
         }
         Only::Displays => displays::measure_all(),
         Only::Counts => counts::measure_all(options.record) | counts::measure_longer(),
@@ -137,6 +150,8 @@ fn main() {
         Only::CarryCounts => counts::measure_carrying(),
         Only::Outline => outlining::measure_all(Unit::Nanoseconds) | counts::measure_outlines(),
         Only::OutlineCounts => counts::measure_outlines(),
+        Only::Open => opening::measure_all(Unit::Nanoseconds) | counts::measure_opening(),
+        Only::OpenCounts => counts::measure_opening(),
     };
     if options.check && failed {
         eprintln!(
@@ -149,11 +164,12 @@ fn main() {
 
 /// What is counted: one walk, or one call for each item of a row.
 fn once(what: &str, row: &str, edition: u64) {
-    if what == "--carry" {
-        return carrying::once(row);
-    }
-    if what == "--outline" {
-        return outlining::once(row);
+    match what {
+        "--carry" => return carrying::once(row),
+        "--outline" => return outlining::once(row),
+        "--open" => return opening::once(row),
+        "--walk-tree" => return opening::walk_once(row),
+        _ => {}
     }
     if let Some(task) = TASKS.iter().find(|task| task.option == what) {
         return (task.once)(&runs::row(row), edition);
@@ -235,6 +251,8 @@ enum Only {
     CarryCounts,
     Outline,
     OutlineCounts,
+    Open,
+    OpenCounts,
 }
 
 #[derive(Default)]
@@ -264,14 +282,15 @@ fn options() -> Options {
             "--carry-counts" => options.only = Only::CarryCounts,
             "--outline-only" => options.only = Only::Outline,
             "--outline-counts" => options.only = Only::OutlineCounts,
+            "--open-only" => options.only = Only::Open,
+            "--open-counts" => options.only = Only::OpenCounts,
             "--record" => options.record = true,
             "--walk" | "--short-walks" | "--longest-walk" | "--parts-walk" | "--read"
-            | "--wide-read" | "--display" | "--read-at" | "--walk-to" | "--carry" | "--outline" => {
-                match words.next() {
-                    Some(row) => options.once = Some((word, row)),
-                    None => bad_usage(),
-                }
-            }
+            | "--wide-read" | "--display" | "--read-at" | "--walk-to" | "--carry" | "--outline"
+            | "--open" | "--walk-tree" => match words.next() {
+                Some(row) => options.once = Some((word, row)),
+                None => bad_usage(),
+            },
             "--edition" => match words.next().as_deref() {
                 Some("1") => options.edition = 1,
                 Some("2") => options.edition = 2,

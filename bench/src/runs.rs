@@ -322,8 +322,22 @@ impl Items {
         }
     }
 
+    /// The tree of each item, as a read writes it.
+    pub fn trees(&self) -> Vec<Vec<u8>> {
+        let mut lent = self.room();
+        let tree_of = |text: &String| {
+            let (text, kind) = (text.as_bytes(), self.kind as u64);
+            let mut answer = [0; 6];
+            let result =
+                station_items::ask(ItemCall::Read, kind, 1, text, 0, &mut lent, &mut answer);
+            assert_eq!(result, 0, "the text is one that is read");
+            lent[..answer[0] as usize].to_vec()
+        };
+        self.texts.iter().map(tree_of).collect()
+    }
+
     /// Room for the line and the tree of each item.
-    fn room(&self) -> Vec<u8> {
+    pub fn room(&self) -> Vec<u8> {
         let longest = self.texts.iter().map(String::len).max().unwrap_or(0);
         vec![0; LONGEST_LINE.max(4 + 42 * longest)]
     }

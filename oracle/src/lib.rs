@@ -25,6 +25,10 @@ pub mod line;
 pub mod long_items;
 mod memo;
 pub mod numbers;
+pub mod opening;
+#[cfg(test)]
+mod opening_flaws;
+pub mod opening_sets;
 pub mod outline_sets;
 pub mod outlining;
 pub mod parsing;

@@ -33,6 +33,7 @@ const DEPTHS: usize = 8;
 const MORE: f64 = 0.05;
 
 /// The bare calls, of the library that the crate links.
+#[allow(dead_code)] // those that are measured are made
 #[path = "../../../rust/movesig/src/boundary/calls.rs"]
 mod bare;
 

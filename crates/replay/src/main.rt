@@ -6,7 +6,10 @@
 //   the room lent, the result, the six numbers, the text and the bytes that must be written: the tree or the
 //   display line;
 // - `n` for the call that carries notes, the result, the six numbers, the text, how many notes are lent, the
-//   notes, and as many numbers that the list must hold behind the call.
+//   notes, and as many numbers that the list must hold behind the call;
+// - `o` for the call that opens a saved tree, `k` for the one that opens it and hands out a child or `h` for the one
+//   that hands out a child of an opened tree, the record's offset and the index (0 and 0 for `o`), the result, the six
+//   numbers, the tree and the text (none for `h`).
 // Texts and bytes are in hexadecimal, `-` for none. A line of another call is a branch of `holds` and a
 // function over `field_at`, `expected_at`, `bytes_at` and `numbers_at`.
 ghost use mathlib.Core.Path.{_≡_};
@@ -27,6 +30,9 @@ const TREE_ROOM: usize = 114720;
 
 // The room for a line's notes.
 const NOTES_ROOM: usize = 320;
+
+// The room for a saved tree: the longest, wide with one level too many, has 928 bytes.
+const SAVED_ROOM: usize = 1024;
 
 // A number, and where the next field starts.
 struct Field {
@@ -205,6 +211,17 @@ fn is_of_item(call: u8) -> bool {
     call == b'd'
 }
 
+// Whether the call is one on a saved tree: opening it, or a child of it.
+fn is_of_saved(call: u8) -> bool {
+    if call == b'o' {
+        return true;
+    }
+    if call == b'k' {
+        return true;
+    }
+    call == b'h'
+}
+
 // Whether the line's call is answered as the line says.
 fn holds(line: &[u8]) -> bool {
     if line.len() < 2 {
@@ -215,6 +232,9 @@ fn holds(line: &[u8]) -> bool {
     }
     if line[0] == b'n' {
         return carry_holds(line);
+    }
+    if is_of_saved(line[0]) {
+        return saved_holds(line);
     }
     token_holds(line)
 }
@@ -369,6 +389,61 @@ fn same_notes(a: &[usize; NOTES_ROOM], b: &[usize; NOTES_ROOM]) -> bool {
         i += 1;
     }
     true
+}
+
+// Whether the line's call on a saved tree is answered as the line says.
+fn saved_holds(line: &[u8]) -> bool
+    requires { ⌜ 2 ≤ length (now line) ⌝ }
+{
+    let record = field_at(line, 2);
+    let index = field_at(line, record.next);
+    let due = expected_at(line, index.next);
+    let mut tree = [0u8; SAVED_ROOM];
+    let b = bytes_at(line, due.next, &mut tree);
+    let mut text = [0u8; SHORT_ROOM];
+    let t = bytes_at(line, b.next, &mut text);
+    let m = b.count;
+    let n = t.count;
+    saved_answers(
+        line[0],
+        &tree[..m],
+        &text[..n],
+        record.value,
+        index.value,
+        due,
+    )
+}
+
+// Whether the call gives this number and these values.
+fn saved_answers(
+    call: u8,
+    tree: &[u8],
+    text: &[u8],
+    record: u64,
+    index: u64,
+    due: Expected,
+) -> bool {
+    let mut answer = [77u64; 6];
+    let r = saved_result(call, tree, text, record, index, &mut answer);
+    as_due(r, &answer, due)
+}
+
+// Makes the call that the letter names.
+fn saved_result(
+    call: u8,
+    tree: &[u8],
+    text: &[u8],
+    record: u64,
+    index: u64,
+    answer: &mut [u64; 6],
+) -> u32 {
+    if call == b'o' {
+        return station::movesig_open(tree, text, answer);
+    }
+    if call == b'k' {
+        return station::movesig_child(tree, text, record, index, answer);
+    }
+    station::movesig_opened_child(tree, record, index, answer)
 }
 
 // The byte that stands at place i of the buffer before a call.

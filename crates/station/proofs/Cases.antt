@@ -1,8 +1,8 @@
 -- The number and the values of each case of an answer.
-use mathlib.Core.Path.{_≡_, refl}
-use mathlib.Core.Bool.{cond}
+use mathlib.Core.Path.{_≡_, refl, ap, _∙_}
+use mathlib.Core.Bool.{Bool, true, false, cond, not, _||_}
 use mathlib.Core.List.{List, [], _∷_}
-use Prim.Native.Nat.{ℕ}
+use Prim.Native.Nat.{ℕ, zero, suc, _+_, _-_}
 use lib.ListN.{length}
 use Rattle.gap.specs.declared.Comment.{Comment}
 use Rattle.tokens.specs.Answers.{places, tokenNumber, tokenValues, commentNumber, commentValues}
@@ -26,6 +26,14 @@ use Rattle.calls.specs.declared.Answer.{Answer}
 use Rattle.calls.specs.declared.Answer.the-variants.{Item, Refused as Rejected}
 use Rattle.calls.specs.declared.Displayed.{Displayed}
 use Rattle.calls.specs.declared.Displayed.the-variants.{Line, Refused as Undisplayed}
+use Rattle.forms.specs.Forms.{headSize}
+use Rattle.saved.specs.Heads.{formTold, headAt}
+use Rattle.saved.specs.Open.{unfit}
+use Rattle.saved.specs.Child.{savedHead, canStart, childFrom, childOver, childIn}
+use Rattle.saved.specs.Answers.{handedNumber, handedValues}
+use Rattle.saved.specs.declared.SavedRecord.{SavedRecord}
+use Rattle.saved.specs.declared.Handed.{Handed}
+use Rattle.saved.specs.declared.Handed.the-variants.{Record, Nothing as NoRecord, Refused as Unopened}
 
 module _ (call a : Advanced) (ea : a ≡ call) where
   pub found : (t : Token) → a .lexed ≡ Found t → (f : ℕ) → f ≡ cond (a .feed) 1 0
@@ -92,3 +100,39 @@ module _ (ed : ℕ) (text : List ℕ) (at limit : ℕ) (l out : List ℕ) (p : P
     pub portion-refused : (r : Refusal) → a ≡ Unread r → (v : List ℕ) → v ≡ places r → Told (r .number) v l exit (outlined ed text at limit (pendingOf l) (length out))
     unfolding outlineNumber outlineValues pendingLeft
     portion-refused r e v f = rw (← h, ← ea, e) (refl, f, refl, eb)
+
+module _ (a : Handed) where
+  pub recorded : (k : SavedRecord) → a ≡ Record k → (0 ≡ handedNumber a) × (1 ∷ k .offset ∷ k .kind ∷ k .start ∷ k .end ∷ 0 ∷ [] ≡ handedValues a)
+  unfolding handedNumber handedValues
+  recorded k e = rw e (refl, refl)
+
+  pub none : a ≡ NoRecord → (0 ≡ handedNumber a) × (0 ∷ 0 ∷ 0 ∷ 0 ∷ 0 ∷ 0 ∷ [] ≡ handedValues a)
+  unfolding handedNumber handedValues
+  none e = rw e (refl, refl)
+
+  pub unopened : (r : Refusal) → a ≡ Unopened r → (v : List ℕ) → v ≡ places r → (r .number ≡ handedNumber a) × (v ≡ handedValues a)
+  unfolding handedNumber handedValues
+  unopened r e v f = rw e (refl, f)
+
+  pub handed : (call : Handed) → a ≡ call → (n : ℕ) (v : List ℕ) → n ≡ handedNumber a → v ≡ handedValues a → (n ≡ handedNumber call) × (v ≡ handedValues call)
+  handed call e n v h g = rw (← e) (h, g)
+
+-- a child of bytes that were opened before is never refused
+chosen : (b : Bool) (x y : Handed) → handedNumber x ≡ 0 → handedNumber y ≡ 0 → handedNumber (cond b x y) ≡ 0
+chosen true x y h g = h
+chosen false x y h g = g
+
+from-none : (f : ℕ) (bytes : List ℕ) (index p room : ℕ) → handedNumber (childFrom f bytes index p room) ≡ 0
+unfolding childFrom handedNumber
+from-none f bytes zero p room = chosen (unfit f room (headAt f bytes p)) NoRecord (Record (savedHead p (headAt f bytes p))) refl refl
+from-none f bytes (suc i) p room = chosen (unfit f room (headAt f bytes p)) NoRecord (childFrom f bytes i (p + headAt f bytes p .len) (room - headAt f bytes p .len)) refl (from-none f bytes i (p + headAt f bytes p .len) (room - headAt f bytes p .len))
+
+pub never-refused : (bytes : List ℕ) (p index : ℕ) → handedNumber (childIn bytes p index) ≡ 0
+unfolding childOver handedNumber
+never-refused bytes p index =
+    let f : ℕ = formTold bytes in
+    chosen (not (canStart f bytes p) || unfit f (length bytes - p) (headAt f bytes p)) NoRecord (childFrom f bytes index (p + headSize f) (headAt f bytes p .len - headSize f)) refl
+    (from-none f bytes index (p + headSize f) (headAt f bytes p .len - headSize f))
+
+pub hands : (bytes : List ℕ) (p index : ℕ) (a : Handed) → a ≡ childIn bytes p index → (n : ℕ) (v : List ℕ) → n ≡ handedNumber a → v ≡ handedValues a → (n ≡ 0) × (v ≡ handedValues (childIn bytes p index))
+hands bytes p index a e n v h g = (h ∙ ap handedNumber e ∙ never-refused bytes p index, g ∙ ap handedValues e)

@@ -10,10 +10,13 @@ ghost use Rattle.calls.specs.Calls.{answered, readNumber, readValues, read, rea
 ghost use Rattle.carried.specs.Carry.{carry, answerOf, notesAfter, carryNumber, carryValues};
 ghost use Rattle.outline.specs.Outline.{outlined};
 ghost use Rattle.outline.specs.Calls.{answered as outlineAnswer, pendingOf, outlineNumber, outlineValues, pendingLeft, outlineBuffer};
+ghost use Rattle.saved.specs.Child.{childIn};
+ghost use Rattle.saved.specs.Answers.{openCall, childCall, handedNumber, handedValues};
 use calls::Answer;
 use calls::Displayed;
 use carried::Carried;
 use outline::Pending;
+use saved::Handed;
 use tokens::DocComment;
 use tokens::Lexed;
 use tokens::Place;
@@ -227,4 +230,76 @@ pub extern "C" fn movesig_outline(
             r.number
         }
     }
+}
+
+// What a call over a saved tree handed back, as number and values.
+fn hand_back(a: Handed, answer: &mut [u64; 6]) -> u32
+    ensures number { λ r. ⌜ r ≡ handedNumber a ⌝ }
+    ensures values { λ r. ⌜ now (answer .exit) ≡ handedValues a ⌝ }
+{
+    match a {
+        Handed::Record(k) => {
+            *answer = [
+                1,
+                k.offset as u64,
+                k.kind as u64,
+                k.start as u64,
+                k.end as u64,
+                0,
+            ];
+            0
+        }
+        Handed::Nothing => {
+            *answer = [0, 0, 0, 0, 0, 0];
+            0
+        }
+        Handed::Refused(r) => {
+            *answer = refusal_values(r);
+            r.number
+        }
+    }
+}
+
+// Opens a saved tree over its text.
+#[no_mangle]
+pub extern "C" fn movesig_open(tree: &[u8], text: &[u8], answer: &mut [u64; 6]) -> u32
+    ensures number { λ r. ⌜ r ≡ handedNumber (openCall (now (tree .entry)) (now (text .entry))) ⌝ }
+    ensures values { λ r. ⌜ now (answer .exit) ≡ handedValues (openCall (now (tree .entry)) (now (text .entry))) ⌝ }
+{
+    hand_back(saved::open_tree(tree, text), answer)
+}
+
+// Opens a saved tree over its text, and hands back the child of an index of the record at an offset.
+#[no_mangle]
+pub extern "C" fn movesig_child(
+    tree: &[u8],
+    text: &[u8],
+    offset: u64,
+    index: u64,
+    answer: &mut [u64; 6],
+) -> u32
+    ensures number { λ r. ⌜ r ≡ handedNumber (childCall (now (tree .entry)) (now (text .entry)) offset index) ⌝ }
+    ensures values { λ r. ⌜ now (answer .exit) ≡ handedValues (childCall (now (tree .entry)) (now (text .entry)) offset index) ⌝ }
+{
+    hand_back(
+        saved::child(tree, text, offset as usize, index as usize),
+        answer,
+    )
+}
+
+// The same in a tree that was opened before: nothing is refused, and the call costs as many steps as the index.
+#[no_mangle]
+pub extern "C" fn movesig_opened_child(
+    tree: &[u8],
+    offset: u64,
+    index: u64,
+    answer: &mut [u64; 6],
+) -> u32
+    ensures number { λ r. ⌜ r ≡ 0 ⌝ }
+    ensures values { λ r. ⌜ now (answer .exit) ≡ handedValues (childIn (now (tree .entry)) offset index) ⌝ }
+{
+    hand_back(
+        saved::opened_child(tree, offset as usize, index as usize),
+        answer,
+    )
 }

@@ -6,6 +6,8 @@ mod carry_comparison;
 mod display_comparison;
 #[path = "../item_sets.rs"]
 mod item_sets;
+#[path = "../open_comparison.rs"]
+mod open_comparison;
 #[path = "../outline_comparison.rs"]
 mod outline_comparison;
 #[path = "../point_comparison.rs"]
@@ -43,9 +45,9 @@ first some points whose answers are written down.
 
 usage: compare [--quick] [--seed N] [--edition N] [--reads-only | --displays-only]
                [--long-only | --types-only | --starts-only] [--help]
-       compare --carry-only | --outline-only [--quick] [--seed N]
+       compare --carry-only | --outline-only | --open-only [--quick] [--seed N]
 
-  --quick          fewer texts: some 93 million answers, in a minute or two
+  --quick          fewer texts: some 150 million answers, in a minute or two
   --edition N      one edition alone, 1 or 2 (default both)
   --seed N         another choice of random texts (default 1)
   --reads-only     no tokens, comments and displays
@@ -56,6 +58,8 @@ usage: compare [--quick] [--seed N] [--edition N] [--reads-only | --displays-onl
   --carry-only     only notes that are carried from edition 1 to edition 2, which
                    the other options that choose leave out
   --outline-only   only outlines, which those leave out too
+  --open-only      only saved trees that are opened, and their children, which they
+                   leave out too
   --help           these words
 
 Prints the sha256 of the Rust sources, how many answers were compared, how many of
@@ -65,6 +69,18 @@ and displays of each number, and the first differences that it does not list, ea
 with the smallest text found. Exit status: 0 no such difference, 1 some, or a number
 that no answer has, 2 bad usage.
 ";
+
+/// An option that compares a call alone, and its comparison.
+type Alone = (&'static str, fn(Size) -> Found);
+
+/// The calls that the other options that choose leave out.
+const LEFT_OUT: [Alone; 3] = [
+    ("--carry-only", carry_comparison::run),
+    ("--outline-only", outline_comparison::run),
+    ("--open-only", open_comparison::run),
+];
+const ALONE: &str =
+    "--carry-only, --outline-only and --open-only exclude one another, and go with --quick and --seed alone";
 
 /// How many differences are shown in full, and how many are made small to find
 /// that many that are not the same.
@@ -81,13 +97,12 @@ fn main() {
     println!("seed {}\n", options.seed);
 
     let mut all = Found::default();
-    if options.of_whole_texts() && !options.outline_only {
-        all += carry_comparison::run(options.size());
+    for (option, run) in LEFT_OUT {
+        if options.of_whole_texts() && options.alone.is_none_or(|alone| alone == option) {
+            all += run(options.size());
+        }
     }
-    if options.of_whole_texts() && !options.carry_only {
-        all += outline_comparison::run(options.size());
-    }
-    if options.carry_only || options.outline_only {
+    if options.alone.is_some() {
         return told(&all);
     }
     if options.only.is_none() && !options.types_only && !options.starts_only {
@@ -177,14 +192,12 @@ struct Options {
     types_only: bool,
     /// Whether only the sets of offsets other than 0 are compared.
     starts_only: bool,
-    /// Whether only notes that are carried are compared.
-    carry_only: bool,
-    /// Whether only outlines are compared.
-    outline_only: bool,
+    /// The option of the one call of `LEFT_OUT` that is compared, if only that is.
+    alone: Option<&'static str>,
 }
 
 impl Options {
-    /// Whether notes are carried and outlines are made: in both editions, on texts of every length.
+    /// Whether the calls of `LEFT_OUT` are compared: in both editions, on texts of every length.
     fn of_whole_texts(&self) -> bool {
         let chosen = self.only.is_some() || self.edition.is_some();
         !chosen && !self.long_only && !self.types_only && !self.starts_only
@@ -219,8 +232,7 @@ fn options() -> Options {
         long_only: false,
         types_only: false,
         starts_only: false,
-        carry_only: false,
-        outline_only: false,
+        alone: None,
     };
     let mut words = env::args().skip(1);
     while let Some(word) = words.next() {
@@ -240,13 +252,15 @@ fn options() -> Options {
             "--long-only" => options.long_only = true,
             "--types-only" => options.types_only = true,
             "--starts-only" => options.starts_only = true,
-            "--carry-only" => options.carry_only = true,
-            "--outline-only" => options.outline_only = true,
             "--help" => {
                 print!("{HELP}");
                 exit(0);
             }
-            _ => bad_usage(&format!("unknown option '{word}'")),
+            _ => match LEFT_OUT.iter().find(|(option, _)| *option == word) {
+                Some(_) if options.alone.is_some_and(|alone| alone != word) => bad_usage(ALONE),
+                Some((option, _)) => options.alone = Some(option),
+                None => bad_usage(&format!("unknown option '{word}'")),
+            },
         }
     }
     if options.types_only && (options.long_only || options.only == Some(ItemCall::Display)) {
@@ -255,9 +269,8 @@ fn options() -> Options {
     if options.starts_only && (options.long_only || options.types_only) {
         bad_usage("--starts-only excludes --long-only and --types-only");
     }
-    let alone = options.carry_only != options.outline_only && options.of_whole_texts();
-    if (options.carry_only || options.outline_only) && !alone {
-        bad_usage("--carry-only and --outline-only go with --quick and --seed alone");
+    if options.alone.is_some() && !options.of_whole_texts() {
+        bad_usage(ALONE);
     }
     options
 }

@@ -6,15 +6,17 @@
 //! - A slice's pointer is not null, also where the slice is empty, and its length's bytes can
 //!   be read; through `&mut` they can be written too, and they hold some value already. Of a list of notes it is
 //!   aligned, and a `usize` is C's `size_t`.
-//! - Nobody writes the text during the call, since it is lent as `&[u8]`.
+//! - Nobody writes the text or a saved tree during the call, since they are lent as `&[u8]`. The two may overlap:
+//!   they are read and not written.
 //! - Text, buffer or notes, the three numbers that are pending and the six of the answer do not overlap, since a
 //!   `&mut` shuts out every other reference to the same bytes.
 //!
 //! And what the calls do is proved (crates/station): for every text, offset, limit, kind number, edition number,
-//! buffer, list of notes and numbers that are pending they return, read no byte outside the text, the list and
-//! those numbers, write no byte outside the buffer or the list, those numbers and the six, write all six, and
-//! keep no pointer. So no further test is needed here, and none is made. That the library is the one whose calls
-//! take these arguments is told by a symbol with the version in its name, which every program refers to.
+//! buffer, list of notes, numbers that are pending and bytes in the place of a tree they return, read no byte outside
+//! the text, the tree, the list and those numbers, write no byte outside the buffer or the list, those numbers and
+//! the six, write all six, and keep no pointer. So no further test is needed here, and none is made. That the library
+//! is the one whose calls take these arguments is told by a symbol with the version in its name, which every program
+//! refers to.
 
 #![allow(unsafe_code)]
 
@@ -23,8 +25,8 @@ mod calls;
 mod fuzz;
 
 use calls::{
-    movesig_carry, movesig_display, movesig_next_comment, movesig_next_token, movesig_outline,
-    movesig_read,
+    movesig_carry, movesig_child, movesig_display, movesig_next_comment, movesig_next_token,
+    movesig_open, movesig_opened_child, movesig_outline, movesig_read,
 };
 use std::mem::MaybeUninit;
 
@@ -196,6 +198,53 @@ pub(crate) fn outline<'n>(
     unsafe {
         let (text, len) = (text.as_ptr(), text.len());
         let result = movesig_outline(edition, text, len, at, limit, pending, start, room, answer);
+        numbers.answer(result)
+    }
+}
+
+#[inline]
+pub(crate) fn open<'n>(tree: &[u8], text: &[u8], numbers: &'n mut Numbers) -> Answer<'n> {
+    let answer = numbers.0.as_mut_ptr();
+    // SAFETY: each pointer stands with the length of its own slice, and all are lent for the call; `numbers` is
+    // `&mut`, so it overlaps neither of the others. Any bytes may be lent as a tree. The call writes all six numbers.
+    unsafe {
+        let (tree, tree_len) = (tree.as_ptr(), tree.len());
+        let result = movesig_open(tree, tree_len, text.as_ptr(), text.len(), answer);
+        numbers.answer(result)
+    }
+}
+
+#[inline]
+pub(crate) fn child<'n>(
+    tree: &[u8],
+    text: &[u8],
+    record: u64,
+    index: u64,
+    numbers: &'n mut Numbers,
+) -> Answer<'n> {
+    let answer = numbers.0.as_mut_ptr();
+    // SAFETY: as for `open`. Any offset and any index may be asked for.
+    unsafe {
+        let (tree, tree_len) = (tree.as_ptr(), tree.len());
+        let (text, len) = (text.as_ptr(), text.len());
+        let result = movesig_child(tree, tree_len, text, len, record, index, answer);
+        numbers.answer(result)
+    }
+}
+
+#[inline]
+pub(crate) fn opened_child<'n>(
+    tree: &[u8],
+    record: u64,
+    index: u64,
+    numbers: &'n mut Numbers,
+) -> Answer<'n> {
+    let answer = numbers.0.as_mut_ptr();
+    // SAFETY: as for `child`, without a text. The tree need not have been opened: the call looks at no byte outside
+    // of it, whatever its bytes are.
+    unsafe {
+        let (tree, tree_len) = (tree.as_ptr(), tree.len());
+        let result = movesig_opened_child(tree, tree_len, record, index, answer);
         numbers.answer(result)
     }
 }

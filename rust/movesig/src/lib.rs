@@ -1,9 +1,9 @@
-//! The proved Move signature reader, for Rust: the six calls of `movesig.h` over slices.
+//! The proved Move signature reader, for Rust: the nine calls of `movesig.h` over slices.
 //!
-//! Each call takes a text, any bytes at all, the [`Edition`] of Move that it is written in, and
-//! an offset from which it reads; [`carry`] takes neither edition nor offset. It gives an
-//! answer or a [`Refusal`] with a number and a place ([`carry`] a [`CarryRefusal`]); it neither panics nor fails
-//! in any other way, and it allocates nothing.
+//! A call that reads takes a text, any bytes at all, the [`Edition`] of Move that it is written in, and
+//! an offset from which it reads; [`carry`] takes neither edition nor offset, nor do the calls on saved trees. It
+//! gives an answer or a [`Refusal`] with a number and a place ([`carry`] a [`CarryRefusal`], [`open`] a [`Damage`]);
+//! it neither panics nor fails in any other way, and it allocates nothing.
 //!
 //! | call | gives |
 //! |---|---|
@@ -13,6 +13,7 @@
 //! | [`display`] | an item as one line, in a buffer of yours |
 //! | [`carry`] | moves notes on token starts from edition 1 to edition 2 |
 //! | [`outline`] | what a text declares, so many tokens a call; [`portions`] goes on by itself |
+//! | [`open`] | a saved tree as a [`Tree`] again, or what is damaged; [`child`] and [`opened_child`] give children by the offsets of records |
 //!
 //! ```
 //! use movesig::{display, read, tree_room, Edition, Kind, RecordKind, Refusal};
@@ -58,6 +59,7 @@ mod edition;
 mod item;
 mod outline;
 mod refusal;
+mod saved;
 mod span;
 mod token;
 mod tree;
@@ -71,6 +73,7 @@ pub use outline::{
     entry_size, outline, portions, Entries, Entry, Keyword, Pending, Portion, Portions,
 };
 pub use refusal::Refusal;
+pub use saved::{child, open, opened_child, Damage, SavedRecord};
 pub use span::Span;
 pub use token::{next_token, tokens, Following, Token, TokenKind, Tokens};
 pub use tree::{Children, RecordKind, Records, Tree};

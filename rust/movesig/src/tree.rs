@@ -3,8 +3,9 @@ use std::{fmt, iter::FusedIterator};
 
 /// A record of a stored tree with its children, as it stands in the buffer: nothing is copied.
 ///
-/// [`read`](crate::read) gives the outermost one, [`children`](Tree::children) those inside. A tree
-/// is stored narrow or wide; which of the two makes no difference to what is seen of it here.
+/// [`read`](crate::read) gives the outermost one, [`open`](crate::open) that of bytes that were saved,
+/// [`children`](Tree::children) those inside. A tree is stored narrow or wide; which of the two makes no
+/// difference to what is seen of it here.
 #[derive(Clone, Copy)]
 pub struct Tree<'t, 'b> {
     text: &'t [u8],
@@ -123,7 +124,8 @@ impl<'t, 'b> Tree<'t, 'b> {
     }
 
     /// The record as it is stored, with its children; of the outermost one all bytes that the
-    /// read wrote, those in front of a wide tree too.
+    /// read wrote, those in front of a wide tree too. These are what to save, to
+    /// [`open`](crate::open) them another day; of a record inside, in the wide form, they are not enough.
     #[must_use]
     pub fn as_bytes(self) -> &'b [u8] {
         self.bytes
@@ -268,7 +270,7 @@ macro_rules! record_kinds {
             /// All that are known, by number.
             pub const ALL: &'static [RecordKind] = &[$(RecordKind::$variant),*];
 
-            fn new(number: u16) -> RecordKind {
+            pub(crate) fn new(number: u16) -> RecordKind {
                 match number {
                     $($number => RecordKind::$variant,)*
                     other => RecordKind::Other(other),

@@ -3,7 +3,7 @@
 //! type, the names behind the numbers, and the stack that the calls take. Each needs gcc, g++, clang or
 //! clang++, and says so where it is not there.
 
-use movesig::{type_room, CarryRefusal, Kind, RecordKind, TokenKind, LONGEST};
+use movesig::{type_room, CarryRefusal, Damage, Kind, RecordKind, TokenKind, LONGEST};
 use std::{
     fs,
     path::{Path, PathBuf},
@@ -89,6 +89,9 @@ fn dropped_results() {
         "display(3, 1, 0, 0, 0, 0, 0, answer)",
         "carry(0, 0, 0, 0, answer)",
         "outline(1, 0, 0, 0, 0, answer + 6, 0, 0, answer)",
+        "open(0, 0, 0, 0, answer)",
+        "child(0, 0, 0, 0, 0, 0, answer)",
+        "opened_child(0, 0, 0, 0, answer)",
     ];
     let source = Path::new(env!("CARGO_TARGET_TMPDIR")).join("dropped.c");
     let write = |before: &str, behind: &str| {
@@ -153,7 +156,7 @@ fn huge_texts() {
             for (index = 0; index < sizeof lengths / sizeof *lengths; index++) {
                 size_t len = lengths[index], room = MOVESIG_TREE_ROOM(len), count;
                 size_t note = 0;
-                uint64_t answer[6][6], pending[3] = {62, 0, 0};
+                uint64_t answer[8][6], pending[3] = {62, 0, 0};
                 /* which nobody may read */
                 uint8_t *text = mmap(NULL, len, PROT_NONE, MAP_PRIVATE | MAP_ANONYMOUS | MAP_NORESERVE, -1, 0);
                 uint8_t *out = malloc(room);
@@ -164,9 +167,11 @@ fn huge_texts() {
                     movesig_read(3, 1, text, len, 0, out, room, answer[2]) != MOVESIG_TEXT_TOO_LONG ||
                     movesig_display(3, 1, text, len, 0, out, room, answer[3]) != MOVESIG_TEXT_TOO_LONG ||
                     movesig_carry(text, len, &note, 1, answer[4]) != MOVESIG_TEXT_TOO_LONG ||
-                    movesig_outline(1, text, len, 0, 9, pending, out, room, answer[5]) != MOVESIG_TEXT_TOO_LONG)
+                    movesig_outline(1, text, len, 0, 9, pending, out, room, answer[5]) != MOVESIG_TEXT_TOO_LONG ||
+                    movesig_open(text, len, text, len, answer[6]) != MOVESIG_TEXT_TOO_LONG ||
+                    movesig_child(text, len, text, len, 0, 0, answer[7]) != MOVESIG_TEXT_TOO_LONG)
                     return 3;
-                for (count = 0; count < 36; count++)
+                for (count = 0; count < 48; count++)
                     if (answer[count / 6][count % 6] != 0)
                         return 4;
                 free(out);
@@ -337,6 +342,9 @@ fn names() {
         match number {
             0 => assert_eq!(reason, "accepted"),
             1..=14 => assert_eq!(reason, reasons[number - 1]),
+            15 => assert_eq!(reason, Damage::RecordUnfit { record: 0 }.reason()),
+            16 => assert_eq!(reason, Damage::NoRecordKind { record: 0 }.reason()),
+            17 => assert_eq!(reason, Damage::NotAllowed { record: 0 }.reason()),
             18 => assert_eq!(reason, reasons[14]),
             19 => assert_eq!(reason, reasons[15]),
             20 => assert_eq!(reason, CarryRefusal::Note { index: 0 }.reason()),

@@ -1036,7 +1036,7 @@ fn completions() {
     };
     assert_eq!(
         commands,
-        "tokens comments outline read line carry help man completions"
+        "tokens comments outline read line carry open help man completions"
     );
     assert_eq!(complete(&["movesig", "read", "t"]).as_deref(), Some("type"));
     assert_eq!(
@@ -1045,6 +1045,19 @@ fn completions() {
     );
     assert_eq!(complete(&["movesig", "--j"]).as_deref(), Some("--json"));
     assert_eq!(complete(&["movesig", "--e"]).as_deref(), Some("--edition"));
+    assert_eq!(complete(&["movesig", "--s"]).as_deref(), Some("--save"));
+    assert_eq!(
+        complete(&["movesig", "read", "type", "a", "--save", "/dev/nul"]).as_deref(),
+        Some("/dev/null")
+    );
+    assert_eq!(
+        complete(&["movesig", "--save", "t", "read", "b"]).as_deref(),
+        Some("binds")
+    );
+    assert_eq!(
+        complete(&["movesig", "open", "/dev/nul"]).as_deref(),
+        Some("/dev/null")
+    );
     assert_eq!(
         complete(&["movesig", "--edition", ""]).as_deref(),
         Some("1 2")
@@ -1056,7 +1069,7 @@ fn completions() {
     assert_eq!(complete(&["movesig", "--t"]).as_deref(), Some("--tokens"));
     assert_eq!(complete(&["movesig", "--tokens", ""]).as_deref(), Some(""));
     assert_eq!(
-        complete(&["movesig", "--tokens", "9", "o"]).as_deref(),
+        complete(&["movesig", "--tokens", "9", "ou"]).as_deref(),
         Some("outline")
     );
     assert_eq!(

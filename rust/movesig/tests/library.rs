@@ -711,7 +711,7 @@ fn names_of_the_header() {
         .collect();
     let items: Vec<_> = names.into_iter().zip(numbers).collect();
     assert_eq!(section("movesig_item"), items);
-    assert_eq!(section("movesig_result").len(), 19);
+    assert_eq!(section("movesig_result").len(), 22);
     let editions = [("edition1".to_string(), 1), ("edition2".to_string(), 2)];
     assert_eq!(section("movesig_edition"), editions);
     let numbers: Vec<_> = Edition::ALL.map(|edition| edition.number() as usize).into();

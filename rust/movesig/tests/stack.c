@@ -2,9 +2,10 @@
  * and round a list that is so long that their tree is wide or that the text is the longest; and on random
  * nests of all constructs. MOVESIG_STACK is held to it: at least a fortieth more than what is measured, and at
  * most four tenths. The call that carries notes may take no more than a few registers beside what the token
- * call takes on the tokens of the same texts; an outline takes less than 12 KB. The stack of a thread is painted,
- * and what is no longer paint was used. Then all is asked again in threads that have MOVESIG_STACK bytes beside
- * their own: below them lies a page that nobody may touch.
+ * call takes on the tokens of the same texts; an outline takes less than 12 KB. Trees that were read are opened too,
+ * as they are and damaged: the three calls on them take at most 2 KB. The stack of a thread is painted, and what is
+ * no longer paint was used. Then all is asked again in threads that have MOVESIG_STACK bytes beside their own: below
+ * them lies a page that nobody may touch.
  *
  *     stack [ROUNDS]    so many random nests
  */
@@ -23,10 +24,12 @@
 #define MORE_TO_CARRY 128
 /* An outline has a buffer of its own of 8 KB, and takes less than this. */
 #define MOST_OF_OUTLINES ((size_t)12 * 1024)
+#define MOST_OF_TREES ((size_t)2048)
 #define LONG_NAME "a_name_of_more_than_16_bytes" /* the table of classes is on the stack for such */
 
 static uint8_t text[MOVESIG_LONGEST];
 static size_t length; /* of the text */
+static size_t stored; /* of the tree that was read last, in `out` */
 static uint8_t out[MOVESIG_TREE_ROOM(MOVESIG_LONGEST)];
 static uint8_t *stack; /* its lowest byte */
 static size_t size;    /* its bytes: what the thread takes itself, and what a call may take */
@@ -57,6 +60,31 @@ static void *read_item(void *given)
     uint64_t answer[6];
     entry = (uint8_t *)answer;
     number = movesig_read(*(uint64_t *)given, MOVESIG_EDITION_2, text, length, 0, out, sizeof out, answer);
+    return given;
+}
+
+static void *open_tree(void *given)
+{
+    uint64_t answer[6];
+    entry = (uint8_t *)answer;
+    number = movesig_open(out, stored, text, length, answer);
+    return given;
+}
+
+/* Of the record that is `given` bytes behind the tree's first. */
+static void *child(void *given)
+{
+    uint64_t answer[6];
+    entry = (uint8_t *)answer;
+    number = movesig_child(out, stored, text, length, *(uint64_t *)given, 1, answer);
+    return given;
+}
+
+static void *opened_child(void *given)
+{
+    uint64_t answer[6];
+    entry = (uint8_t *)answer;
+    number = movesig_opened_child(out, stored, *(uint64_t *)given, 1, answer);
     return given;
 }
 
@@ -147,24 +175,59 @@ static const struct nest nests[] = {
     {MOVESIG_LAMBDA_BIND_LIST, "|S<", "& ", A_TYPE, "a::b", "", ">{}|"},
 };
 
-enum call { TOKEN, COMMENT, READ, DISPLAY, CARRY, OUTLINE, OUTLINE_OF_FEW, CALLS };
+/* Those on texts, and those on the trees that were read. */
+enum call { TOKEN, COMMENT, READ, DISPLAY, CARRY, OUTLINE, OUTLINE_OF_FEW, OPEN, CHILD, OPENED_CHILD, CALLS };
+#define TEXT_CALLS OPEN
 
-static size_t most, most_of[CALLS], accepted, wide;
+static size_t most, most_of[CALLS], accepted, wide, opened, damaged;
+
+static void measure_call(size_t call, void *(*work)(void *), uint64_t given)
+{
+    size_t bytes = used(work, given);
+    if (bytes > most_of[call])
+        most_of[call] = bytes;
+    if (bytes > most)
+        most = bytes;
+}
+
+/* How long the tree is, told by its outermost record. */
+static size_t stored_length(int is_wide)
+{
+    return is_wide ? 4 + out[4] + 256 * ((size_t)out[5] + 256 * ((size_t)out[6] + 256 * (size_t)out[7]))
+                   : out[0] + 256 * (size_t)out[1];
+}
+
+/* Opens the tree that was read last, and asks for a child, as it is and with a byte changed near its end. */
+static void measure_opening(int is_wide)
+{
+    uint64_t record = is_wide ? 4 : 0;
+    int turn;
+    stored = stored_length(is_wide);
+    for (turn = 0; turn < 2; turn++) {
+        if (turn == 1)
+            out[stored - 1 - stored % 13 % (stored < 40 ? stored : 40)] ^= 0x55;
+        measure_call(OPEN, open_tree, record);
+        opened += turn == 0 && number == 0;
+        damaged += turn == 1 && number != 0;
+        measure_call(CHILD, child, record);
+        measure_call(OPENED_CHILD, opened_child, record);
+    }
+}
 
 /* Asks all calls about the text. */
 static void measure(uint64_t kind)
 {
-    static void *(*const calls[CALLS])(void *) = {token, comment, read_item, display_item, carry,
-                                                    outline_whole, outline_few};
+    static void *(*const calls[TEXT_CALLS])(void *) = {token, comment, read_item, display_item, carry,
+                                                         outline_whole, outline_few};
     size_t call;
-    for (call = 0; call < CALLS; call++) {
-        size_t bytes = used(calls[call], kind);
-        if (bytes > most_of[call])
-            most_of[call] = bytes;
-        if (bytes > most)
-            most = bytes;
-        accepted += call == READ && number == 0;
-        wide += call == READ && number == 0 && memcmp(out, "\4\0\143\0", 4) == 0;
+    for (call = 0; call < TEXT_CALLS; call++) {
+        measure_call(call, calls[call], kind);
+        if (call == READ && number == 0) {
+            int is_wide = memcmp(out, "\4\0\143\0", 4) == 0;
+            accepted++;
+            wide += is_wide;
+            measure_opening(is_wide);
+        }
     }
 }
 
@@ -293,7 +356,7 @@ static void measure_all(long rounds)
 {
     size_t i;
     int levels;
-    most = accepted = wide = 0;
+    most = accepted = wide = opened = damaged = 0;
     memset(most_of, 0, sizeof most_of);
     state = 88172645463325252u;
     for (i = 0; i < sizeof nests / sizeof *nests; i++)
@@ -310,6 +373,9 @@ static void measure_all(long rounds)
            (unsigned long)most_of[TOKEN], (unsigned long)most_of[COMMENT], (unsigned long)most_of[READ],
            (unsigned long)most_of[DISPLAY], (unsigned long)most_of[CARRY], (unsigned long)most_of[OUTLINE],
            (unsigned long)most_of[OUTLINE_OF_FEW]);
+    printf("trees: opened %lu, a child %lu, a child of an opened one %lu; %lu opened, %lu damaged ones refused\n",
+           (unsigned long)most_of[OPEN], (unsigned long)most_of[CHILD], (unsigned long)most_of[OPENED_CHILD],
+           (unsigned long)opened, (unsigned long)damaged);
 }
 
 int main(int count, char **words)
@@ -334,6 +400,14 @@ int main(int count, char **words)
     }
     if (most_of[OUTLINE] >= MOST_OF_OUTLINES || most_of[OUTLINE_OF_FEW] >= MOST_OF_OUTLINES) {
         printf("an outline should take less than %lu\n", (unsigned long)MOST_OF_OUTLINES);
+        return 1;
+    }
+    if (most_of[OPEN] > MOST_OF_TREES || most_of[CHILD] > MOST_OF_TREES || most_of[OPENED_CHILD] > MOST_OF_TREES) {
+        printf("the calls on trees should take at most %lu\n", (unsigned long)MOST_OF_TREES);
+        return 1;
+    }
+    if (opened != accepted || damaged < 100) {
+        printf("every tree that was read should be opened, and 100 damaged ones refused\n");
         return 1;
     }
     /* what a thread takes before its call, in steps of its alignment */

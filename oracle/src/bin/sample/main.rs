@@ -5,16 +5,19 @@
 //! the edition, the item kind, the start offset, the room lent, the result, the six
 //! numbers, the text and the bytes that must be written: the tree or the line; or `n`
 //! (notes carried from edition 1 to edition 2), the result, the six numbers, the text, how
-//! many notes there are, the notes, and the list behind the call. Texts and
-//! bytes are in hex (`-` where there are none). First stand the points of
-//! oracle/src/points.rs; behind what the Rust answers, which is edition 1, stand cases of
-//! the editions and of notes, and last some wrong answers, so that a replay that finds none
-//! of them is seen.
+//! many notes there are, the notes, and the list behind the call; or `o` (a saved tree
+//! opened), `k` (opened, and a child of it) or `h` (a child of an opened tree), the
+//! record's offset and the index, of `o` 0 and 0, the result, the six numbers, the tree
+//! and the text, of `h` none. Texts and bytes are in hex (`-` where there are none). First
+//! stand the points of oracle/src/points.rs; behind what the Rust answers, which is edition
+//! 1, stand cases of the editions, of notes and of saved trees, and last some wrong answers,
+//! so that a replay that finds none of them is seen.
 
 mod calls;
 mod items;
 mod notes;
 mod points;
+mod saved;
 
 use oracle::{answer::ItemCall, parsing::on_a_deep_stack, reading::silence_the_rust};
 use std::collections::BTreeSet;
@@ -29,10 +32,12 @@ fn main() {
     }
     EDITIONS.iter().for_each(|line| println!("{line}"));
     print!("{}", notes::lines());
+    print!("{}", saved::lines());
     for line in [WRONG_READS, WRONG_DISPLAYS, WRONG_CALLS].concat() {
         print_first(line);
     }
     print!("{}", notes::wrong_lines());
+    print!("{}", saved::wrong_lines());
 }
 
 /// Prints the lines that are none of the points'.

@@ -55,4 +55,27 @@ unsafe extern "C" {
         room: usize,
         answer: *mut [u64; 6],
     ) -> u32;
+    pub fn movesig_open(
+        tree: *const u8,
+        tree_len: usize,
+        text: *const u8,
+        len: usize,
+        answer: *mut [u64; 6],
+    ) -> u32;
+    pub fn movesig_child(
+        tree: *const u8,
+        tree_len: usize,
+        text: *const u8,
+        len: usize,
+        record: u64,
+        index: u64,
+        answer: *mut [u64; 6],
+    ) -> u32;
+    pub fn movesig_opened_child(
+        tree: *const u8,
+        tree_len: usize,
+        record: u64,
+        index: u64,
+        answer: *mut [u64; 6],
+    ) -> u32;
 }

@@ -46,6 +46,18 @@ fn outline(
     asked(|numbers| super::outline(edition, text, at, limit, pending, out, numbers))
 }
 
+fn open(tree: &[u8], text: &[u8]) -> Answer {
+    asked(|numbers| super::open(tree, text, numbers))
+}
+
+fn child(tree: &[u8], text: &[u8], record: u64, index: u64) -> Answer {
+    asked(|numbers| super::child(tree, text, record, index, numbers))
+}
+
+fn opened_child(tree: &[u8], record: u64, index: u64) -> Answer {
+    asked(|numbers| super::opened_child(tree, record, index, numbers))
+}
+
 const ROUNDS: usize = 100_000;
 const BESIDE: usize = 16;
 
@@ -446,6 +458,58 @@ fn outlining() {
     );
 }
 
+/// Trees of random items, and the same with bytes changed, cut off or put behind: the numbers are those that may come,
+/// and the three calls agree.
+#[test]
+fn opening() {
+    let mut random = Random(5);
+    let mut whole = vec![0; MOST_ROOM];
+    let (mut opened, mut refused) = (0, [0; 18]);
+    for _ in 0..ROUNDS / 4 {
+        let text = text_of(&mut random);
+        let kind = 1 + random.below(5) as u64;
+        let (number, [length, ..]) = read(kind, 1, &text, 0, &mut whole);
+        if number != 0 {
+            continue;
+        }
+        let mut tree = whole[..length].to_vec();
+        assert_eq!(open(&tree, &text).0, 0, "what a read wrote opens");
+        for _ in 0..4 {
+            match random.below(4) {
+                0 => tree.truncate(random.below(tree.len() + 1)),
+                1 => tree.extend((0..random.below(20)).map(|_| random.next() as u8)),
+                _ if tree.is_empty() => {}
+                _ => {
+                    let at = random.below(tree.len());
+                    tree[at] = random.next() as u8;
+                }
+            }
+            let (number, values) = open(&tree, &text);
+            let (record, index) = (random.below(tree.len() + 20) as u64, random.next() % 3);
+            let asked = child(&tree, &text, record & !3, index);
+            if number != 0 {
+                let place = values[0];
+                assert_eq!(values, [place, place, place, place, 0, 0]);
+                assert!((14..=17).contains(&number) && place <= tree.len().max(4));
+                assert_eq!(asked, (number, values));
+                refused[number as usize] += 1;
+                continue;
+            }
+            let [one, first, _, start, end, nothing] = values;
+            assert!(one == 1 && first <= 4 && inside(start, end, &text) && nothing == 0);
+            assert_eq!(asked, opened_child(&tree, record & !3, index));
+            let (number, [_, at, _, start, end, _]) = asked;
+            assert!(number == 0 && at < tree.len() && inside(start, end, &text));
+            opened += 1;
+        }
+    }
+    assert!(opened > 100, "{opened}");
+    assert!(
+        refused[15..].iter().all(|count| *count > 100),
+        "{refused:?}"
+    );
+}
+
 #[test]
 fn empty_everything() {
     for edition in [1, 2] {
@@ -461,6 +525,9 @@ fn empty_everything() {
             assert_eq!((answer, pending), ((0, [0; 6]), [0; 3]));
         }
     }
+    assert_eq!(open(&[], &[]), (15, [0; 6]));
+    assert_eq!(child(&[], &[], 0, 0), (15, [0; 6]));
+    assert_eq!(opened_child(&[], u64::MAX, u64::MAX), (0, [0; 6]));
 }
 
 /// A number that is no edition is 19, behind 1, 2 and 3 and before what the text says.

@@ -4,13 +4,15 @@ use movesig::Kind;
 
 const PURPOSE: &str = "reads Move source with the proved signature reader";
 
-const USAGE: [&str; 7] = [
+const USAGE: [&str; 9] = [
     "movesig [--json] [--edition N] tokens FILE ...",
     "movesig [--json] [--edition N] comments FILE ...",
     "movesig [--json] [--edition N] [--tokens N] outline FILE ...",
     "movesig [--json] [--edition N] read KIND FILE [PLACE] ...",
     "movesig [--json] [--edition N] line KIND FILE [PLACE] ...",
+    "movesig [--json] [--edition N] read KIND FILE [PLACE] --save TREEFILE",
     "movesig [--json] carry FILE PLACE ...",
+    "movesig [--json] open TREEFILE FILE",
     "movesig help | man | completions",
 ];
 
@@ -33,6 +35,8 @@ const SECTIONS: [(&str, &str); 8] = [
   carry        each note, a PLACE where a token of edition 1 starts: its byte,
                the byte of the token of edition 2 that covers it, and that
                token's spelling, EOF at the text's end
+  open         the tree that was saved in TREEFILE over the text FILE, as read
+               shows it
   help         this text
   man          this text as a manual page, in roff
   completions  completions for bash
@@ -47,6 +51,9 @@ const SECTIONS: [(&str, &str); 8] = [
                  first digit and end in u16, u32 and u256 too
   --tokens N     outline reads the files in portions of N tokens, 1 or more,
                  and shows the same; all at once if left out
+  --save TREEFILE
+                 read saves the bytes of its tree in this file too, where the
+                 item is accepted
   -h, --help     this text
   -V, --version  the version
   --             no word behind it is an option
@@ -64,6 +71,9 @@ with a digit is its PLACE; a file of such a name is written ./1.
 
 For carry a PLACE is where a note is. There is at least one, in any order, and
 at most 256 are carried.
+
+TREEFILE holds the bytes of a tree, narrow or wide. One that read saved opens
+over the FILE that it was read from. A file that was there is overwritten.
 
 The FILE - is standard input. With more than one FILE its name stands before
 each line.
@@ -103,6 +113,14 @@ them, or there are more than 256, the first such note is told, counted from 1,
 with its byte (refusal 20); what is wrong with the file is told before that.
 --edition with carry is bad usage: it names both editions itself.
 
+What is wrong with a saved tree is shown as
+
+  TREEFILE: byte OFFSET: refused NUMBER: why
+
+the OFFSET counting the bytes of the tree, with the bytes of the record's head
+below and what they say. No place of the text is marked: the text was not read.
+--edition with open is bad usage: it reads no tokens.
+
 &mut without a space behind it is read as it stands, and a note on standard
 error says so.
 ",
@@ -140,6 +158,9 @@ bytes that are not UTF-8 become U+FFFD, and the spans tell which they are.
   carry     file, note (its byte), token (the kind of that which covers it),
             number, start, end, line, column, text; of refusal 20 file,
             refused, reason, index (of the note, from 0) and note
+  open      file, saved (the file of the tree), tree; of a damaged one file,
+            saved, refused, reason, byte (of the tree) and head (its bytes in
+            hex)
   tree      record (its kind), number, start, end, text (of a leaf), children
   next      token, number, start, end, text
   notes     a list of at and note
@@ -228,17 +249,20 @@ pub fn completions() -> String {
 _movesig() {{
     local word=${{COMP_WORDS[COMP_CWORD]}} plain=() other last=
     for other in "${{COMP_WORDS[@]:1:COMP_CWORD-1}}"; do
-        [[ $other == --* || $last == --edition || $last == --tokens ]] || plain+=("$other")
+        [[ $other == --* || $last == --edition || $last == --tokens || $last == --save ]] || plain+=("$other")
         last=$other
     done
     if [[ $last == --edition ]]; then
         mapfile -t COMPREPLY < <(compgen -W '1 2' -- "$word")
     elif [[ $last == --tokens ]]; then
         COMPREPLY=()
+    elif [[ $last == --save ]]; then
+        compopt -o filenames 2>/dev/null
+        mapfile -t COMPREPLY < <(compgen -f -- "$word")
     elif [[ $word == --* ]]; then
-        mapfile -t COMPREPLY < <(compgen -W '--json --edition --tokens --help --version --' -- "$word")
+        mapfile -t COMPREPLY < <(compgen -W '--json --edition --tokens --save --help --version --' -- "$word")
     elif ((${{#plain[@]}} == 0)); then
-        mapfile -t COMPREPLY < <(compgen -W 'tokens comments outline read line carry help man completions' -- "$word")
+        mapfile -t COMPREPLY < <(compgen -W 'tokens comments outline read line carry open help man completions' -- "$word")
     elif ((${{#plain[@]}} == 1)) && [[ ${{plain[0]}} == read || ${{plain[0]}} == line ]]; then
         mapfile -t COMPREPLY < <(compgen -W '{kinds}' -- "$word")
     else

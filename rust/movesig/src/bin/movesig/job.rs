@@ -19,7 +19,7 @@ use movesig::{
 use std::{
     cell::OnceCell,
     env,
-    ffi::OsString,
+    ffi::{OsStr, OsString},
     io::{self, IsTerminal},
 };
 
@@ -48,6 +48,8 @@ pub struct Job {
     pub file: OsString,
     /// Where the item begins, for a read and a line.
     pub place: Place,
+    /// The file that a read saves its tree in, if any.
+    pub save: Option<OsString>,
     pub json: bool,
     /// Whether it is one of several files.
     pub several: bool,
@@ -60,9 +62,17 @@ impl Job {
             Err(why) => return self.failed(&why),
         };
         let mut said = Said::default();
-        if let Err(refusal) = self.work(&text, item, &mut said) {
-            said.status = 1;
-            self.refused(&text, item, &refusal, &mut said);
+        match self.work(&text, item, &mut said) {
+            Ok(Some(tree)) => {
+                if let Err(why) = self.saved(&tree) {
+                    return why;
+                }
+            }
+            Ok(None) => {}
+            Err(refusal) => {
+                said.status = 1;
+                self.refused(&text, item, &refusal, &mut said);
+            }
         }
         if self.several && !self.json {
             let lines: Vec<&str> = said.output.lines().collect();
@@ -100,26 +110,32 @@ impl Job {
     }
 
     pub fn failed(&self, why: &str) -> Said {
-        let mut said = Said {
-            status: 2,
-            ..Said::default()
-        };
-        if self.json {
-            said.output = json::failure(self.file_bytes(), why);
-        } else {
-            said.errors = format!("movesig: {}: {why}\n", self.name());
-        }
-        said
+        failed(&self.file, self.json, why)
     }
 
-    fn work(&self, text: &Text, item: Option<Item>, said: &mut Said) -> Result<(), Refusal> {
+    /// Saves a tree, or what is to be said where it cannot be.
+    fn saved(&self, tree: &[u8]) -> Result<(), Said> {
+        let Some(save) = &self.save else {
+            return Ok(());
+        };
+        text::save(save, &self.file, tree).map_err(|why| failed(save, self.json, &why))
+    }
+
+    /// Does it, and gives the tree that is to be saved, if one is.
+    fn work(
+        &self,
+        text: &Text,
+        item: Option<Item>,
+        said: &mut Said,
+    ) -> Result<Option<Vec<u8>>, Refusal> {
         match (self.work, item) {
-            (Work::Read(_), Some(item)) => self.tree(text, item, said),
-            (Work::Line(_), Some(item)) => self.line(text, item, said),
-            (Work::Comments, _) => self.comments(&text.bytes, said),
-            (Work::Outline(limit), _) => self.outline(&text.bytes, limit, said),
-            _ => self.tokens(&text.bytes, said),
+            (Work::Read(_), Some(item)) => return self.tree(text, item, said).map(Some),
+            (Work::Line(_), Some(item)) => self.line(text, item, said)?,
+            (Work::Comments, _) => self.comments(&text.bytes, said)?,
+            (Work::Outline(limit), _) => self.outline(&text.bytes, limit, said)?,
+            _ => self.tokens(&text.bytes, said)?,
         }
+        Ok(None)
     }
 
     fn tokens(&self, text: &[u8], said: &mut Said) -> Result<(), Refusal> {
@@ -175,12 +191,15 @@ impl Job {
         done
     }
 
-    fn tree(&self, text: &Text, item: Item, said: &mut Said) -> Result<(), Refusal> {
+    /// Shows the tree, and gives its bytes.
+    fn tree(&self, text: &Text, item: Item, said: &mut Said) -> Result<Vec<u8>, Refusal> {
         let mut buffer = vec![0; tree_room(text.bytes.len())];
         let found = read(item.kind, item.edition, &text.bytes, item.at, &mut buffer)?;
         let beside = Beside::new(&text.bytes, item, found.next);
         self.item(text, item, &Answer::Tree(found.tree), &beside, said);
-        Ok(())
+        let length = found.tree.as_bytes().len();
+        buffer.truncate(length);
+        Ok(buffer)
     }
 
     fn line(&self, text: &Text, item: Item, said: &mut Said) -> Result<(), Refusal> {
@@ -220,23 +239,12 @@ impl Job {
     }
 
     fn report<'a>(&'a self, text: &'a Text, item: Option<Item>) -> Report<'a> {
-        Report {
-            name: self.name(),
-            text,
-            item,
-            places: OnceCell::new(),
-            screen: screen(),
-            paint: Paint::on(io::stderr().is_terminal()),
-        }
+        report(self.name(), text, item)
     }
 
     /// The file's name, safe to show.
     pub fn name(&self) -> String {
-        if self.file == "-" {
-            "<stdin>".to_string()
-        } else {
-            visible::cut(self.file_bytes(), 4_096)
-        }
+        shown(&self.file)
     }
 
     pub fn file_bytes(&self) -> &[u8] {
@@ -250,6 +258,41 @@ impl Beside {
         let notes = notes::references(item.edition, text, item.at, end);
         Beside { next, notes }
     }
+}
+
+/// A report about a text, the file's name being safe to show.
+pub fn report(name: String, text: &Text, item: Option<Item>) -> Report<'_> {
+    Report {
+        name,
+        text,
+        item,
+        places: OnceCell::new(),
+        screen: screen(),
+        paint: Paint::on(io::stderr().is_terminal()),
+    }
+}
+
+/// A file's name, safe to show.
+pub fn shown(file: &OsStr) -> String {
+    if file == "-" {
+        "<stdin>".to_string()
+    } else {
+        visible::cut(file.as_encoded_bytes(), 4_096)
+    }
+}
+
+/// That something cannot be done with a file.
+pub fn failed(file: &OsStr, json: bool, why: &str) -> Said {
+    let mut said = Said {
+        status: 2,
+        ..Said::default()
+    };
+    if json {
+        said.output = json::failure(file.as_encoded_bytes(), why);
+    } else {
+        said.errors = format!("movesig: {}: {why}\n", shown(file));
+    }
+    said
 }
 
 /// The byte of the place.

@@ -4,13 +4,14 @@ use crate::{
     carry::Carried,
     due::{self, Item},
     notes::{self, Note},
+    open::{Head, Open},
     outline::Declaration,
     places::Places,
     starts,
     text::Text,
 };
 use movesig::{
-    CarryRefusal, Comment, Following, Refusal, Span, Token, Tree, LONGEST, LONGEST_LINE,
+    CarryRefusal, Comment, Damage, Following, Refusal, Span, Token, Tree, LONGEST, LONGEST_LINE,
 };
 use std::fmt::Write;
 
@@ -215,6 +216,26 @@ pub fn not_carried(file: &[u8], refusal: &CarryRefusal, index: usize, note: usiz
         .number("index", index)
         .number("note", note)
         .line()
+}
+
+/// A tree that was saved, opened over its text.
+pub fn opened(of: &Open, tree: Tree) -> String {
+    saved(of).raw("tree", &records(tree)).line()
+}
+
+/// What is wrong with a tree that was saved, at a byte of it.
+pub fn damaged(of: &Open, damage: &Damage, byte: usize, head: &Head) -> String {
+    saved(of)
+        .number("refused", damage.number() as usize)
+        .text("reason", damage.reason().as_bytes())
+        .number("byte", byte)
+        .text("head", head.hex().as_bytes())
+        .line()
+}
+
+/// About a text and the tree that was saved of it.
+fn saved(of: &Open) -> Object {
+    Object::of(of.file.as_encoded_bytes()).text("saved", of.tree.as_encoded_bytes())
 }
 
 /// That a file cannot be read.

@@ -9,6 +9,7 @@ mod job;
 mod json;
 mod listing;
 mod notes;
+mod open;
 mod outline;
 mod paint;
 mod places;
@@ -35,6 +36,7 @@ fn main() -> ExitCode {
         Ok(Asked::Version) => print(version.to_string()),
         Ok(Asked::Jobs(jobs)) => run(&jobs),
         Ok(Asked::Carry(notes)) => notes.done().put().unwrap_or_else(|status| status),
+        Ok(Asked::Open(saved)) => saved.done().put().unwrap_or_else(|status| status),
         Err(message) => {
             let message = format!("movesig: {message} (see movesig --help)\n");
             let _ = io::stderr().write_all(message.as_bytes());

@@ -3,10 +3,14 @@
 use crate::{
     carry::Carry,
     job::{Job, Place, Work},
+    open::Open,
     visible,
 };
 use movesig::{Edition, Kind};
-use std::ffi::{OsStr, OsString};
+use std::{
+    ffi::{OsStr, OsString},
+    mem,
+};
 
 /// What is asked for.
 pub enum Asked {
@@ -16,55 +20,101 @@ pub enum Asked {
     Version,
     Jobs(Vec<Job>),
     Carry(Carry),
+    Open(Open),
+}
+
+/// The words of the command line: what its options say, and the words that are none.
+#[derive(Default)]
+struct Words {
+    /// What an option asks for, whatever stands behind it.
+    told: Option<Asked>,
+    json: bool,
+    edition: Option<Edition>,
+    tokens: Option<usize>,
+    save: Option<OsString>,
+    plain: Vec<OsString>,
 }
 
 /// What the words ask for, or what is wrong with them.
-pub fn asked(mut words: impl Iterator<Item = OsString>) -> Result<Asked, String> {
-    let mut plain = vec![];
-    let (mut options, mut json) = (true, false);
-    let (mut edition, mut tokens) = (None, None);
+pub fn asked(words: impl Iterator<Item = OsString>) -> Result<Asked, String> {
+    let mut words = sorted(words)?;
+    match words.told.take() {
+        Some(told) => Ok(told),
+        None => asked_by_command(words),
+    }
+}
+
+fn sorted(mut words: impl Iterator<Item = OsString>) -> Result<Words, String> {
+    let mut sorted = Words::default();
+    let mut options = true;
     while let Some(word) = words.next() {
-        match word.to_str() {
-            Some("--") if options => options = false,
-            Some("--help" | "-h") if options => return Ok(Asked::Help),
-            Some("--version" | "-V") if options => return Ok(Asked::Version),
-            Some("--json") if options => json = true,
-            Some("--edition") if options => edition = Some(edition_of(words.next())?),
-            Some("--tokens") if options => tokens = Some(tokens_of(words.next())?),
-            Some(name) if options && is_option(name) => {
+        match word.to_str().filter(|_| options) {
+            Some("--") => options = false,
+            Some("--help" | "-h") => return Ok(sorted.telling(Asked::Help)),
+            Some("--version" | "-V") => return Ok(sorted.telling(Asked::Version)),
+            Some("--json") => sorted.json = true,
+            Some("--edition") => sorted.edition = Some(edition_of(words.next())?),
+            Some("--tokens") => sorted.tokens = Some(tokens_of(words.next())?),
+            Some("--save") => sorted.save = Some(tree_file(words.next())?),
+            Some(name) if is_option(name) => {
                 return Err(format!("no such option: {}", shown(&word)));
             }
-            _ => plain.push(word),
+            _ => sorted.plain.push(word),
         }
     }
-    let mut words = plain.into_iter();
+    Ok(sorted)
+}
+
+impl Words {
+    fn telling(self, asked: Asked) -> Words {
+        Words {
+            told: Some(asked),
+            ..self
+        }
+    }
+}
+
+/// What the first word that is no option asks for.
+fn asked_by_command(mut asked: Words) -> Result<Asked, String> {
+    let mut words = mem::take(&mut asked.plain).into_iter();
     let command = words.next().ok_or("no command is given")?;
-    if tokens.is_some() && command != "outline" {
+    if asked.tokens.is_some() && command != "outline" {
         return Err("--tokens goes with outline alone".to_string());
     }
+    if asked.save.is_some() && command != "read" {
+        return Err("--save goes with read alone".to_string());
+    }
+    let (edition, json) = (asked.edition, asked.json);
     let work = match command.to_str() {
         Some("tokens") => Work::Tokens,
         Some("comments") => Work::Comments,
-        Some("outline") => Work::Outline(tokens.unwrap_or(usize::MAX)),
+        Some("outline") => Work::Outline(asked.tokens.unwrap_or(usize::MAX)),
         Some("read") => Work::Read(kind(words.next())?),
         Some("line") => Work::Line(kind(words.next())?),
-        Some("carry") => {
-            return Ok(Asked::Carry(carried(words, edition, json)?));
-        }
+        Some("carry") => return Ok(Asked::Carry(carried(words, edition, json)?)),
+        Some("open") => return Ok(Asked::Open(opened(words, edition, json)?)),
         Some("help") => return Ok(Asked::Help),
         Some("man") => return Ok(Asked::Man),
         Some("completions") => return Ok(Asked::Completions),
         _ => return Err(format!("no such command: {}", shown(&command))),
     };
     let files = files(words, matches!(work, Work::Read(_) | Work::Line(_)))?;
-    let edition = edition.unwrap_or(Edition::One);
+    jobs(work, files, asked)
+}
+
+/// The same work on each file.
+fn jobs(work: Work, files: Vec<(OsString, Place)>, asked: Words) -> Result<Asked, String> {
     let several = files.len() > 1;
+    if several && asked.save.is_some() {
+        return Err("--save goes with one file".to_string());
+    }
     let job = |(file, place)| Job {
         work,
-        edition,
+        edition: asked.edition.unwrap_or(Edition::One),
         file,
         place,
-        json,
+        save: asked.save.clone(),
+        json: asked.json,
         several,
     };
     Ok(Asked::Jobs(files.into_iter().map(job).collect()))
@@ -126,10 +176,40 @@ fn carried(
         edition: Edition::One,
         file,
         place: Place::Byte(0),
+        save: None,
         json,
         several: false,
     };
     Ok(Carry { job, notes })
+}
+
+/// The file that a tree was saved in, and that of its text.
+fn opened(
+    mut words: impl Iterator<Item = OsString>,
+    edition: Option<Edition>,
+    json: bool,
+) -> Result<Open, String> {
+    if edition.is_some() {
+        return Err("open takes no edition: it reads no tokens".to_string());
+    }
+    let tree = words.next().ok_or("no file of a tree is given")?;
+    let file = words.next().ok_or("no file is given")?;
+    if let Some(more) = words.next() {
+        return Err(format!("one word too many: {}", shown(&more)));
+    }
+    if tree == "-" && file == "-" {
+        return Err("standard input is either the tree or the text".to_string());
+    }
+    Ok(Open { tree, file, json })
+}
+
+/// The file that the word behind `--save` names.
+fn tree_file(word: Option<OsString>) -> Result<OsString, String> {
+    let word = word.ok_or("no file is given to save the tree in")?;
+    match word == "-" {
+        true => Err("a tree is saved in a file, not in -".to_string()),
+        false => Ok(word),
+    }
 }
 
 fn is_like_a_place(word: &OsStr) -> bool {

@@ -1,0 +1,4 @@
+pub mod Kids
+pub mod Made
+pub mod Read
+pub mod Theorem

@@ -1,0 +1,12 @@
+pub mod Examples
+pub mod Heads
+pub mod Tests
+pub mod Scan
+pub mod Loops
+pub mod Equals
+pub mod Bound
+pub mod Calls
+pub mod Parts
+pub mod Exact
+pub mod Handing
+pub mod RefusalSets

@@ -1,0 +1,18 @@
+use borrow.Author.Tests.{le-leb, lt-leb}
+use Rattle.classes.specs.Class.{inRange}
+use Rattle.saved.proofs.within.Statement.{statement}
+use Rattle.saved.proofs.within.Tie as tie
+
+returns : tie.Need-returns
+unfolding inRange
+returns c = rw (lt-leb _ _ (c .if1 .taken))
+
+returns-2 : tie.Need-returns-2
+unfolding inRange
+returns-2 c = rw (le-leb _ _ (c .if1 .left))
+
+pub within-spec : {M : Type 1} → statement M
+within-spec =
+    tie.close
+    (tie.spec
+    returns returns-2)

@@ -1,0 +1,10 @@
+pub mod Refusals
+pub mod Children
+pub mod Heads
+pub mod Open
+pub mod Child
+pub mod Legal
+pub mod Answers
+pub mod Theorems
+pub mod Examples
+pub mod code
