@@ -47,7 +47,7 @@ usage: compare [--quick] [--seed N] [--edition N] [--reads-only | --displays-onl
                [--long-only | --types-only | --starts-only] [--help]
        compare --carry-only | --outline-only | --open-only [--quick] [--seed N]
 
-  --quick          fewer texts: some 150 million answers, in a minute or two
+  --quick          fewer texts: some 130 million answers, in a minute or two
   --edition N      one edition alone, 1 or 2 (default both)
   --seed N         another choice of random texts (default 1)
   --reads-only     no tokens, comments and displays
