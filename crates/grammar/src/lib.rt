@@ -1,1 +1,2 @@
 // The grammar: no functions, only the definitions of what is read.
+#![tactic(auto)]

@@ -1,4 +1,5 @@
 // Small functions on lengths and places.
+#![tactic(auto)]
 ghost use Rattle.std.specs.Prelude.{◌≡◌, ◌-◌, min};
 
 // The smaller of two numbers.

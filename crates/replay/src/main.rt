@@ -12,6 +12,7 @@
 //   numbers, the tree and the text (none for `h`).
 // Texts and bytes are in hexadecimal, `-` for none. A line of another call is a branch of `holds` and a
 // function over `field_at`, `expected_at`, `bytes_at` and `numbers_at`.
+#![tactic(auto)]
 ghost use Rattle.std.specs.Prelude.{◌≡◌, ◌≤◌, ◌<◌, length};
 
 use libc::{STDIN_FILENO, STDOUT_FILENO};

@@ -1,1 +1,2 @@
 // The reading back of display lines: no functions, only what is proved of the definitions of reading.
+#![tactic(auto)]

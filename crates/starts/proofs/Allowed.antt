@@ -45,7 +45,7 @@ module _ (text : List ℕ) (offset : ℕ) where
       go true = refl
       go false = e
 
-  token-allowed : {l : Listed} (t : Token) (p : ℕ) → Ordered p l → TokenOf t l → bounds t offset ≡ true → by_tokens text offset p l ≡ Allowed
+  token-allowed : (t : Token) {l : Listed} (p : ℕ) → Ordered p l → TokenOf t l → bounds t offset ≡ true → by_tokens text offset p l ≡ Allowed
   unfolding by_tokens
   token-allowed t p o last b = rw b
   token-allowed t p o first b = rw b

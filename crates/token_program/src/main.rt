@@ -1,4 +1,5 @@
 // The token program: reads standard input and prints kind, start and end of each token.
+#![tactic(auto)]
 ghost use Rattle.std.specs.Prelude.{◌≡◌, ◌+◌, ◌*◌, ◌≤◌, ◌<◌, length, [], ◌∷◌};
 ghost use Rattle.classes.specs.Bytes.{bytes};
 ghost use Rattle.buffer.specs.code.Written.{Written};

@@ -1,0 +1,6 @@
+use Rattle.classes.proofs.Search.{entry_read}
+use borrow.Author.Rules.{rules}
+use Rattle.classes.proofs.class_by.Goals as goal
+
+pub returns : goal.returns
+returns c = entry_read _ _ c.requires c.ranges.b.fits

@@ -1,0 +1,6 @@
+use Rattle.classes.proofs.Search.{class-bit}
+use borrow.Author.Rules.{rules}
+use Rattle.classes.proofs.in_class.Goals as goal
+
+pub returns : goal.returns
+returns c = class-bit _ _ _ _ _ c.property_of.ensures c.class_of.ensures c.has.ensures

@@ -1,0 +1,14 @@
+use mathlib.Core.Path.{◌≡◌, ◌∙◌, ap, sym, refl}
+use Prim.Native.Nat.{◌-◌}
+use native.Mathlib.Omega.{arith}
+use Rattle.classes.specs.Table.{bit}
+use Rattle.classes.specs.code.Search.{told_in}
+use Rattle.classes.proofs.Search.{entry_read, told-hit, told-off, told-end}
+use borrow.Author.Rules.{rules}
+use Rattle.classes.proofs.told_among.Given as goal
+
+abbrev pub invariant-loop-i : goal.invariant-loop-i
+invariant-loop-i l = told_in l.lo l.hi l.k l.b ≡ told_in l.i l.hi l.k l.b
+
+abbrev pub decreases-loop-i : goal.decreases-loop-i
+decreases-loop-i l = l.hi - l.i

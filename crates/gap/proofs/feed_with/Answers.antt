@@ -1,0 +1,5 @@
+use borrow.Author.Rules.{rules}
+use Rattle.gap.proofs.feed_with.Goals as goal
+
+pub returns : goal.returns
+returns c = rw c.if-before.false

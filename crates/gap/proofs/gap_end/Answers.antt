@@ -1,0 +1,5 @@
+use borrow.Author.Rules.{rules}
+use Rattle.gap.proofs.gap_end.Goals as goal
+
+pub returns : goal.returns
+returns c = c.gap_scan-g.ensures.end

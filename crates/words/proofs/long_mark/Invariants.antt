@@ -1,0 +1,17 @@
+use mathlib.Core.Path.{◌≡◌, ◌∙◌, sym, refl}
+use mathlib.Core.Logic.{⊎_elim}
+use Prim.Native.Nat.{◌-◌}
+use lib.ListN.{drop}
+use lib.Seq.{slice}
+use Rattle.words.specs.Tables.{long_marks, marks}
+use Rattle.words.specs.Search.{first_fit}
+use Rattle.words.proofs.Rows.{tables}
+use Rattle.words.proofs.Found.{fit-end, place, long-room, long-other, long-hit, long-miss}
+use borrow.Author.Rules.{rules}
+use Rattle.words.proofs.long_mark.Given as goal
+
+abbrev pub invariant-loop-k : goal.invariant-loop-k
+invariant-loop-k l = first_fit long_marks (drop l.at l.text) ≡ first_fit (slice l.k 3 marks) (drop l.at l.text)
+
+abbrev pub decreases-loop-k : goal.decreases-loop-k
+decreases-loop-k l = 3 - l.k
