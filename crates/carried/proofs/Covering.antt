@@ -64,11 +64,13 @@ module _ {ed : ℕ} {text : List ℕ} where
   -- every token of a list from `at` on starts there or behind, and what is of EOF's kind stands at the text's end
   pub from : {at : ℕ} {l : Listed} → Walked ed text at l → (u : Token) → TokenOf u l → at ≤ u.start
   from (over a b c d) u last = a
+  from (stopped {at = at} {r = r} _ _) u x6 = elim x6 [ ]
   from (going e a b c d w) u first = a
   from (going e a b c d w) u (in_rest m) = omega (arith, from w u m)
 
   pub eof-end : {at : ℕ} {l : Listed} → Walked ed text at l → (u : Token) → TokenOf u l → u.kind ≡ EOF → u.start ≡ length text
   eof-end (over a b c d) u last z = b
+  eof-end (stopped {at = at} {r = r} _ _) u x7 z = elim x7 [ ]
   eof-end (going e a b c d w) u first z = absurd (d z)
   eof-end (going e a b c d w) u (in_rest m) z = eof-end w u m z
 
@@ -80,6 +82,7 @@ module _ {ed : ℕ} {text : List ℕ} where
   -- and it is in the text
   pub within : {at : ℕ} {l : Listed} → Walked ed text at l → (u : Token) → TokenOf u l → u.end ≤ length text
   within (over a b c d) u last = omega arith
+  within (stopped {at = at} {r = r} _ _) u x6 = elim x6 [ ]
   within (going e a b c d w) u first = c
   within (going e a b c d w) u (in_rest m) = within w u m
 

@@ -12,7 +12,7 @@ use Rattle.tokens.proofs.Faults.{no-two, unless_not}
 use Rattle.starts.specs.Allowed.{TokenOf, last, first, in_rest}
 use Rattle.carried.specs.Carry.{refusal_of, is_start, covers, covering_start, bad_note, rejected, moved, carry_fault, carry, notes_after}
 use Rattle.carried.specs.Promised.{ToEOF, OldStartsLieInOneNewToken, MovedAs, StartsAreMoved, RefusedMovesNone, ReadInBoth}
-use Rattle.carried.proofs.Walked.{Walked, over, going, walked}
+use Rattle.carried.proofs.Walked.{Walked, over, stopped, going, walked}
 use Rattle.carried.proofs.Together.{covers-in, read-pair}
 use Rattle.carried.specs.code.Passes.{Movable}
 use Rattle.carried.proofs.Passes.{no-bad-note, get_d_map, settled, back}
@@ -22,6 +22,7 @@ module _ {ed : ℕ} {text : List ℕ} where
   -- two tokens that cover the same byte are one
   only_one : {at : ℕ} {l : Listed} → Walked ed text at l → (x : ℕ) (u v : Token) → TokenOf u l → TokenOf v l → covers u x ≡ true → covers v x ≡ true → v ≡ u
   only_one (over a b c d) x u v last last i j = refl
+  only_one (stopped {at = at} {r = r} _ _) x u v x15 _ i j = elim x15 [ ]
   only_one (going {t = t} e a b c d w) x u v first first i j = refl
   only_one (going {t = t} e a b c d w) x u v first (in_rest q) i j =
       absurd (omega (arith, covers-in u x i, covers-in v x j, from w v q))

@@ -117,6 +117,7 @@ eof-met es u e = go (lex u) (lex-sound u) (eof es u [] (at_once e) refl)
         let x : t.here.at + t.len ≡ u.at = omega (arith, z.0) in
         rw (i.kind, x, y)
         )
+    go (bad _) d h = elim h [ ]
 
 -- lines and how many records there are go by the build
 same-shown : (x y : Tree) → build x ≡ build y → shown x ≡ shown y
@@ -144,6 +145,7 @@ again-from es q x a h s (gives y u e g) = go (lex u) h (subst (λ (n : ℕ). Met
   where
     go : (l : LexResult) → read_item (of_text (shown x) q) ≡ followed y l → Met (λ (t : Lexeme). token_of t ≡ eof_at (length (shown x))) l → Again q x
     go (tok t) h (met i) = record { tree = y; next = t; is_item = h; at_end = i; same_build = e; same_line = same-shown y x e; same_records = same-records y x e }
+    go (bad _) h m = elim m [ ]
 
 -- in the item's own edition
 pub again : (q : Asked) (x : Tree) (n : Lexeme) → read_item q ≡ item x n → length (shown x) ≤ text_limit → Again q x

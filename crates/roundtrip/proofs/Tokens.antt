@@ -82,6 +82,7 @@ past-again n u = let z : u.at + 1 + n ≡ u.at + (1 + n) = omega arith in rw (dr
 
 blank-met : (P : Lexeme → Type 0) (u : Source) (l : Scanned) → Met P (standing (past 1 u) l) → Met P (standing u (raise_scanned 1 l))
 blank-met P u (found k s e w r) h = let z : 1 + e - (1 + s) ≡ e - s = omega arith in rw (z, ← past-again s u) h
+blank-met P u (faulty _) h = elim h [ ]
 
 -- a token of kind k, spelled w, before the bytes z
 pub record Word (es : Editions) (k : ℕ) (w z : List ℕ) (t : Lexeme) : Type 0 where

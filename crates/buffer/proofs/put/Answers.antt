@@ -1,0 +1,7 @@
+use mathlib.Core.Path.{sym}
+use lib.Seq.{set_out}
+use borrow.Author.Rules.{rules}
+use Rattle.buffer.proofs.put.Goals as goal
+
+pub returns-else-pos-out : goal.returns-else-pos-out
+returns-else-pos-out c = sym (set_out _ _ _ c.if-pos-out.false)
