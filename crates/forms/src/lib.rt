@@ -26,7 +26,7 @@ const WIDE: usize = 4294967296;
 
 // A place in the buffer: the position, which stops at the largest number, and the low four bytes of what
 // the position would be without a stop. The sizes in heads are told by the low bytes alone.
-#[derive(Drop)]
+#[derive(Clone, Copy)]
 pub struct Spot {
     pub pos: usize,
     pub low: usize,

@@ -1,0 +1,13 @@
+use Prim.Native.Nat.{◌+◌, ◌-◌}
+use native.Mathlib.Omega.{arith}
+use lib.ListN.{length}
+use Rattle.carried.specs.code.Passes.{Movable}
+use Rattle.carried.proofs.Passes.{Moving, moving-none, moving-length, moving-done, moving-within, moving-step}
+use borrow.Author.Rules.{rules}
+use Rattle.carried.proofs.move_notes.Given as goal
+
+abbrev pub invariant-loop-notes : goal.invariant-loop-notes
+invariant-loop-notes l = (m : Movable l.text l.initial.notes) → Moving l.text l.initial.notes m l.at l.p l.notes
+
+abbrev pub decreases-loop-notes : goal.decreases-loop-notes
+decreases-loop-notes l = length l.text + 1 - l.p

@@ -1,0 +1,7 @@
+use mathlib.Core.Path.{ap, ◌∙◌}
+use Rattle.forms.specs.code.Spots.{moved_by}
+use borrow.Author.Rules.{rules}
+use Rattle.forms.proofs.step_inside.Goals as goal
+
+pub returns : goal.returns
+returns c = c.move_by.ensures ∙ ap (moved_by c.args.s) c.head_size.ensures
