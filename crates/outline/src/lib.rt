@@ -13,7 +13,7 @@ use words::kinds::{CONST, EOF, FUN, IDENTIFIER, L_BRACE, R_BRACE, SEMICOLON, STR
 
 // What is pending between two tokens: the keyword right before, by its token kind, or 0; and the span of the last
 // doc comment, or (0,0).
-#[derive(Drop)]
+#[derive(Clone, Copy)]
 pub struct Pending {
     pub keyword: usize,
     pub comment: Place,
@@ -38,7 +38,7 @@ pub enum Answer {
 
 // Where a portion is: the offset of the next step, how many tokens are read, how many bytes their records have, and
 // what is pending.
-#[derive(Drop)]
+#[derive(Clone, Copy)]
 pub struct State {
     pub at: usize,
     pub count: usize,

@@ -23,14 +23,14 @@ use words::{EDITION_2, Quote};
 pub mod refusals;
 
 // Bytes from start to end - 1.
-#[derive(Drop)]
+#[derive(Clone, Copy)]
 pub struct Place {
     pub start: usize,
     pub end: usize,
 }
 
 // A refusal: its number, its place and its second place.
-#[derive(Drop)]
+#[derive(Clone, Copy)]
 pub struct Refusal {
     pub number: u32,
     pub place: Place,
@@ -40,14 +40,14 @@ pub struct Refusal {
 // A token: the number of its kind, in the order of the Rust's `Tok`, and its span. The end stands before the
 // start: with both in the order of the six numbers of the token call, the compiler loads the two as one, which
 // waits for both stores.
-#[derive(Drop)]
+#[derive(Clone, Copy)]
 pub struct Token {
     pub kind: u8,
     pub end: usize,
     pub start: usize,
 }
 
-#[derive(Drop)]
+#[derive(Clone, Copy)]
 pub enum Lexed {
     Found(Token),
     Refused(Refusal),
@@ -77,7 +77,7 @@ struct Blanks {
 }
 
 // What is wrong with a call, looked for before the text is: nothing, or what it is refused with.
-#[derive(Drop)]
+#[derive(Clone, Copy)]
 pub enum Fault {
     Faultless,
     Faulty(Refusal),

@@ -34,4 +34,4 @@ loop-notes-smaller c =
 
 pub loop-notes-preserved : goal.loop-notes-preserved
 loop-notes-preserved c =
-    λ m. moving-step _ _ m _ _ _ (c.loop-notes.invariant m) _ c.least_from-k.ensures c.if-notes-k.false _ c.step_to-s.ensures _ c.start_of_lem.ensures _ c.replace.ensures
+    λ m. moving-step _ _ m _ _ _ (c.loop-notes.invariant m) _ c.least_from-k.ensures c.if-notes-k.false _ c.step_to-s.ensures _ c.start_of-v.ensures _ c.replace.ensures

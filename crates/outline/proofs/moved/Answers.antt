@@ -1,0 +1,5 @@
+use borrow.Author.Rules.{rules}
+use Rattle.outline.proofs.moved.Goals as goal
+
+pub returns : goal.returns
+returns c = rw (c.pending_after.ensures, c.wide-kind.ensures)

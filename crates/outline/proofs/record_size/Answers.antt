@@ -1,0 +1,8 @@
+
+use Rattle.outline.proofs.record_size.Goals as goal
+
+pub returns-then-wide : goal.returns-then-wide
+returns-then-wide c = rw c.if-wide.true
+
+pub returns : goal.returns
+returns c = rw c.if-wide.false

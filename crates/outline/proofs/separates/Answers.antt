@@ -1,0 +1,16 @@
+use borrow.Author.Tests.{eq-eqb, ne_eqb}
+use borrow.Author.Rules.{rules}
+use Rattle.outline.specs.Outline.{separates}
+use Rattle.outline.proofs.separates.Goals as goal
+
+pub returns-then-kind : goal.returns-then-kind
+unfolding separates
+returns-then-kind c = rw (eq-eqb _ _ c.if-kind.true)
+
+pub returns-then-kind-2 : goal.returns-then-kind-2
+unfolding separates
+returns-then-kind-2 c = rw (ne_eqb _ _ c.if-kind.false, eq-eqb _ _ c.if-kind-2.true)
+
+pub returns : goal.returns
+unfolding separates
+returns c = rw (ne_eqb _ _ c.if-kind.false, ne_eqb _ _ c.if-kind-2.false)
