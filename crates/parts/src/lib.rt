@@ -14,7 +14,7 @@ use tokens::{Lexed, Refusal, Token};
 pub const LEVELS: usize = 64;
 
 // What every function of the walk hands on: the form, the edition, and the levels that are left.
-#[derive(Drop)]
+#[derive(Clone, Copy)]
 pub struct Way {
     pub form: u8,
     pub edition: u64,
@@ -22,14 +22,14 @@ pub struct Way {
 }
 
 // What was read: where its bytes end, where its last token ends, and the token that follows.
-#[derive(Drop)]
+#[derive(Clone, Copy)]
 pub struct Part {
     pub to: Spot,
     pub end: usize,
     pub next: Token,
 }
 
-#[derive(Drop)]
+#[derive(Clone, Copy)]
 pub enum Parsed {
     Read(Part),
     Refused(Refusal),

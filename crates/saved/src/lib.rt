@@ -29,7 +29,7 @@ pub mod refusals;
 const LEVELS: usize = 64;
 
 // The head of a record: the bytes that it has with its children, its kind and its span.
-#[derive(Drop)]
+#[derive(Clone, Copy)]
 pub struct Head {
     pub len: usize,
     pub kind: usize,
@@ -38,7 +38,7 @@ pub struct Head {
 }
 
 // A head, where the record fits the bytes that are left for it.
-#[derive(Drop)]
+#[derive(Clone, Copy)]
 pub enum HeadRead {
     Fits(Head),
     Unfit,
@@ -59,7 +59,7 @@ pub enum Allowed {
 }
 
 // What the children of a record are: the first, the second and all behind them, and how many there are at least.
-#[derive(Drop)]
+#[derive(Clone, Copy)]
 pub struct Row {
     pub first: Allowed,
     pub second: Allowed,
