@@ -45,7 +45,7 @@ pub enum HeadRead {
 }
 
 // Which children may stand at a place among a record's children.
-#[derive(Drop)]
+#[derive(Clone, Copy)]
 pub enum Allowed {
     NoChild,
     FirstPart,

@@ -1,0 +1,12 @@
+use mathlib.Core.Path.{◌≡◌, ◌∙◌, sym, refl}
+use Prim.Native.Nat.{◌≤◌}
+use Rattle.saved.specs.code.Scan.{still_open}
+use Rattle.saved.proofs.Scan.{open-here, open-below, open_none}
+use borrow.Author.Rules.{rules}
+use Rattle.saved.proofs.still_open.Given as goal
+
+abbrev pub invariant-loop-d : goal.invariant-loop-d
+invariant-loop-d l = (still_open l.ends l.depth l.i ≡ still_open l.ends l.d l.i) × (l.d ≤ l.depth)
+
+abbrev pub decreases-loop-d : goal.decreases-loop-d
+decreases-loop-d l = l.d
