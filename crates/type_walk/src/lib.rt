@@ -73,7 +73,7 @@ fn close_angles(form: u8, none: bool, out: &mut [u8], s: Spot, b: Spot) -> Spot
 }
 
 // The type whose first token is a; the levels that are left count its own.
-#[cycle(brackets_at_function_at_marked_at_named_at_parse_type_reference_at_type_item_type_list_type_step)]
+#[cycle(types)]
 pub fn parse_type(w: Way, text: &[u8], a: Token, out: &mut [u8], s: Spot) -> Parsed
     ensures { Reads w text.now (read_type w.left) a s out.old result out.new }
 {
@@ -96,7 +96,7 @@ pub fn parse_type(w: Way, text: &[u8], a: Token, out: &mut [u8], s: Spot) -> Par
 }
 
 // The type that a begins, which begins no name.
-#[cycle(brackets_at_function_at_marked_at_named_at_parse_type_reference_at_type_item_type_list_type_step)]
+#[cycle(types)]
 fn marked_at(w: Way, text: &[u8], a: Token, out: &mut [u8], s: Spot) -> Parsed
     ensures { begins a ≡ false → Reads w text.now (type_over (read_type w.left)) a s out.old result out.new }
 {
@@ -113,7 +113,7 @@ fn marked_at(w: Way, text: &[u8], a: Token, out: &mut [u8], s: Spot) -> Parsed
 }
 
 // The brackets that a opens round none, one or more types.
-#[cycle(brackets_at_function_at_marked_at_named_at_parse_type_reference_at_type_item_type_list_type_step)]
+#[cycle(types)]
 fn brackets_at(w: Way, text: &[u8], a: Token, out: &mut [u8], s: Spot) -> Parsed
     ensures { Reads w text.now (brackets (read_type w.left)) a s out.old result out.new }
 {
@@ -136,7 +136,7 @@ fn brackets_at(w: Way, text: &[u8], a: Token, out: &mut [u8], s: Spot) -> Parsed
 }
 
 // The reference that a begins.
-#[cycle(brackets_at_function_at_marked_at_named_at_parse_type_reference_at_type_item_type_list_type_step)]
+#[cycle(types)]
 fn reference_at(w: Way, mutable: bool, text: &[u8], a: Token, out: &mut [u8], s: Spot) -> Parsed
     ensures { Reads w text.now (reference (read_type w.left) (cond mutable RecRefMut RecRef)) a s out.old result out.new }
 {
@@ -167,7 +167,7 @@ fn reference_at(w: Way, mutable: bool, text: &[u8], a: Token, out: &mut [u8], s:
 }
 
 // The function type that the `|` a begins: its arguments, then its result.
-#[cycle(brackets_at_function_at_marked_at_named_at_parse_type_reference_at_type_item_type_list_type_step)]
+#[cycle(types)]
 fn function_at(w: Way, text: &[u8], a: Token, out: &mut [u8], s: Spot) -> Parsed
     ensures { Reads w text.now (function (read_type w.left)) a s out.old result out.new }
 {
@@ -193,7 +193,7 @@ fn function_at(w: Way, text: &[u8], a: Token, out: &mut [u8], s: Spot) -> Parsed
 }
 
 // The type that the name at a begins, with its arguments; n is the token behind a.
-#[cycle(brackets_at_function_at_marked_at_named_at_parse_type_reference_at_type_item_type_list_type_step)]
+#[cycle(types)]
 fn named_at(w: Way, text: &[u8], a: Token, n: Token, out: &mut [u8], s: Spot) -> Parsed
     ensures { ReadsNamed w text.now (named (read_type w.left)) a n s out.old result out.new }
 {
@@ -227,7 +227,7 @@ fn named_at(w: Way, text: &[u8], a: Token, n: Token, out: &mut [u8], s: Spot) ->
 
 // The list of types that o opens and a token of the kind `close` ends, its items one behind the other
 // (parse_comma_list of the Rust).
-#[cycle(brackets_at_function_at_marked_at_named_at_parse_type_reference_at_type_item_type_list_type_step)]
+#[cycle(types)]
 fn type_list(w: Way, close: u8, text: &[u8], o: Token, out: &mut [u8], s: Spot) -> Listed
     ensures { ReadsList w text.now (read_type w.left) close o s out.old result out.new }
 {
@@ -256,7 +256,7 @@ fn type_list(w: Way, close: u8, text: &[u8], o: Token, out: &mut [u8], s: Spot) 
 }
 
 // The next type of that list, if it does not close.
-#[cycle(brackets_at_function_at_marked_at_named_at_parse_type_reference_at_type_item_type_list_type_step)]
+#[cycle(types)]
 fn type_step(
     w: Way,
     close: u8,
@@ -278,7 +278,7 @@ fn type_step(
 }
 
 // The type of that list whose first token is a, and what stands behind it.
-#[cycle(brackets_at_function_at_marked_at_named_at_parse_type_reference_at_type_item_type_list_type_step)]
+#[cycle(types)]
 fn type_item(
     w: Way,
     close: u8,

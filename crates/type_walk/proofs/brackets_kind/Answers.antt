@@ -1,0 +1,11 @@
+use borrow.Author.Tests.{eq-eqb, ne_eqb}
+use Rattle.type_walk.proofs.brackets_kind.Goals as goal
+
+pub returns-then-count-eq0 : goal.returns-then-count-eq0
+returns-then-count-eq0 c = rw (eq-eqb _ _ c.if-count-eq0.true)
+
+pub returns-then-count-eq1 : goal.returns-then-count-eq1
+returns-then-count-eq1 c = rw (ne_eqb _ _ c.if-count-eq0.false, eq-eqb _ _ c.if-count-eq1.true)
+
+pub returns : goal.returns
+returns c = rw (ne_eqb _ _ c.if-count-eq0.false, ne_eqb _ _ c.if-count-eq1.false)
