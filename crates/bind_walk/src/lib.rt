@@ -147,7 +147,7 @@ fn name_inside(w: Way, text: &[u8], a: Token, n: Token, out: &mut [u8], s: Spot)
 }
 
 // The binding whose first token is a; the levels that are left count its own.
-#[cycle(field_bind_field_list_field_step_fields_at_parse_bind_parse_bind_field_unpack_at)]
+#[cycle(binds)]
 fn parse_bind(w: Way, text: &[u8], a: Token, out: &mut [u8], s: Spot) -> Parsed
     ensures { Reads w text.now (read_bind w.left) a s out.old result out.new }
 {
@@ -181,7 +181,7 @@ fn parse_bind(w: Way, text: &[u8], a: Token, out: &mut [u8], s: Spot) -> Parsed
 
 // The struct that the name at a begins, with its types, if any, and its fields; n is the token behind a. The
 // levels that are left count those of a type and of a field.
-#[cycle(field_bind_field_list_field_step_fields_at_parse_bind_parse_bind_field_unpack_at)]
+#[cycle(binds)]
 fn unpack_at(w: Way, text: &[u8], a: Token, n: Token, out: &mut [u8], s: Spot) -> Parsed
     ensures { ReadsNamed w text.now (unpacked (read_type w.left) (field_at w.left)) a n s out.old result out.new }
 {
@@ -203,7 +203,7 @@ fn unpack_at(w: Way, text: &[u8], a: Token, n: Token, out: &mut [u8], s: Spot) -
 }
 
 // The fields in the braces that b opens.
-#[cycle(field_bind_field_list_field_step_fields_at_parse_bind_parse_bind_field_unpack_at)]
+#[cycle(binds)]
 fn fields_at(w: Way, text: &[u8], b: Token, out: &mut [u8], s: Spot) -> Parsed
     ensures { ReadsBy (braced w.form) w.edition text.now (fields (read_type w.left) (field_at w.left)) b s out.old result out.new }
 {
@@ -216,7 +216,7 @@ fn fields_at(w: Way, text: &[u8], b: Token, out: &mut [u8], s: Spot) -> Parsed
 }
 
 // The list of fields that o opens, its items one behind the other (parse_comma_list of the Rust).
-#[cycle(field_bind_field_list_field_step_fields_at_parse_bind_parse_bind_field_unpack_at)]
+#[cycle(binds)]
 fn field_list(w: Way, text: &[u8], o: Token, out: &mut [u8], s: Spot) -> Listed
     ensures { ReadsList w text.now (field_at w.left) RBrace o s out.old result out.new }
 {
@@ -245,7 +245,7 @@ fn field_list(w: Way, text: &[u8], o: Token, out: &mut [u8], s: Spot) -> Listed
 }
 
 // The next field of that list, if it does not close.
-#[cycle(field_bind_field_list_field_step_fields_at_parse_bind_parse_bind_field_unpack_at)]
+#[cycle(binds)]
 fn field_step(
     w: Way,
     text: &[u8],
@@ -270,7 +270,7 @@ fn field_step(
 }
 
 // The field whose first token is a. Its level is tested before its name is read, and its binding adds none.
-#[cycle(field_bind_field_list_field_step_fields_at_parse_bind_parse_bind_field_unpack_at)]
+#[cycle(binds)]
 fn parse_bind_field(w: Way, text: &[u8], a: Token, out: &mut [u8], s: Spot) -> Parsed
     ensures { Reads w text.now (field_at w.left) a s out.old result out.new }
 {
@@ -293,7 +293,7 @@ fn parse_bind_field(w: Way, text: &[u8], a: Token, out: &mut [u8], s: Spot) -> P
 
 // What the field named a binds, n being the token behind its name: behind `:` a binding, else a variable of
 // the same name.
-#[cycle(field_bind_field_list_field_step_fields_at_parse_bind_parse_bind_field_unpack_at)]
+#[cycle(binds)]
 fn field_bind(w: Way, text: &[u8], a: Token, n: Token, out: &mut [u8], s: Spot) -> Parsed
     ensures { ReadsBound w text.now a n s out.old result out.new }
 {

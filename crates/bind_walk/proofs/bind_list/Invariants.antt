@@ -1,0 +1,15 @@
+use mathlib.Core.Path.{◌∙◌}
+use native.Mathlib.Omega.{arith}
+use Prim.Native.Nat.{◌-◌}
+use lib.ListN.{length}
+use Rattle.grammar.specs.Binds.{read_bind}
+use Rattle.forms.proofs.Placing.{placed-long}
+use Rattle.lists.proofs.Listing.{Going, going-first, step-stopped, step-closes, step-last, step-on, step-goes}
+use borrow.Author.Rules.{rules}
+use Rattle.bind_walk.proofs.bind_list.Given as goal
+
+abbrev pub invariant-loop-r : goal.invariant-loop-r
+invariant-loop-r l = Going l.w.form l.w.edition l.text (read_bind l.w.left) l.close l.o l.initial.to l.initial.out l.i l.to l.count l.out
+
+abbrev pub decreases-loop-r : goal.decreases-loop-r
+decreases-loop-r l = length l.text - l.i

@@ -1,0 +1,6 @@
+use Rattle.bind_walk.proofs.Structs.{name-at}
+use borrow.Author.Rules.{rules}
+use Rattle.bind_walk.proofs.name_inside.Goals as goal
+
+pub returns : goal.returns
+returns c = name-at c.step_inside-i.ensures c.name_behind.ensures
