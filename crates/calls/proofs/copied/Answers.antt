@@ -12,8 +12,7 @@ use Rattle.calls.specs.declared.Made.{Made}
 use Rattle.calls.specs.declared.Made.TheVariants.{Whole, Answered}
 use Rattle.calls.specs.code.Given.{answer_of, buffer_of}
 use borrow.Author.Rules.{rules}
-use Rattle.calls.proofs.copied.Statement.{statement}
-use Rattle.calls.proofs.copied.Tie as tie
+use Rattle.calls.proofs.copied.Goals as goal
 
 take_min : (n : ℕ) (l : List ℕ) → take (min n (length l)) l ≡ take n l
 take_min zero l = rw (zero-min (length l)) refl
@@ -29,18 +28,15 @@ module _ (d : Made) (made l : List ℕ) where
   unfolding answer_of buffer_of
   as-whole n s t m e q h = rw e (refl, h ∙ ap (sets l 0) (ap (λ (k : ℕ). take k made) q ∙ take_min n made))
 
-slice-aggregate-copy : tie.Need-slice-aggregate-copy
-slice-aggregate-copy c = sym (length-take-le _ _ (omega (arith, c.before.smaller.ensures)))
+pub slice_bounds-copy-end : goal.slice_bounds-copy-end
+slice_bounds-copy-end c = sym (length-take-le _ _ (omega (arith, c.smaller.ensures)))
 
-returns : tie.Need-returns
-returns c = as-answered _ _ _ _ c.before.d.given.1
+pub returns-in-Answered : goal.returns-in-Answered
+returns-in-Answered c =
+    let whole = as-answered _ _ _ _ c.in-Answered.is in
+    record { answer = whole.0; buffer = whole.1 }
 
-returns-2 : tie.Need-returns-2
-returns-2 c = as-whole _ _ _ _ _ _ _ c.before.before.before.before.before.before.before.d2.given.1 c.before.before.before.before.smaller.ensures c.before.before.copy.ensures
-
-pub copied-spec : {M : Type 1} → statement M
-copied-spec =
-    tie.close
-    (tie.spec
-    (λ c. search rules) (λ c. search rules) (λ c κs. search rules) slice-aggregate-copy (λ c κs. search rules)
-    returns (λ c. search rules) returns-2)
+pub returns-in-Whole : goal.returns-in-Whole
+returns-in-Whole c =
+    let whole = as-whole _ _ _ _ _ _ _ c.in-Whole.is c.smaller.ensures c.copy.ensures in
+    record { answer = whole.0; buffer = whole.1 }
