@@ -1,6 +1,7 @@
 // Writing into a lent buffer. A write past its end changes nothing, so that a dry run, over no buffer
 // at all, is the same call.
 #![tactic(auto)]
+
 ghost use Rattle.std.specs.Prelude.{◌≡◌, set};
 ghost use Rattle.std.proofs.lemmas.List.Edits.{sets};
 

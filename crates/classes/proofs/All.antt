@@ -1,6 +1,6 @@
 -- Bytes that are all of a class: lists put together and cut, and the run at the front.
 use mathlib.Core.Path.{◌≡◌, refl, sym, ◌∙◌, subst}
-use mathlib.Core.Bool.{Bool, true, false, cond, ◌&&◌, ◌||◌}
+use mathlib.Core.Bool.{Bool, true, false, cond, ◌||◌}
 use mathlib.Core.List.{List, [], ◌∷◌, ◌++◌}
 use Prim.Native.Nat.{ℕ, zero, suc, ◌<◌, ◌≤◌}
 use native.Mathlib.Omega.{arith}
@@ -11,7 +11,7 @@ use lib.ListN.{length, get_or, take, drop}
 use lib.Seq.{take-take}
 use Rattle.classes.specs.Class.{in_range, is_digit, is_hex, is_letter, is_name, is_ascii, shows, is_digit_or_underscore, is_hex_or_underscore}
 use Rattle.classes.specs.Run.{run_len, all_of}
-use Rattle.classes.proofs.Bools.{false-true, and_left, and_right}
+use Rattle.classes.proofs.Bools.{and_left, and_right}
 
 module _ (f : ℕ → Bool) where
   pub all_join : (xs ys : List ℕ) → all_of f xs ≡ true → all_of f ys ≡ true → all_of f (xs ++ ys) ≡ true

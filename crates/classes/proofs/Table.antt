@@ -1,12 +1,12 @@
 -- The rule of the table of classes: what an entry tells of a property is what the definition by ranges says of the byte.
 use mathlib.Core.Path.{◌≡◌, refl, ap, sym, ◌∙◌}
-use mathlib.Core.Bool.{Bool, true, false, ◌&&◌, not, cond}
+use mathlib.Core.Bool.{Bool, true, false, ◌&&◌, not}
 use mathlib.Core.List.{List, [], ◌∷◌}
 use Prim.Native.Nat.{ℕ, zero, suc, ◌+◌, ◌<◌, ◌≤◌}
 use borrow.Author.Tests.{leb-true, leb-false, le-ltb, lt-leb, ne_eqb}
 use native.Mathlib.Omega.{arith}
 use native.Mathlib.Nat.{add-zero, zero-add, add-suc, suc-add, le_of_suc-le-suc, not-suc-le-zero}
-use lib.Dec.{eqb, leb, ltb}
+use lib.Dec.{eqb, leb}
 use lib.ListN.{length, get_or, get_or-eq_default}
 use Rattle.classes.specs.Class.{in_range, is_name, is_digit, is_hex, is_ascii, in_line, shows, is_digit_or_underscore, is_hex_or_underscore, is_letter, is_space, begins_part, mark_or_line_feed, space_or_tab, is_none, in_class}
 use Rattle.classes.specs.Table.{class_table, bit, entry_of, tells, properties, nth}

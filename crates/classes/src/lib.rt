@@ -1,5 +1,6 @@
 // Classes of bytes, and runs of bytes of a class.
 #![tactic(auto)]
+
 ghost use Rattle.std.specs.Prelude.{◌≡◌, cond, ◌≤◌, eqb, length, get_or, take};
 ghost use Rattle.classes.specs.Class.{is_digit, is_letter, is_space, begins_part, mark_or_line_feed, space_or_tab, in_class};
 ghost use Rattle.classes.specs.Run.{run_end};

@@ -1,5 +1,5 @@
 -- Where the closed parts of a gap end: one part after the other, at a place of a text; and what stands there.
-use mathlib.Core.Path.{◌≡◌, refl, ap, sym, ◌∙◌, subst}
+use mathlib.Core.Path.{◌≡◌, refl, ap, sym, ◌∙◌}
 use mathlib.Core.List.{List, [], ◌∷◌}
 use Prim.Native.Nat.{ℕ, zero, suc, ◌+◌, ◌-◌, ◌<◌, ◌≤◌}
 use native.Mathlib.Omega.{arith}
@@ -7,7 +7,7 @@ use native.Mathlib.Nat.{add-zero, not-suc-le-zero, le_of_suc-le-suc}
 use lib.ListN.{length, drop, drop_of_length-le, length-drop}
 use lib.Seq.{drop-cons, drop-drop}
 use Rattle.gap.specs.Comments.{part_at}
-use Rattle.gap.specs.Gap.{End, clear, broken, Gap, gap_from, gap}
+use Rattle.gap.specs.Gap.{clear, broken, Gap, gap_from, gap}
 use Rattle.gap.specs.PartsEnd.{parts_from, parts_end}
 use Rattle.gap.specs.code.Ends.{end_of_part}
 use Rattle.gap.specs.declared.GapPart.{GapPart}

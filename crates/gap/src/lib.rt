@@ -1,6 +1,7 @@
 // The gap before a token: blanks, line comments, nested block comments, doc comments
 // (trim_whitespace_and_comments and trim_start_whitespace of the Rust).
 #![tactic(auto)]
+
 ghost use Rattle.std.specs.Prelude.{◌≡◌, cond, false, ◌&&◌, ◌||◌, List, [], ◌∷◌, ℕ, ◌+◌, ◌-◌, ◌*◌, ◌^◌, ◌<◌, eqb, length, drop};
 ghost use Rattle.gap.specs.Marks.{is_blank, doc_line, doc_block};
 ghost use Rattle.gap.specs.Comments.{inside, line_text, line_comment, part_at};

@@ -1,5 +1,6 @@
 // Small functions on lengths and places.
 #![tactic(auto)]
+
 ghost use Rattle.std.specs.Prelude.{◌≡◌, ◌-◌, min};
 
 // The smaller of two numbers.

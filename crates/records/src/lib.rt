@@ -1,5 +1,6 @@
 // Trees as records in a lent buffer: `Vec` and `Box` of the Rust's syntax tree.
 #![tactic(auto)]
+
 ghost use Rattle.std.specs.Prelude.{◌≡◌, ◌+◌, ◌≤◌, length};
 ghost use Rattle.std.proofs.lemmas.List.Edits.{sets};
 ghost use Rattle.records.specs.Stored.{little_endian, head_of};

@@ -19,7 +19,7 @@ use Rattle.starts.specs.Beginning.{bounds, by_refusal, by_tokens, beginning}
 use Rattle.starts.specs.code.Step.{step, reached, step_to}
 use Rattle.starts.specs.declared.Step.{Step}
 use Rattle.starts.specs.declared.Beginning.{Beginning}
-use Rattle.starts.specs.declared.Beginning.TheVariants.{Allowed, Nowhere, Refused}
+use Rattle.starts.specs.declared.Beginning.TheVariants.{Allowed, Nowhere}
 use Rattle.starts.proofs.Ordered.{Ordered, tokens-ordered}
 
 -- a token has no bound behind its end, none before its start, and one at its end

@@ -2,7 +2,7 @@
 use mathlib.Core.Path.{◌≡◌, refl, subst}
 use mathlib.Core.Bool.{Bool, true, false, cond}
 use mathlib.Core.List.{List}
-use Prim.Native.Nat.{ℕ, zero, suc, ◌-◌, ◌<◌, ◌≤◌}
+use Prim.Native.Nat.{ℕ, zero, suc, ◌<◌, ◌≤◌}
 use native.Mathlib.Omega.{arith}
 use borrow.Author.Tests.{eqb-false}
 use lib.Dec.{eqb}
@@ -11,7 +11,7 @@ use Rattle.words.specs.Kinds.{EOF}
 use Rattle.tokens.specs.Answers.{token}
 use Rattle.tokens.specs.Token.{Scanned, tok, bad, scan}
 use Rattle.tokens.specs.Calls.{place_fault}
-use Rattle.tokens.specs.Walk.{Listed, eof, refused, next, listed, walk, tokens_from, tokens_at}
+use Rattle.tokens.specs.Walk.{Listed, eof, refused, next, listed, walk, tokens_at}
 use Rattle.tokens.proofs.Lexing.{Sound, lex-sound}
 use Rattle.tokens.proofs.Faults.{each-any, unless-sure, in_place_lem}
 use Rattle.tokens.proofs.Walks.{walk_ends}

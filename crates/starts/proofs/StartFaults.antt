@@ -21,7 +21,7 @@ use Rattle.tokens.specs.Token.{Front, sized, fault, find_token, Scanned, tok, ba
 use Rattle.tokens.specs.Calls.{text_limit}
 use Rattle.tokens.specs.Walk.{Listed, eof, refused, next, listed, walk, tokens_at, tokens_from}
 use Rattle.tokens.specs.declared.Refusal.{Refusal}
-use Rattle.tokens.specs.declared.Fault.TheVariants.{Faultless, Faulty}
+use Rattle.tokens.specs.declared.Fault.TheVariants.{Faultless}
 use Rattle.tokens.proofs.Lexing.{Inside, Sound, lex-sound}
 use Rattle.tokens.proofs.Faults.{Each, admits}
 use Rattle.tokens.proofs.RefusalSets.{front_refusals, Met, find-met, LexMet, lex-met}

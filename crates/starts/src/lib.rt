@@ -1,5 +1,6 @@
 // Whether a read or a display may begin at an offset: where tokens start and end in a walk from 0.
 #![tactic(auto)]
+
 ghost use Rattle.std.specs.Prelude.{◌≡◌};
 ghost use Rattle.starts.specs.Beginning.{bounds, by_refusal, beginning, start_fault};
 ghost use Rattle.starts.specs.code.Step.{step_to};

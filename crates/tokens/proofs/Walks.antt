@@ -10,7 +10,7 @@ use lib.Dec.{eqb}
 use lib.ListN.{length, drop, drop_of_length-le, length-drop}
 use Rattle.gap.specs.Gap.{gap}
 use Rattle.words.specs.Kinds.{EOF}
-use Rattle.tokens.specs.Answers.{refusal, token}
+use Rattle.tokens.specs.Answers.{token}
 use Rattle.tokens.specs.Token.{find_token, Scanned, tok, bad, placed, behind_gap, scan}
 use Rattle.tokens.specs.Calls.{text_limit, place_fault, unless, lexed, next_token}
 use Rattle.tokens.specs.Walk.{Listed, eof, refused, next, listed, walk, tokens_from, tokens_at, tokens_of, entries, Ends}

@@ -1,5 +1,6 @@
 // The next token and the next doc comment of a text.
 #![tactic(auto)]
+
 ghost use Rattle.std.specs.Prelude.{◌≡◌, ◌+◌, ◌^◌, ◌<◌, ◌≤◌, eqb, length, get_or, drop, true, false, ◌&&◌};
 ghost use Rattle.classes.specs.Class.{is_letter, is_space, in_class};
 ghost use Rattle.classes.specs.Run.{run_end};

@@ -1,10 +1,7 @@
-use borrow.Author.Rules.{rules}
 use Rattle.buffer.proofs.Sets.{sets-step, sets-done}
-use lib.Seq.{sets}
-use lib.ListN.{length, drop, length-set}
+use lib.ListN.{length-set}
 use native.Mathlib.Omega.{arith}
-use Prim.Native.Nat.{◌-◌}
-use mathlib.Core.Path.{◌≡◌, refl, sym, ◌∙◌}
+use mathlib.Core.Path.{refl, sym, ◌∙◌}
 use Rattle.buffer.proofs.copy.Goals as goal
 
 pub loop-i-init : goal.loop-i-init

@@ -1,6 +1,5 @@
 use mathlib.Core.Path.{sym}
 use lib.Seq.{set_out}
-use borrow.Author.Rules.{rules}
 use Rattle.buffer.proofs.put.Goals as goal
 
 pub returns-else-pos-out : goal.returns-else-pos-out

@@ -1,5 +1,4 @@
 use Rattle.classes.proofs.Search.{entry_read}
-use borrow.Author.Rules.{rules}
 use Rattle.classes.proofs.class_by.Goals as goal
 
 pub returns : goal.returns

@@ -1,7 +1,5 @@
-use mathlib.Core.Path.{◌∙◌, sym}
 use native.Mathlib.Omega.{arith}
 use Rattle.classes.proofs.Search.{entry-low, entry-high}
-use borrow.Author.Rules.{rules}
 use Rattle.classes.proofs.class_of.Goals as goal
 
 pub entry-low-requires : goal.entry-low-requires

@@ -1,7 +1,6 @@
 use mathlib.Core.Path.{◌∙◌, sym}
 use native.Mathlib.Omega.{arith}
 use Rattle.classes.proofs.Search.{entry-front, entry-behind}
-use borrow.Author.Rules.{rules}
 use Rattle.classes.proofs.entry.Goals as goal
 
 pub entry_among-first-requires : goal.entry_among-first-requires

@@ -1,9 +1,6 @@
-use mathlib.Core.Path.{◌≡◌, ◌∙◌, sym, refl}
-use Prim.Native.Nat.{◌-◌}
+use mathlib.Core.Path.{◌∙◌, sym, refl}
 use native.Mathlib.Omega.{arith}
-use Rattle.classes.specs.code.Search.{entry_in}
 use Rattle.classes.proofs.Search.{entry_read, entry-hit, entry-off, entry-end}
-use borrow.Author.Rules.{rules}
 use Rattle.classes.proofs.entry_among.Goals as goal
 
 pub returns-then-x-ne0 : goal.returns-then-x-ne0

@@ -1,9 +1,6 @@
-use mathlib.Core.Path.{◌≡◌, ◌∙◌, sym, refl}
+use mathlib.Core.Path.{◌≡◌}
 use Prim.Native.Nat.{◌-◌}
-use native.Mathlib.Omega.{arith}
 use Rattle.classes.specs.code.Search.{entry_in}
-use Rattle.classes.proofs.Search.{entry_read, entry-hit, entry-off, entry-end}
-use borrow.Author.Rules.{rules}
 use Rattle.classes.proofs.entry_among.Given as goal
 
 abbrev pub invariant-loop-i : goal.invariant-loop-i

@@ -1,5 +1,4 @@
 use Rattle.classes.proofs.Search.{class-bit}
-use borrow.Author.Rules.{rules}
 use Rattle.classes.proofs.in_class.Goals as goal
 
 pub returns : goal.returns

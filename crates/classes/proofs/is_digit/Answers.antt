@@ -2,7 +2,6 @@ use mathlib.Core.Path.{◌∙◌, sym}
 use native.Mathlib.Omega.{arith}
 use Rattle.classes.specs.Table.{properties}
 use Rattle.classes.proofs.Search.{told-low, told-high}
-use borrow.Author.Rules.{rules}
 use Rattle.classes.proofs.is_digit.Goals as goal
 
 pub told-requires : goal.told-requires

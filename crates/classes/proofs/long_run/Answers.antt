@@ -2,14 +2,13 @@ use borrow.Author.Tests.{not-true, not-false}
 use mathlib.Core.Path.{◌≡◌, ◌∙◌, sym, refl, ap}
 use mathlib.Core.Bool.{Bool, true, false}
 use mathlib.Core.List.{List}
-use Prim.Native.Nat.{ℕ, ◌+◌, ◌-◌, ◌<◌, ◌≤◌}
+use Prim.Native.Nat.{ℕ, ◌+◌, ◌<◌, ◌≤◌}
 use native.Mathlib.Omega.{arith}
 use lib.ListN.{length, get_or}
 use Rattle.classes.specs.Class.{in_class}
 use Rattle.classes.specs.Run.{run_end}
 use Rattle.classes.proofs.Runs.{run_past, run_out, run_in}
 use Rattle.classes.proofs.Search.{class-bit}
-use borrow.Author.Rules.{rules}
 use Rattle.classes.proofs.long_run.Goals as goal
 
 -- a byte of the class, and what its neighbour says; the test is v, or w of the neighbour

@@ -1,12 +1,8 @@
-use borrow.Author.Tests.{not-true, not-false}
-use mathlib.Core.Path.{◌≡◌, ◌∙◌, sym, refl}
+use mathlib.Core.Path.{◌≡◌}
 use Prim.Native.Nat.{◌-◌}
-use native.Mathlib.Omega.{arith}
 use lib.ListN.{take}
 use Rattle.classes.specs.Class.{in_class}
 use Rattle.classes.specs.Run.{run_end}
-use Rattle.classes.proofs.Runs.{cut-past, cut_out, cut_in}
-use borrow.Author.Rules.{rules}
 use Rattle.classes.proofs.short_run.Given as goal
 
 abbrev pub invariant-loop-i : goal.invariant-loop-i

@@ -1,7 +1,6 @@
 use mathlib.Core.Path.{◌∙◌, sym}
 use native.Mathlib.Omega.{arith}
 use Rattle.classes.proofs.Search.{told-front, told-behind}
-use borrow.Author.Rules.{rules}
 use Rattle.classes.proofs.told.Goals as goal
 
 pub told_among-requires : goal.told_among-requires

@@ -1,10 +1,7 @@
-use mathlib.Core.Path.{◌≡◌, ◌∙◌, ap, sym, refl}
-use Prim.Native.Nat.{◌-◌}
+use mathlib.Core.Path.{◌∙◌, ap, sym, refl}
 use native.Mathlib.Omega.{arith}
 use Rattle.classes.specs.Table.{bit}
-use Rattle.classes.specs.code.Search.{told_in}
 use Rattle.classes.proofs.Search.{entry_read, told-hit, told-off, told-end}
-use borrow.Author.Rules.{rules}
 use Rattle.classes.proofs.told_among.Goals as goal
 
 pub returns-then-has : goal.returns-then-has

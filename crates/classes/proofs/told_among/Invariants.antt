@@ -1,10 +1,6 @@
-use mathlib.Core.Path.{◌≡◌, ◌∙◌, ap, sym, refl}
+use mathlib.Core.Path.{◌≡◌}
 use Prim.Native.Nat.{◌-◌}
-use native.Mathlib.Omega.{arith}
-use Rattle.classes.specs.Table.{bit}
 use Rattle.classes.specs.code.Search.{told_in}
-use Rattle.classes.proofs.Search.{entry_read, told-hit, told-off, told-end}
-use borrow.Author.Rules.{rules}
 use Rattle.classes.proofs.told_among.Given as goal
 
 abbrev pub invariant-loop-i : goal.invariant-loop-i

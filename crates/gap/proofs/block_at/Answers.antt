@@ -1,7 +1,6 @@
 use mathlib.Core.Path.{◌∙◌, sym, ap}
 use Rattle.gap.specs.declared.Block.TheVariants.{Open}
 use Rattle.gap.proofs.Inside.{block_closed, block-open}
-use borrow.Author.Rules.{rules}
 use Rattle.gap.proofs.block_at.Goals as goal
 
 pub returns-in-At : goal.returns-in-At

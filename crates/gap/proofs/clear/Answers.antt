@@ -3,6 +3,6 @@ use Rattle.gap.proofs.clear.Goals as goal
 
 pub returns : goal.returns
 returns c = record {
-      end = refl;
-      feed = refl;
-    }
+  end = refl;
+  feed = refl;
+}

@@ -1,9 +1,5 @@
-use mathlib.Core.Path.{◌≡◌, ◌∙◌, sym, refl}
-use Prim.Native.Nat.{◌-◌, ◌+◌, ◌≤◌}
-use lib.ListN.{length}
+use mathlib.Core.Path.{◌∙◌, sym, refl}
 use Rattle.gap.specs.Marks.{opens, closes}
-use Rattle.gap.specs.LineFeed.{line_feed}
-use Rattle.gap.specs.code.Blocks.{depth_at}
 use Rattle.gap.proofs.Depth.{depth-end, opened, shut, closed, passed, passed-plain}
 use Rattle.gap.proofs.LineFeeds.{line-feed-none, feed-step, feed-not-here, feed-mark, feed-closed, feed-missing, plain-no-feed}
 use borrow.Author.Rules.{rules}
@@ -19,9 +15,9 @@ loop-i-preserved-then-pair c = (search rules, c.loop-i.invariant.1 ∙ opened _ 
 pub returns-then-n-le1 : goal.returns-then-n-le1
 unfolding opens closes
 returns-then-n-le1 c = record {
-      close = sym (c.loop-i.invariant.1 ∙ shut _ _ _ _ (search rules) c.byte_at-b.ensures (sym c.pair.ensures ∙ c.if-pair.false) (sym c.pair-else-pair.ensures ∙ c.if-pair-2.true) c.if-n-le1.true);
-      feed = feed-closed _ _ _ _ (feed-mark _ _ _ _ c.loop-i.invariant.3 c.loop-i.invariant.2 42 47 _ c.byte_at-b.ensures refl refl (sym c.pair-else-pair.ensures ∙ c.if-pair-2.true));
-    }
+  close = sym (c.loop-i.invariant.1 ∙ shut _ _ _ _ (search rules) c.byte_at-b.ensures (sym c.pair.ensures ∙ c.if-pair.false) (sym c.pair-else-pair.ensures ∙ c.if-pair-2.true) c.if-n-le1.true);
+  feed = feed-closed _ _ _ _ (feed-mark _ _ _ _ c.loop-i.invariant.3 c.loop-i.invariant.2 42 47 _ c.byte_at-b.ensures refl refl (sym c.pair-else-pair.ensures ∙ c.if-pair-2.true));
+}
 
 pub loop-i-preserved-then-pair-2 : goal.loop-i-preserved-then-pair-2
 unfolding opens closes
@@ -36,6 +32,6 @@ loop-i-preserved c = (search rules, c.loop-i.invariant.1 ∙ passed-plain _ _ _ 
 
 pub returns : goal.returns
 returns c = record {
-      close = sym (c.loop-i.invariant.1 ∙ depth-end _ _ _ (search rules));
-      feed = feed-missing _ _ _ _;
-    }
+  close = sym (c.loop-i.invariant.1 ∙ depth-end _ _ _ (search rules));
+  feed = feed-missing _ _ _ _;
+}

@@ -1,12 +1,8 @@
-use mathlib.Core.Path.{◌≡◌, ◌∙◌, sym, refl}
+use mathlib.Core.Path.{◌≡◌}
 use Prim.Native.Nat.{◌-◌, ◌+◌, ◌≤◌}
 use lib.ListN.{length}
-use Rattle.gap.specs.Marks.{opens, closes}
 use Rattle.gap.specs.LineFeed.{line_feed}
 use Rattle.gap.specs.code.Blocks.{depth_at}
-use Rattle.gap.proofs.Depth.{depth-end, opened, shut, closed, passed, passed-plain}
-use Rattle.gap.proofs.LineFeeds.{line-feed-none, feed-step, feed-not-here, feed-mark, feed-closed, feed-missing, plain-no-feed}
-use borrow.Author.Rules.{rules}
 use Rattle.gap.proofs.close_of.Given as goal
 
 abbrev pub invariant-loop-i : goal.invariant-loop-i

@@ -1,8 +1,6 @@
-use mathlib.Core.Path.{◌≡◌, ◌∙◌, sym, ap, refl}
-use Prim.Native.Nat.{◌-◌}
+use mathlib.Core.Path.{◌∙◌, sym, ap, refl}
 use native.Mathlib.Omega.{arith}
-use lib.ListN.{length, drop}
-use Rattle.gap.specs.Gap.{gap, gap_end_of}
+use Rattle.gap.specs.Gap.{gap_end_of}
 use Rattle.gap.specs.code.Ends.{last_doc, doc_scan}
 use Rattle.gap.proofs.Gaps.{gap-over, gap-space, gap-plain}
 use Rattle.gap.proofs.Spans.{behind-plain, behind-doc, behind-open, behind-none}

@@ -1,12 +1,8 @@
-use mathlib.Core.Path.{◌≡◌, ◌∙◌, sym, ap, refl}
+use mathlib.Core.Path.{◌≡◌}
 use Prim.Native.Nat.{◌-◌}
-use native.Mathlib.Omega.{arith}
 use lib.ListN.{length, drop}
-use Rattle.gap.specs.Gap.{gap, gap_end_of}
-use Rattle.gap.specs.code.Ends.{last_doc, doc_scan}
-use Rattle.gap.proofs.Gaps.{gap-over, gap-space, gap-plain}
-use Rattle.gap.proofs.Spans.{behind-plain, behind-doc, behind-open, behind-none}
-use borrow.Author.Rules.{rules}
+use Rattle.gap.specs.Gap.{gap}
+use Rattle.gap.specs.code.Ends.{doc_scan}
 use Rattle.gap.proofs.doc_scan.Given as goal
 
 abbrev pub invariant-loop-i : goal.invariant-loop-i

@@ -1,4 +1,3 @@
-use borrow.Author.Rules.{rules}
 use Rattle.gap.proofs.feed_with.Goals as goal
 
 pub returns : goal.returns

@@ -1,7 +1,5 @@
-use mathlib.Core.Path.{◌≡◌, ◌∙◌, sym, ap, refl}
-use Prim.Native.Nat.{◌-◌}
-use lib.ListN.{length, drop}
-use Rattle.gap.specs.Gap.{gap, doc_of, first_doc}
+use mathlib.Core.Path.{◌∙◌, sym, ap, refl}
+use Rattle.gap.specs.Gap.{doc_of, first_doc}
 use Rattle.gap.proofs.Gaps.{gap-over, gap-pass, gap-doc, gap-broken, gap-clear}
 use native.Mathlib.Omega.{arith}
 use borrow.Author.Rules.{rules}

@@ -1,10 +1,7 @@
-use mathlib.Core.Path.{◌≡◌, ◌∙◌, sym, ap, refl}
+use mathlib.Core.Path.{◌≡◌}
 use Prim.Native.Nat.{◌-◌}
 use lib.ListN.{length, drop}
-use Rattle.gap.specs.Gap.{gap, doc_of, first_doc}
-use Rattle.gap.proofs.Gaps.{gap-over, gap-pass, gap-doc, gap-broken, gap-clear}
-use native.Mathlib.Omega.{arith}
-use borrow.Author.Rules.{rules}
+use Rattle.gap.specs.Gap.{gap, doc_of}
 use Rattle.gap.proofs.first_doc.Given as goal
 
 abbrev pub invariant-loop-i : goal.invariant-loop-i

@@ -1,4 +1,3 @@
-use borrow.Author.Rules.{rules}
 use Rattle.gap.proofs.gap_end.Goals as goal
 
 pub returns : goal.returns

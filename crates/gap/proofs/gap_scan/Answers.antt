@@ -1,10 +1,9 @@
 use mathlib.Core.Path.{◌≡◌, ◌∙◌, sym, ap, refl}
 use mathlib.Core.Bool.{Bool}
 use mathlib.Core.List.{List}
-use Prim.Native.Nat.{ℕ, ◌-◌, ◌≤◌}
+use Prim.Native.Nat.{ℕ}
 use native.Mathlib.Omega.{arith}
-use lib.ListN.{length, drop}
-use Rattle.gap.specs.Gap.{Gap, gap, gap_end_of}
+use Rattle.gap.specs.Gap.{Gap, gap_end_of}
 use Rattle.gap.specs.LineFeed.{line_feed, gap_feed}
 use Rattle.gap.specs.declared.GapEnd.{GapEnd}
 use Rattle.gap.specs.declared.GapEnd.TheVariants.{Clear}

@@ -1,7 +1,6 @@
 use mathlib.Core.Path.{◌∙◌, sym}
 use borrow.Author.Tests.{eq-eqb, ne_eqb}
 use Rattle.gap.specs.Marks.{is_blank}
-use borrow.Author.Rules.{rules}
 use Rattle.gap.proofs.is_blank.Goals as goal
 
 pub returns-then-is_space : goal.returns-then-is_space

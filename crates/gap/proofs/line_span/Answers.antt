@@ -1,7 +1,6 @@
 use Rattle.classes.specs.Class.{in_class}
 use mathlib.Core.Path.{◌∙◌, sym}
 use Rattle.gap.proofs.Spans.{span-doc, span-plain}
-use borrow.Author.Rules.{rules}
 use Rattle.gap.proofs.line_span.Goals as goal
 
 pub returns-then-doc_line : goal.returns-then-doc_line

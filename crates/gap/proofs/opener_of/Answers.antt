@@ -1,8 +1,5 @@
-use mathlib.Core.Path.{◌≡◌, ◌∙◌, sym, refl}
-use Prim.Native.Nat.{◌-◌, ◌+◌, ◌≤◌}
-use lib.ListN.{length}
+use mathlib.Core.Path.{◌∙◌, sym, refl}
 use Rattle.gap.specs.Marks.{opens, closes}
-use Rattle.gap.specs.code.Blocks.{opener_at}
 use Rattle.gap.proofs.Opener.{opener-end, opened, closed, passed}
 use borrow.Author.Rules.{rules}
 use Rattle.gap.proofs.opener_of.Goals as goal

@@ -1,10 +1,7 @@
-use mathlib.Core.Path.{◌≡◌, ◌∙◌, sym, refl}
+use mathlib.Core.Path.{◌≡◌}
 use Prim.Native.Nat.{◌-◌, ◌+◌, ◌≤◌}
 use lib.ListN.{length}
-use Rattle.gap.specs.Marks.{opens, closes}
 use Rattle.gap.specs.code.Blocks.{opener_at}
-use Rattle.gap.proofs.Opener.{opener-end, opened, closed, passed}
-use borrow.Author.Rules.{rules}
 use Rattle.gap.proofs.opener_of.Given as goal
 
 abbrev pub invariant-loop-i : goal.invariant-loop-i

@@ -2,7 +2,6 @@ use mathlib.Core.Path.{◌∙◌, sym, ap}
 use Rattle.gap.specs.Marks.{slashes}
 use Rattle.gap.specs.code.Ends.{textless}
 use Rattle.gap.proofs.Spans.{span-line}
-use borrow.Author.Rules.{rules}
 use Rattle.gap.proofs.part_span.Goals as goal
 
 pub returns-then-pair : goal.returns-then-pair

@@ -1,8 +1,5 @@
-use mathlib.Core.Path.{◌≡◌, ◌∙◌, sym, refl, ap}
-use Prim.Native.Nat.{◌-◌}
+use mathlib.Core.Path.{◌∙◌, sym, refl, ap}
 use native.Mathlib.Omega.{arith}
-use lib.ListN.{length, drop}
-use Rattle.gap.specs.PartsEnd.{parts_end}
 use Rattle.gap.specs.code.Ends.{end_of_part}
 use Rattle.gap.proofs.PartsEnd.{parts-over, parts-past, parts-unended, parts_none}
 use borrow.Author.Rules.{rules}

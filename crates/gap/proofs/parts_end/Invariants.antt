@@ -1,11 +1,7 @@
-use mathlib.Core.Path.{◌≡◌, ◌∙◌, sym, refl, ap}
+use mathlib.Core.Path.{◌≡◌}
 use Prim.Native.Nat.{◌-◌}
-use native.Mathlib.Omega.{arith}
 use lib.ListN.{length, drop}
 use Rattle.gap.specs.PartsEnd.{parts_end}
-use Rattle.gap.specs.code.Ends.{end_of_part}
-use Rattle.gap.proofs.PartsEnd.{parts-over, parts-past, parts-unended, parts_none}
-use borrow.Author.Rules.{rules}
 use Rattle.gap.proofs.parts_end.Given as goal
 
 abbrev pub invariant-loop-i : goal.invariant-loop-i

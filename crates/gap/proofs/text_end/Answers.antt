@@ -1,7 +1,4 @@
-use mathlib.Core.Path.{◌≡◌, ◌∙◌, sym, refl}
-use Prim.Native.Nat.{◌-◌}
-use lib.ListN.{length, drop}
-use Rattle.gap.specs.Comments.{line_text}
+use mathlib.Core.Path.{◌∙◌, sym, refl}
 use Rattle.gap.proofs.Lines.{text-over, text-stops, text-goes-on}
 use borrow.Author.Rules.{rules}
 use Rattle.gap.proofs.text_end.Goals as goal

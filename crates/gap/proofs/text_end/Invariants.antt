@@ -1,9 +1,7 @@
-use mathlib.Core.Path.{◌≡◌, ◌∙◌, sym, refl}
+use mathlib.Core.Path.{◌≡◌}
 use Prim.Native.Nat.{◌-◌}
 use lib.ListN.{length, drop}
 use Rattle.gap.specs.Comments.{line_text}
-use Rattle.gap.proofs.Lines.{text-over, text-stops, text-goes-on}
-use borrow.Author.Rules.{rules}
 use Rattle.gap.proofs.text_end.Given as goal
 
 abbrev pub invariant-loop-i : goal.invariant-loop-i

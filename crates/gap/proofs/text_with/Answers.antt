@@ -1,5 +1,4 @@
 use borrow.Author.Tests.{eq-eqb, ne_eqb}
-use borrow.Author.Rules.{rules}
 use Rattle.gap.proofs.text_with.Goals as goal
 
 pub returns-then-a-eq13 : goal.returns-then-a-eq13

@@ -2,7 +2,6 @@ use mathlib.Core.Path.{sym}
 use Rattle.buffer.proofs.Sets.{sets-out}
 use Rattle.records.specs.code.Narrow.{header}
 use Rattle.records.proofs.Pieces.{header-pieces}
-use borrow.Author.Rules.{rules}
 use Rattle.records.proofs.put_header.Goals as goal
 
 pub returns-then-out-pos-ge8 : goal.returns-then-out-pos-ge8

@@ -2,7 +2,6 @@ use mathlib.Core.Path.{sym}
 use Rattle.buffer.proofs.Sets.{sets-out}
 use Rattle.records.specs.code.Narrow.{two}
 use Rattle.records.proofs.Pieces.{two-pieces}
-use borrow.Author.Rules.{rules}
 use Rattle.records.proofs.put_two.Goals as goal
 
 pub returns-then-pos-out : goal.returns-then-pos-out

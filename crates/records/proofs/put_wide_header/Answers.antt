@@ -2,7 +2,6 @@ use mathlib.Core.Path.{sym}
 use Rattle.buffer.proofs.Sets.{sets-out}
 use Rattle.records.specs.Stored.{head_of}
 use Rattle.records.proofs.Pieces.{wide-pieces}
-use borrow.Author.Rules.{rules}
 use Rattle.records.proofs.put_wide_header.Goals as goal
 
 pub returns-then-out-pos-ge14 : goal.returns-then-out-pos-ge14

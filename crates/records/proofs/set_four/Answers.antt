@@ -1,5 +1,4 @@
 use Rattle.records.proofs.Pieces.{four-pieces}
-use borrow.Author.Rules.{rules}
 use Rattle.records.proofs.set_four.Goals as goal
 
 pub returns : goal.returns

@@ -3,7 +3,6 @@ use Prim.Native.Nat.{◌%◌}
 use native.Mathlib.Omega.{arith}
 use lib.ListN.{length-set}
 use Rattle.records.proofs.Pieces.{two-pieces}
-use borrow.Author.Rules.{rules}
 use Rattle.records.proofs.set_two.Goals as goal
 
 pub bounds-out-pos-2 : goal.bounds-out-pos-2

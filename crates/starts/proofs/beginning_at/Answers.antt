@@ -1,6 +1,5 @@
 use mathlib.Core.Path.{◌∙◌, sym}
 use Rattle.starts.proofs.Beginnings.{begins-zero, begins-refused, begins-bound, begins-nowhere}
-use borrow.Author.Rules.{rules}
 use Rattle.starts.proofs.beginning_at.Goals as goal
 
 pub returns-then-offset-eq0 : goal.returns-then-offset-eq0

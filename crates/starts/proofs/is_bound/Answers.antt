@@ -1,4 +1,3 @@
-use borrow.Author.Rules.{rules}
 use Rattle.starts.proofs.Bounds.{bound-start, bound-end, bound-middle, bound-none}
 use Rattle.starts.proofs.is_bound.Goals as goal
 

@@ -1,7 +1,6 @@
 use mathlib.Core.Path.{◌∙◌, sym, ap}
 use Rattle.starts.specs.Beginning.{beginning_fault, start_fault}
 use Rattle.tokens.specs.declared.Fault.TheVariants.{Faulty}
-use borrow.Author.Rules.{rules}
 use Rattle.starts.proofs.start_fault.Goals as goal
 
 pub returns-in-Allowed : goal.returns-in-Allowed

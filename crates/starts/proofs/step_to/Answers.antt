@@ -1,8 +1,5 @@
-use mathlib.Core.Path.{◌≡◌, ◌∙◌, sym, refl}
-use Prim.Native.Nat.{◌-◌}
+use mathlib.Core.Path.{◌∙◌, sym, refl}
 use native.Mathlib.Omega.{arith}
-use lib.ListN.{length}
-use Rattle.starts.specs.code.Step.{step_to}
 use Rattle.starts.proofs.Steps.{step-refused, step-eof, step-behind, step-on}
 use borrow.Author.Rules.{rules}
 use Rattle.starts.proofs.step_to.Goals as goal

@@ -1,10 +1,7 @@
-use mathlib.Core.Path.{◌≡◌, ◌∙◌, sym, refl}
+use mathlib.Core.Path.{◌≡◌}
 use Prim.Native.Nat.{◌-◌}
-use native.Mathlib.Omega.{arith}
 use lib.ListN.{length}
 use Rattle.starts.specs.code.Step.{step_to}
-use Rattle.starts.proofs.Steps.{step-refused, step-eof, step-behind, step-on}
-use borrow.Author.Rules.{rules}
 use Rattle.starts.proofs.step_to.Given as goal
 
 abbrev pub invariant-loop-r : goal.invariant-loop-r

@@ -2,7 +2,6 @@ use mathlib.Core.Path.{◌∙◌, sym}
 use Rattle.tokens.proofs.Flags.{advanced-refused, advanced-found, flag-before}
 use Rattle.tokens.proofs.Faults.{too_long, past_end, placed}
 use Rattle.tokens.proofs.Steps.{next-faulty, blanks-end, next-clear, next-broken}
-use borrow.Author.Rules.{rules}
 use Rattle.tokens.proofs.advance.Goals as goal
 
 pub returns-then-text-gt-TEXT_LIMIT : goal.returns-then-text-gt-TEXT_LIMIT

@@ -1,10 +1,6 @@
-use mathlib.Core.Path.{◌≡◌, ◌∙◌, sym, refl}
-use Prim.Native.Nat.{◌-◌, ◌≤◌}
-use lib.ListN.{length}
+use mathlib.Core.Path.{◌∙◌, sym, refl}
 use Rattle.classes.specs.Class.{is_space}
-use Rattle.classes.specs.Run.{run_end}
 use Rattle.classes.proofs.Runs.{run_past, run_out, run_in}
-use Rattle.gap.specs.LineFeed.{line_feed}
 use Rattle.gap.proofs.LineFeeds.{line-feed-none, feed-here, feed-not-here, space-no-feed, feed-space, no-space}
 use borrow.Author.Rules.{rules}
 use Rattle.tokens.proofs.blanks_from.Goals as goal
@@ -20,12 +16,12 @@ loop-i-preserved c = (c.loop-i.invariant.0 ∙ run_in is_space _ _ (search rules
 
 pub returns-else-a-eq10 : goal.returns-else-a-eq10
 returns-else-a-eq10 c = record {
-      end = sym (c.loop-i.invariant.0 ∙ run_out is_space _ _ (search rules) (no-space _ (sym c.space_or_tab.ensures ∙ c.if-space_or_tab.false) c.if-a-eq10.false));
-      feed = c.loop-i.invariant.2;
-    }
+  end = sym (c.loop-i.invariant.0 ∙ run_out is_space _ _ (search rules) (no-space _ (sym c.space_or_tab.ensures ∙ c.if-space_or_tab.false) c.if-a-eq10.false));
+  feed = c.loop-i.invariant.2;
+}
 
 pub returns : goal.returns
 returns c = record {
-      end = sym (c.loop-i.invariant.0 ∙ run_past is_space _ _ (search rules));
-      feed = c.loop-i.invariant.2;
-    }
+  end = sym (c.loop-i.invariant.0 ∙ run_past is_space _ _ (search rules));
+  feed = c.loop-i.invariant.2;
+}

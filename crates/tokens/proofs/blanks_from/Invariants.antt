@@ -1,12 +1,9 @@
-use mathlib.Core.Path.{◌≡◌, ◌∙◌, sym, refl}
+use mathlib.Core.Path.{◌≡◌}
 use Prim.Native.Nat.{◌-◌, ◌≤◌}
 use lib.ListN.{length}
 use Rattle.classes.specs.Class.{is_space}
 use Rattle.classes.specs.Run.{run_end}
-use Rattle.classes.proofs.Runs.{run_past, run_out, run_in}
 use Rattle.gap.specs.LineFeed.{line_feed}
-use Rattle.gap.proofs.LineFeeds.{line-feed-none, feed-here, feed-not-here, space-no-feed, feed-space, no-space}
-use borrow.Author.Rules.{rules}
 use Rattle.tokens.proofs.blanks_from.Given as goal
 
 abbrev pub invariant-loop-i : goal.invariant-loop-i

@@ -1,7 +1,6 @@
 use mathlib.Core.Path.{◌∙◌, sym}
 use Rattle.tokens.proofs.Faults.{first-faulty, first-faultless}
 use Rattle.tokens.specs.Calls.{call_fault}
-use borrow.Author.Rules.{rules}
 use Rattle.tokens.proofs.call_fault.Goals as goal
 
 pub returns-in-Faulty : goal.returns-in-Faulty

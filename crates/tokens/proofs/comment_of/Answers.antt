@@ -1,7 +1,6 @@
 use mathlib.Core.Path.{◌∙◌, sym, ap}
 use Rattle.tokens.specs.Calls.{comment_of}
 use Rattle.tokens.specs.declared.DocComment.TheVariants.{Broken}
-use borrow.Author.Rules.{rules}
 use Rattle.tokens.proofs.comment_of.Goals as goal
 
 pub returns-in-Found : goal.returns-in-Found

@@ -1,6 +1,5 @@
 use mathlib.Core.Path.{◌∙◌}
 use Rattle.tokens.proofs.Digits.{begun-low, begun-run}
-use borrow.Author.Rules.{rules}
 use Rattle.tokens.proofs.digits_end.Goals as goal
 
 pub returns-then-byte_at-eq95 : goal.returns-then-byte_at-eq95

@@ -3,7 +3,6 @@ use mathlib.Core.Bool.{Bool}
 use Rattle.tokens.specs.Refusals.{NoSuchEdition}
 use Rattle.tokens.specs.Calls.{fault_if}
 use Rattle.tokens.specs.declared.Fault.TheVariants.{Faulty}
-use borrow.Author.Rules.{rules}
 use Rattle.tokens.proofs.edition_fault.Goals as goal
 
 pub returns-then-no_edition : goal.returns-then-no_edition

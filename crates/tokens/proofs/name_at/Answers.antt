@@ -4,7 +4,6 @@ use native.Mathlib.Omega.{arith}
 use Rattle.classes.specs.Class.{in_class}
 use Rattle.classes.proofs.Runs.{run-from}
 use Rattle.tokens.proofs.Steps.{name-run, name-at}
-use borrow.Author.Rules.{rules}
 use Rattle.tokens.proofs.name_at.Goals as goal
 
 pub overflow_sub-e : goal.overflow_sub-e

@@ -1,7 +1,6 @@
 use mathlib.Core.Path.{◌∙◌, sym, ap}
 use Rattle.tokens.specs.Calls.{comment_of}
 use Rattle.tokens.proofs.Steps.{comment-faulty, comment-faultless}
-use borrow.Author.Rules.{rules}
 use Rattle.tokens.proofs.next_comment.Goals as goal
 
 pub returns-in-Faulty : goal.returns-in-Faulty

@@ -1,4 +1,3 @@
-use borrow.Author.Rules.{rules}
 use Rattle.tokens.proofs.Documents.{clear-way, broken-way}
 use Rattle.tokens.proofs.next_documented.Goals as goal
 

@@ -1,7 +1,6 @@
 use mathlib.Core.Path.{ap}
 use Rattle.tokens.specs.Calls.{advanced}
 use Rattle.tokens.specs.declared.Advanced.{Advanced}
-use borrow.Author.Rules.{rules}
 use Rattle.tokens.proofs.next_token.Goals as goal
 
 pub returns : goal.returns

@@ -1,6 +1,5 @@
 use mathlib.Core.Path.{◌∙◌}
 use Rattle.tokens.proofs.Steps.{number-hex, number-decimal, hex-room}
-use borrow.Author.Rules.{rules}
 use Rattle.tokens.proofs.number_at.Goals as goal
 
 pub hex_number_at-requires : goal.hex_number_at-requires

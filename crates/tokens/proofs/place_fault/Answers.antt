@@ -1,7 +1,6 @@
 use mathlib.Core.Path.{◌∙◌, sym, ap}
 use Rattle.tokens.specs.declared.Fault.TheVariants.{Faulty}
 use Rattle.tokens.proofs.Faults.{too_long, past_end, placed}
-use borrow.Author.Rules.{rules}
 use Rattle.tokens.proofs.place_fault.Goals as goal
 
 pub returns-then-text-gt-TEXT_LIMIT : goal.returns-then-text-gt-TEXT_LIMIT

@@ -1,6 +1,5 @@
 use mathlib.Core.Path.{ap}
 use Rattle.tokens.specs.Calls.{refused_call}
-use borrow.Author.Rules.{rules}
 use Rattle.tokens.proofs.refused_answer.Goals as goal
 
 pub returns : goal.returns

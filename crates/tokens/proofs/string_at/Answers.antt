@@ -3,7 +3,6 @@ use native.Mathlib.Omega.{arith}
 use lib.Seq.{length-take-le}
 use Rattle.tokens.specs.declared.Lexed.TheVariants.{Refused}
 use Rattle.tokens.proofs.Steps.{string-missing, string-high, string-closed, quote-room}
-use borrow.Author.Rules.{rules}
 use Rattle.tokens.proofs.string_at.Goals as goal
 
 pub slice_bounds-run_end-end : goal.slice_bounds-run_end-end

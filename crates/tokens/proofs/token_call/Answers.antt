@@ -1,6 +1,5 @@
 use mathlib.Core.Path.{◌∙◌, sym}
 use Rattle.tokens.proofs.Steps.{call-refused, call_known}
-use borrow.Author.Rules.{rules}
 use Rattle.tokens.proofs.token_call.Goals as goal
 
 pub returns-then-no_edition : goal.returns-then-no_edition

@@ -1,5 +1,4 @@
 use Rattle.tokens.proofs.Steps.{untyped, with-type}
-use borrow.Author.Rules.{rules}
 use Rattle.tokens.proofs.typed_at.Goals as goal
 
 pub returns-then-n-eq0 : goal.returns-then-n-eq0

@@ -1,7 +1,6 @@
 use mathlib.Core.Path.{sym, ap}
 use Rattle.tokens.specs.code.Found.{flagged}
 use Rattle.tokens.specs.declared.Lexed.{Lexed}
-use borrow.Author.Rules.{rules}
 use Rattle.tokens.proofs.with_flag.Goals as goal
 
 pub returns-in-Found : goal.returns-in-Found

@@ -1,6 +1,5 @@
 use mathlib.Core.Path.{◌∙◌, sym}
 use Rattle.tokens.proofs.Steps.{word-string, word-name}
-use borrow.Author.Rules.{rules}
 use Rattle.tokens.proofs.word_at.Goals as goal
 
 pub returns-then-opens_string : goal.returns-then-opens_string

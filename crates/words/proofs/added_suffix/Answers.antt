@@ -1,6 +1,5 @@
 use mathlib.Core.Path.{◌∙◌}
 use Rattle.words.proofs.Suffix.{added-1, added-3, added_none, added-2, added-25}
-use borrow.Author.Rules.{rules}
 use Rattle.words.proofs.added_suffix.Goals as goal
 
 pub returns-then-b-eq49 : goal.returns-then-b-eq49

@@ -1,5 +1,4 @@
 use Rattle.words.proofs.Numbers.{byte-in, byte_past}
-use borrow.Author.Rules.{rules}
 use Rattle.words.proofs.byte_of.Goals as goal
 
 -- `words::byte_of` meets its contract.

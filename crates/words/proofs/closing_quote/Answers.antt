@@ -1,8 +1,4 @@
-use mathlib.Core.Path.{◌≡◌, ◌∙◌, sym, refl}
-use mathlib.Core.Bool.{false}
-use Prim.Native.Nat.{◌-◌}
-use lib.ListN.{length, drop}
-use Rattle.words.specs.Quote.{quote_from}
+use mathlib.Core.Path.{◌∙◌, sym, refl}
 use Rattle.words.proofs.Quotes.{quote-end, line-over, behind-backslash, backslash, quote, other}
 use borrow.Author.Rules.{rules}
 use Rattle.words.proofs.closing_quote.Goals as goal

@@ -1,10 +1,5 @@
-use mathlib.Core.Path.{◌≡◌, ◌∙◌, sym, refl}
+use mathlib.Core.Path.{◌∙◌, sym, refl}
 use Rattle.words.proofs.double_mark.Goals.{then-rows-k+else-kind-ne0, else-rows-k}
-use mathlib.Core.List.{[], ◌∷◌}
-use Prim.Native.Nat.{◌-◌, ◌≤◌}
-use lib.Seq.{slice}
-use Rattle.words.specs.Tables.{double_marks, marks}
-use Rattle.words.specs.Search.{first_fit}
 use Rattle.words.proofs.Rows.{tables}
 use Rattle.words.proofs.Found.{fit-end, double-other, double-hit, double-miss}
 use borrow.Author.Rules.{rules}
@@ -26,8 +21,8 @@ unfolding tables
 loop-k-preserved c = (
   c.loop-k.invariant.0
       ∙ elim c.if-rows-k.branch [
-        then-rows-k+else-kind-ne0 w ↦ double-miss _ _ c.loop-k.k c.loop-k.invariant.1 c.loop-k-test.true w.if-rows-k.true _ w.value_if-kind.ensures w.if-kind-ne0.false
-      | else-rows-k w ↦ double-other _ _ c.loop-k.k c.loop-k.invariant.1 c.loop-k-test.true w.if-rows-k.false
+        | then-rows-k+else-kind-ne0 w ↦ double-miss _ _ c.loop-k.k c.loop-k.invariant.1 c.loop-k-test.true w.if-rows-k.true _ w.value_if-kind.ensures w.if-kind-ne0.false
+        | else-rows-k w ↦ double-other _ _ c.loop-k.k c.loop-k.invariant.1 c.loop-k-test.true w.if-rows-k.false
       ],
   search rules,
 )

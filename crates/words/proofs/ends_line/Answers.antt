@@ -1,6 +1,5 @@
 use borrow.Author.Tests.{eq-eqb, ne_eqb}
 use Rattle.words.specs.Quote.{ends_line}
-use borrow.Author.Rules.{rules}
 use Rattle.words.proofs.ends_line.Goals as goal
 
 -- `words::ends_line` meets its contract.

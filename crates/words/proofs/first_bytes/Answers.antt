@@ -1,5 +1,4 @@
 use Rattle.words.proofs.Numbers.{shifted-out}
-use borrow.Author.Rules.{rules}
 use Rattle.words.proofs.first_bytes.Goals as goal
 
 -- `words::first_bytes` meets its contract.

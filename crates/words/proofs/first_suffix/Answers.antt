@@ -1,6 +1,5 @@
 use mathlib.Core.Path.{◌∙◌}
 use Rattle.words.proofs.Suffix.{first-8, first-6, first-none, first-1, first-12}
-use borrow.Author.Rules.{rules}
 use Rattle.words.proofs.first_suffix.Goals as goal
 
 pub returns-then-b-eq56 : goal.returns-then-b-eq56

@@ -1,11 +1,6 @@
-use mathlib.Core.Path.{◌≡◌, ◌∙◌, sym, refl}
+use mathlib.Core.Path.{◌∙◌, sym, refl}
 use Rattle.words.proofs.keyword_among.Goals.{then-rows-k+then-packed_row-v+else-row_len-n, then-rows-k+else-packed_row-v, else-rows-k}
-use Prim.Native.Nat.{◌-◌}
-use lib.Seq.{slice}
-use Rattle.words.specs.Tables.{keywords}
-use Rattle.words.specs.code.Rows.{packed_kind}
 use Rattle.words.proofs.Rows.{packed-end, packed-hit, packed-off}
-use borrow.Author.Rules.{rules}
 use Rattle.words.proofs.keyword_among.Goals as goal
 
 -- `words::keyword_among` meets its contract.
@@ -25,11 +20,11 @@ loop-k-preserved c =
     c.loop-k.invariant
     ∙ packed-off _ c.loop-k.k _ _ _ _ _ c.requires.0 c.requires.1 c.requires.2 c.loop-k-test.true
     (λ p q l.
-      elim c.if-rows-k.branch [
-        then-rows-k+then-packed_row-v+else-row_len-n w ↦ w.if-row_len-n.false (w.row_len.ensures ∙ l)
+    elim c.if-rows-k.branch [
+      | then-rows-k+then-packed_row-v+else-row_len-n w ↦ w.if-row_len-n.false (w.row_len.ensures ∙ l)
       | then-rows-k+else-packed_row-v w ↦ w.if-packed_row-v.false (w.packed_row.ensures ∙ q)
       | else-rows-k w ↦ w.if-rows-k.false p
-      ])
+    ])
 
 pub returns : goal.returns
 returns c = sym (c.loop-k.invariant ∙ packed-end _ c.loop-k.k _ _ _ c.loop-k-test.false)

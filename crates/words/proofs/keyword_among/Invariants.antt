@@ -1,11 +1,8 @@
-use mathlib.Core.Path.{◌≡◌, ◌∙◌, sym, refl}
-use mathlib.Core.Logic.{⊎_elim}
+use mathlib.Core.Path.{◌≡◌}
 use Prim.Native.Nat.{◌-◌}
 use lib.Seq.{slice}
 use Rattle.words.specs.Tables.{keywords}
 use Rattle.words.specs.code.Rows.{packed_kind}
-use Rattle.words.proofs.Rows.{packed-end, packed-hit, packed-off}
-use borrow.Author.Rules.{rules}
 use Rattle.words.proofs.keyword_among.Given as goal
 
 abbrev pub invariant-loop-k : goal.invariant-loop-k

@@ -1,13 +1,7 @@
-use mathlib.Core.Path.{◌≡◌, ◌∙◌, sym, refl}
+use mathlib.Core.Path.{◌∙◌, sym, refl}
 use Rattle.words.proofs.long_mark.Goals.{then-rows-k+else-fit-ne0, else-rows-k}
-use Prim.Native.Nat.{◌-◌}
-use lib.ListN.{drop}
-use lib.Seq.{slice}
-use Rattle.words.specs.Tables.{long_marks, marks}
-use Rattle.words.specs.Search.{first_fit}
 use Rattle.words.proofs.Rows.{tables}
 use Rattle.words.proofs.Found.{fit-end, place, long-room, long-other, long-hit, long-miss}
-use borrow.Author.Rules.{rules}
 use Rattle.words.proofs.long_mark.Goals as goal
 
 pub loop-k-init : goal.loop-k-init
@@ -27,8 +21,8 @@ unfolding tables
 loop-k-preserved c =
     c.loop-k.invariant
     ∙ elim c.if-rows-k.branch [
-      then-rows-k+else-fit-ne0 w ↦ long-miss c.loop-k.k c.loop-k-test.true _ _ w.row_fit-fit.ensures w.if-fit-ne0.false
-    | else-rows-k w ↦ long-other c.loop-k.k c.loop-k-test.true _ (λ p. w.if-rows-k.false (p ∙ sym (place c.args.text.now c.args.at) ∙ sym c.requires))
+      | then-rows-k+else-fit-ne0 w ↦ long-miss c.loop-k.k c.loop-k-test.true _ _ w.row_fit-fit.ensures w.if-fit-ne0.false
+      | else-rows-k w ↦ long-other c.loop-k.k c.loop-k-test.true _ (λ p. w.if-rows-k.false (p ∙ sym (place c.args.text.now c.args.at) ∙ sym c.requires))
     ]
 
 pub returns : goal.returns

@@ -1,13 +1,9 @@
-use mathlib.Core.Path.{◌≡◌, ◌∙◌, sym, refl}
-use mathlib.Core.Logic.{⊎_elim}
+use mathlib.Core.Path.{◌≡◌}
 use Prim.Native.Nat.{◌-◌}
 use lib.ListN.{drop}
 use lib.Seq.{slice}
 use Rattle.words.specs.Tables.{long_marks, marks}
 use Rattle.words.specs.Search.{first_fit}
-use Rattle.words.proofs.Rows.{tables}
-use Rattle.words.proofs.Found.{fit-end, place, long-room, long-other, long-hit, long-miss}
-use borrow.Author.Rules.{rules}
 use Rattle.words.proofs.long_mark.Given as goal
 
 abbrev pub invariant-loop-k : goal.invariant-loop-k

@@ -1,6 +1,5 @@
 use mathlib.Core.Path.{◌∙◌}
 use Rattle.words.proofs.Found.{past_end, is-long, is-double, is-single}
-use borrow.Author.Rules.{rules}
 use Rattle.words.proofs.mark_at.Goals as goal
 
 -- `words::mark_at` meets its contract.

@@ -1,7 +1,6 @@
 use mathlib.Core.Path.{◌∙◌}
 use native.Mathlib.Omega.{arith}
 use Rattle.words.proofs.Keyword.{other_length, name-found}
-use borrow.Author.Rules.{rules}
 use Rattle.words.proofs.name_kind.Goals as goal
 
 -- `words::name_kind` meets its contract.

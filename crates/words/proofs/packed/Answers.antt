@@ -1,8 +1,5 @@
 use mathlib.Core.Path.{◌≡◌, ◌∙◌}
-use Prim.Native.Nat.{◌≤◌}
 use native.Mathlib.Omega.{arith}
-use lib.ListN.{take, drop}
-use Rattle.words.specs.code.Rows.{number}
 use Rattle.words.proofs.Numbers.{pack-start, pack-small, pack-step}
 use borrow.Author.Rules.{rules}
 use Rattle.words.proofs.packed.Goals as goal

@@ -1,10 +1,7 @@
-use mathlib.Core.Path.{◌≡◌, ◌∙◌}
+use mathlib.Core.Path.{◌≡◌}
 use Prim.Native.Nat.{◌≤◌}
-use native.Mathlib.Omega.{arith}
 use lib.ListN.{take, drop}
 use Rattle.words.specs.code.Rows.{number}
-use Rattle.words.proofs.Numbers.{pack-start, pack-small, pack-step}
-use borrow.Author.Rules.{rules}
 use Rattle.words.proofs.packed.Given as goal
 
 abbrev pub invariant-loop-j : goal.invariant-loop-j

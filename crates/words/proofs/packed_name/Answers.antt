@@ -1,5 +1,4 @@
 use Rattle.words.proofs.Numbers.{name-first}
-use borrow.Author.Rules.{rules}
 use Rattle.words.proofs.packed_name.Goals as goal
 
 -- `words::packed_name` meets its contract.

@@ -1,6 +1,5 @@
 use mathlib.Core.Path.{◌∙◌}
 use Rattle.words.proofs.Found.{row_fits, row-off}
-use borrow.Author.Rules.{rules}
 use Rattle.words.proofs.row_fit.Goals as goal
 
 -- `words::row_fit` meets its contract.

@@ -1,10 +1,7 @@
 use mathlib.Core.Path.{◌≡◌}
-use Prim.Native.Nat.{suc, ◌+◌, ◌-◌}
-use native.Mathlib.Omega.{arith}
+use Prim.Native.Nat.{◌+◌, ◌-◌}
 use lib.ListN.{drop}
 use Rattle.words.specs.code.Rows.{row_len}
-use Rattle.words.proofs.Rows.{len-zero, len-next, len-end}
-use borrow.Author.Rules.{rules}
 use Rattle.words.proofs.row_len.Given as goal
 
 abbrev pub invariant-loop-n : goal.invariant-loop-n

@@ -1,9 +1,4 @@
-use mathlib.Core.Path.{◌≡◌, ◌∙◌, sym, refl}
-use mathlib.Core.List.{[], ◌∷◌}
-use Prim.Native.Nat.{◌-◌, ◌≤◌}
-use lib.Seq.{slice}
-use Rattle.words.specs.Tables.{single_marks, marks}
-use Rattle.words.specs.Search.{first_fit}
+use mathlib.Core.Path.{◌∙◌, sym, refl}
 use Rattle.words.proofs.Rows.{tables}
 use Rattle.words.proofs.Found.{fit-end, single-hit, single-miss}
 use borrow.Author.Rules.{rules}

@@ -1,12 +1,9 @@
-use mathlib.Core.Path.{◌≡◌, ◌∙◌, sym, refl}
+use mathlib.Core.Path.{◌≡◌}
 use mathlib.Core.List.{[], ◌∷◌}
 use Prim.Native.Nat.{◌-◌, ◌≤◌}
 use lib.Seq.{slice}
 use Rattle.words.specs.Tables.{single_marks, marks}
 use Rattle.words.specs.Search.{first_fit}
-use Rattle.words.proofs.Rows.{tables}
-use Rattle.words.proofs.Found.{fit-end, single-hit, single-miss}
-use borrow.Author.Rules.{rules}
 use Rattle.words.proofs.single_mark.Given as goal
 
 abbrev pub invariant-loop-k : goal.invariant-loop-k

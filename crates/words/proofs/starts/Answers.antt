@@ -1,9 +1,6 @@
-use mathlib.Core.Path.{◌≡◌, ◌∙◌, sym}
-use Prim.Native.Nat.{◌-◌}
+use mathlib.Core.Path.{◌∙◌, sym}
 use native.Mathlib.Omega.{arith}
-use lib.ListN.{take, drop}
-use Rattle.classes.specs.Bytes.{begins}
-use Rattle.words.proofs.Places.{from, from_start, from_end, from-miss, from_step, no_room_lem}
+use Rattle.words.proofs.Places.{from_start, from_end, from-miss, from_step, no_room_lem}
 use borrow.Author.Rules.{rules}
 use Rattle.words.proofs.starts.Goals as goal
 

@@ -1,10 +1,8 @@
-use mathlib.Core.Path.{◌≡◌, ◌∙◌, sym}
+use mathlib.Core.Path.{◌≡◌}
 use Prim.Native.Nat.{◌-◌}
-use native.Mathlib.Omega.{arith}
 use lib.ListN.{take, drop}
 use Rattle.classes.specs.Bytes.{begins}
-use Rattle.words.proofs.Places.{from, from_start, from_end, from-miss, from_step, no_room_lem}
-use borrow.Author.Rules.{rules}
+use Rattle.words.proofs.Places.{from}
 use Rattle.words.proofs.starts.Given as goal
 
 abbrev pub invariant-loop-j : goal.invariant-loop-j

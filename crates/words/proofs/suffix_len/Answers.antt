@@ -1,7 +1,6 @@
 use mathlib.Core.Path.{sym}
 use native.Mathlib.Omega.{arith}
 use Rattle.words.proofs.Suffix.{no-suffix, u-inside, suffix-first, suffix-added, suffix-plain}
-use borrow.Author.Rules.{rules}
 use Rattle.words.proofs.suffix_len.Goals as goal
 
 pub returns-then-byte_at-ne117 : goal.returns-then-byte_at-ne117
