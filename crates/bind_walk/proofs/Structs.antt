@@ -17,7 +17,7 @@ use Rattle.tokens.specs.declared.Lexed.TheVariants.{Found}
 use Rattle.records.specs.Kinds.{RecStruct, RecStructTyped}
 use Rattle.records.specs.Tree.{Tree, node, Trees, more, joined}
 use Rattle.sources.specs.Source.{Source, opened, Lexeme, lex}
-use Rattle.answers.specs.Reading.{Ans, ok, no, then, look, when, Reader, list_behind}
+use Rattle.answers.specs.Reading.{Ans, ok, then, look, when, Reader, list_behind}
 use Rattle.grammar.specs.Names.{chain}
 use Rattle.grammar.specs.Types.{read_type}
 use Rattle.grammar.specs.Binds.{fields, struct_over, unpacked}

@@ -1,5 +1,6 @@
 // Bindings, their fields, and the two lists of bindings, laid down in the form that the caller asks for.
 #![tactic(auto)]
+
 ghost use Rattle.std.specs.Prelude.{◌≡◌, cond, eqb};
 ghost use Rattle.words.specs.Kinds.{Less, Greater, RBrace};
 ghost use Rattle.records.specs.Kinds.{RecStruct, RecStructTyped};

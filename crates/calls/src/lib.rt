@@ -1,6 +1,7 @@
 // The read call and the display call: an item of a text in a lent buffer, as its stored tree or as its line.
 // Both are one walk: what is left of a call is its form, its room and its answer.
 #![tactic(auto)]
+
 ghost use Rattle.std.specs.Prelude.{◌≡◌, ◌-◌, ◌≤◌, length};
 ghost use Rattle.tokens.specs.Calls.{next_token};
 ghost use Rattle.grammar.specs.Items.{read_kind, asked, no_kind, number_fault, fault_of};

@@ -19,7 +19,6 @@ use Rattle.tokens.specs.declared.Lexed.{Lexed}
 use Rattle.tokens.specs.declared.Lexed.TheVariants.{Found, Refused}
 use Rattle.tokens.proofs.Again.{found-fits}
 use Rattle.tokens.proofs.Walks.{at_next}
-use Rattle.starts.specs.Allowed.{last, first}
 use Rattle.starts.specs.code.Step.{step, reached, step_to}
 use Rattle.starts.specs.declared.Step.{Step}
 use Rattle.carried.specs.Carry.{refusal_of, is_start, covers, covering_start, bad_note}

@@ -14,14 +14,14 @@ use Rattle.classes.specs.Run.{run_len, run_end, all_of}
 use Rattle.classes.proofs.All.{digit-name}
 use Rattle.classes.proofs.Bools.{false-true, and_left, and_right}
 use Rattle.classes.proofs.Runs.{run_short, run_inside, run_past, run_out, run_in, run-from}
-use Rattle.gap.specs.Gap.{gap_end_of, gap, Gap}
+use Rattle.gap.specs.Gap.{gap_end_of, Gap}
 use Rattle.gap.proofs.Gaps.{gap-plain}
 use Rattle.words.specs.Tables.{long_marks, double_marks, single_marks, marks}
 use Rattle.classes.specs.Bytes.{begins}
 use Rattle.words.specs.Search.{kind_of, longest, mark_of}
 use Rattle.words.proofs.Above.{name-above}
 use Rattle.tokens.specs.Answers.{refusal, token}
-use Rattle.tokens.specs.Token.{find_token, number_token, opens_string, name}
+use Rattle.tokens.specs.Token.{find_token, number_token, opens_string}
 use Rattle.tokens.specs.Calls.{text_limit, next_token}
 use Rattle.tokens.specs.code.Found.{lexed_at}
 use Rattle.tokens.specs.declared.Token.{Token}

@@ -1,5 +1,6 @@
 // Notes pinned to token starts, carried from edition 1 to edition 2.
 #![tactic(auto)]
+
 ghost use Rattle.std.specs.Prelude.{◌≡◌, map, ◌<◌, length};
 ghost use Rattle.tokens.specs.Walk.{tokens_at};
 ghost use Rattle.carried.specs.Carry.{refusal_of, covering_start, bad_note, carry_fault, carry, answer_of, notes_after};

@@ -1,5 +1,6 @@
 // Names and values, laid down in the form that the caller asks for.
 #![tactic(auto)]
+
 ghost use Rattle.std.specs.Prelude.{◌≡◌, cond, ◌&&◌, ◌||◌, eqb};
 ghost use Rattle.words.specs.Kinds.{Identifier, NumValue, NumTypedValue, ColonColon};
 ghost use Rattle.tokens.specs.Refusals.{NoValue};

@@ -1,6 +1,6 @@
 -- Lines and unprintable bytes. Where each leaf's word shows, so does the line, whatever the tree; of a string below 128 a byte
 -- is unprintable exactly where it does not show; and whether a tree has an unprintable byte is told by its build.
-use mathlib.Core.Path.{◌≡◌, refl, ap, sym, ◌∙◌, subst}
+use mathlib.Core.Path.{◌≡◌, refl, ap, sym, ◌∙◌}
 use mathlib.Core.Bool.{Bool, true, false, cond, not, ◌&&◌, ◌||◌}
 use mathlib.Core.List.{List, [], ◌∷◌, ◌++◌}
 use mathlib.Core.Logic.{◌↔◌}

@@ -2,6 +2,7 @@
 // function here writes one piece of a record, and only these look at the form. Positions stop at the largest number, so
 // that no sum can be too large.
 #![tactic(auto)]
+
 ghost use Rattle.std.specs.Prelude.{◌≡◌, cond, [], ◌∷◌, ◌+◌, ltb, length};
 ghost use Rattle.std.proofs.lemmas.List.Edits.{sets};
 ghost use Rattle.classes.specs.Bytes.{bytes};

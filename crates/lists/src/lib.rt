@@ -1,6 +1,7 @@
 // Comma lists: what a token says before an item and behind one, and what a list answers. Every list of the
 // walk is a function of its own, a loop over these; what they share besides is one law over the item's reader.
 #![tactic(auto)]
+
 ghost use Rattle.std.specs.Prelude.{◌≡◌, ◌&&◌, ◌+◌, min, eqb};
 ghost use Rattle.words.specs.Kinds.{Greater, GreaterGreater};
 ghost use Rattle.tokens.specs.Calls.{next_token};

@@ -13,7 +13,7 @@ use Rattle.tokens.specs.Calls.{text_limit}
 use Rattle.tokens.specs.Walk.{tokens_at}
 use Rattle.tokens.specs.declared.Place.{Place}
 use Rattle.outline.specs.Entry.{Entry, width_in, size_of}
-use Rattle.outline.specs.Outline.{declares, no_place, handed, names}
+use Rattle.outline.specs.Outline.{declares, no_place, handed}
 use Rattle.outline.specs.Theorems.{span_of, Every, docs_from, Fits, InOrder, EntriesSound}
 use Rattle.outline.proofs.Steps.{Claim, Closed}
 use Rattle.outline.proofs.Asked.{fault-place, accepted-fine, outlined-each}

@@ -1,5 +1,6 @@
 // The outline of a text: what it declares by `struct`, `fun` and `const`, read in portions of so many tokens a call.
 #![tactic(auto)]
+
 ghost use Rattle.std.specs.Prelude.{◌≡◌, cond, ◌+◌, ◌^◌, ◌<◌, ◌≤◌, ltb, length};
 ghost use Rattle.std.proofs.lemmas.List.Edits.{sets};
 ghost use Rattle.tokens.specs.Walk.{tokens_at};

@@ -1,6 +1,7 @@
 // What the walk's functions take and answer. Every function of the walk is lent a text, the first token of
 // what it reads, a way, a buffer and a place in it, and lays down there what it reads.
 #![tactic(auto)]
+
 ghost use Rattle.std.specs.Prelude.{◌≡◌};
 ghost use Rattle.tokens.specs.Refusals.{UnexpectedToken, TooDeep};
 ghost use Rattle.tokens.specs.Calls.{next_token};

@@ -21,7 +21,7 @@ use Rattle.roundtrip.proofs.Words.{Stops, extends}
 use Rattle.roundtrip.proofs.Tokens.{Met, met-map, Editions, Rest, Near, at_once, blank, Word, Spelled}
 use Rattle.roundtrip.proofs.Answers.{Gives, gives, gives_then, gives-look, gives-true, gives-false, gives-when}
 use Rattle.roundtrip.proofs.Marks.{widens, is_bar, lparen, lbrace, rbrace, colon, less, bar, Ends, ends}
-use Rattle.roundtrip.proofs.Lists.{All, all_map, join, join-listed, Same, SameAll, structs, Reads, Opens, Begins, opened, Closed, closed-mark, closed-greater, list-reads}
+use Rattle.roundtrip.proofs.Lists.{All, all_map, join, join-listed, Same, SameAll, Reads, Opens, Begins, opened, Closed, closed-mark, closed-greater, list-reads}
 use Rattle.roundtrip.proofs.Names.{is_colons, Structs, clashes, headed-starts, leaf-shown, Chain}
 use Rattle.roundtrip.proofs.Types.{round, inner, inner-near, bars-line, firsts, Typed, types-open, angle-opens, bar-opens, closed-close, closed-bar}
 

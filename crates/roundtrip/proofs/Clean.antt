@@ -1,7 +1,7 @@
 -- A line holds bytes from 32 to 126 only, and an item is refused a line exactly where its line would hold another.
 use mathlib.Core.Path.{◌≡◌, refl, sym, ap, ◌∙◌, subst}
 use mathlib.Core.Bool.{Bool, true, false}
-use mathlib.Core.List.{List, []}
+use mathlib.Core.List.{[]}
 use Rattle.forms.specs.Unprintable.{FirstByte, clean, found_at, unprintable}
 use Prim.Native.Nat.{ℕ, ◌+◌, ◌-◌, min}
 use native.Mathlib.Omega.{arith}
@@ -27,7 +27,7 @@ use Rattle.forms.specs.Forms.{FormLine, front, laid, written}
 use Rattle.forms.proofs.Unprintables.{line-shows, words-clean, build-unprintable}
 use Rattle.frames.proofs.Faithful.{read_refusals, item-refusals}
 use Rattle.frames.proofs.Words.{item-readable, clean-words, shown-words}
-use Rattle.calls.specs.Calls.{line_limit, roomed, filled, unless_unprintable, if_printable, read, as_line, display, display_buffer}
+use Rattle.calls.specs.Calls.{line_limit, roomed, filled, unless_unprintable, if_printable, as_line, display, display_buffer}
 use Rattle.calls.proofs.Room.{roomed-fits}
 use Rattle.roundtrip.specs.Theorems.{LineBytes, Exactly, UnprintableAt, UnprintableExactly}
 use Rattle.roundtrip.proofs.Tokens.{own}

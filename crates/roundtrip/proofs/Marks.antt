@@ -2,7 +2,7 @@
 use mathlib.Core.Path.{◌≡◌, refl, ap, ◌∙◌, subst}
 use mathlib.Core.Bool.{Bool, true, false, ◌||◌}
 use mathlib.Core.List.{List, [], ◌∷◌, ◌++◌}
-use Prim.Native.Nat.{ℕ, ◌+◌}
+use Prim.Native.Nat.{ℕ}
 use borrow.Author.Tests.{eqb-true}
 use lib.Dec.{eqb}
 use Rattle.classes.specs.Bytes.{bytes, begins}
@@ -15,7 +15,7 @@ use Rattle.words.specs.Tables.{long_marks, double_marks, single_marks, marks}
 use Rattle.words.specs.Search.{longest, mark_of}
 use Rattle.words.specs.Kinds.{EOF, Amp, AmpMut, LParen, RParen, Comma, Colon, ColonColon, Less, Greater, GreaterGreater, LBrace, Pipe, RBrace, AtSign}
 use Rattle.tokens.specs.Token.{mark, find_token, tok as found, placed, behind_gap, scan}
-use Rattle.sources.specs.Source.{Source, Lexeme, after, lex}
+use Rattle.sources.specs.Source.{Source, Lexeme, lex}
 use Rattle.roundtrip.proofs.Words.{Stops, extends}
 use Rattle.roundtrip.proofs.Tokens.{Met, met-map, Editions, Rest, Near, at_once, Word, Stands, stands}
 

@@ -16,7 +16,7 @@ use Rattle.answers.specs.Reading.{leaf_of}
 use Rattle.grammar.specs.Names.{is_first, first_part, last_part, third_part, second_part, chain}
 use Rattle.grammar.specs.Values.{leaf_kind, value_kind, leaf_value, address_value, value}
 use Rattle.grammar.specs.Binds.{is_struct}
-use Rattle.forms.specs.Line.{line, shown}
+use Rattle.forms.specs.Line.{shown}
 use Rattle.forms.specs.Forms.{FormLine, head, laid}
 use Rattle.forms.specs.code.Constructs.{mark_in, spelt, headed}
 use Rattle.forms.proofs.Constructs.{laid_leaf, laid-two, laid-three, laid-pair, laid-address}

@@ -18,7 +18,7 @@ use Rattle.records.specs.Tree.{Tree, build}
 use Rattle.records.specs.Stored.{counted, records}
 use Rattle.sources.specs.Source.{Source, opened, Lexeme, start, LexResult, tok, bad, lex, token_of}
 use Rattle.sources.proofs.Standing.{Sound, lex-sound}
-use Rattle.answers.specs.Reading.{Ans, ok, no, when, Reader}
+use Rattle.answers.specs.Reading.{Ans, ok, no, Reader}
 use Rattle.answers.proofs.Sure.{stop, Sure, look-sure}
 use Rattle.grammar.specs.Names.{chain}
 use Rattle.grammar.specs.Values.{value}

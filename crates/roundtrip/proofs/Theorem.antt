@@ -13,7 +13,7 @@ use Rattle.tokens.specs.RefusalSets.{among}
 use Rattle.tokens.specs.Answers.{refusal}
 use Rattle.tokens.specs.declared.Refusal.{Refusal}
 use Rattle.tokens.specs.declared.Token.{Token as Answer}
-use Rattle.records.specs.Tree.{Tree, build}
+use Rattle.records.specs.Tree.{Tree}
 use Rattle.records.specs.Stored.{records}
 use Rattle.sources.specs.Source.{Lexeme, token_of}
 use Rattle.answers.specs.Reading.{when}

@@ -14,7 +14,7 @@ use Rattle.sources.specs.Source.{Source, Lexeme, after, lex}
 use Rattle.answers.specs.Reading.{when}
 use Rattle.grammar.specs.Names.{is_first}
 use Rattle.grammar.specs.Types.{bracketed, brackets, reference, function, with_arguments, named, type_over, read_type}
-use Rattle.forms.specs.Line.{is_field, is_type, kind_of_build, shown, line}
+use Rattle.forms.specs.Line.{is_field, is_type, kind_of_build, shown}
 use Rattle.forms.specs.Forms.{FormLine, head, laid}
 use Rattle.forms.specs.code.Constructs.{mark_in, headed, laid_items, in_bars, in_angles}
 use Rattle.forms.proofs.Constructs.{laid-ref, laid-ref-mut, laid-unit, laid-brackets, laid-tuple, laid-type, laid-function}

@@ -2,6 +2,7 @@
 // heads, each followed by its children: every head is looked at once as a parent, from the front, and its children along
 // their lengths. So nothing recurses, and no parents are kept.
 #![tactic(auto)]
+
 ghost use Rattle.std.specs.Prelude.{◌≡◌, false, ◌||◌, ◌+◌, ◌-◌, ◌<◌, ◌≤◌, eqb, length, replicate};
 ghost use Rattle.classes.specs.Bytes.{begins};
 ghost use Rattle.classes.specs.Class.{in_range};

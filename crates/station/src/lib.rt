@@ -1,6 +1,7 @@
 // What a station links: the calls as C functions, over numbers and byte slices. The C header is
 // include/movesig.h.
 #![tactic(auto)]
+
 ghost use Rattle.std.specs.Prelude.{◌≡◌, cond, length};
 ghost use Rattle.tokens.specs.Answers.{places, token_number, token_values, comment_number, comment_values};
 ghost use Rattle.tokens.specs.Calls.{token_call, next_comment};

@@ -1,5 +1,6 @@
 // Types and lists of types, laid down in the form that the caller asks for.
 #![tactic(auto)]
+
 ghost use Rattle.std.specs.Prelude.{◌≡◌, false, cond, ◌||◌, eqb};
 ghost use Rattle.words.specs.Kinds.{Amp, AmpMut, Greater};
 ghost use Rattle.tokens.specs.Calls.{next_token};

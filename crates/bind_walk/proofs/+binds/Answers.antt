@@ -1,14 +1,8 @@
-use Prim.Native.Nat.{ℕ, ◌+◌, ◌-◌, ◌*◌, ◌<◌, min}
-use lib.ListN.{length}
 use mathlib.Core.Path.{sym, ◌∙◌, refl}
 use native.Mathlib.Omega.{arith}
 use Rattle.parts.proofs.Held.{next-found}
 use Rattle.bind_walk.proofs.Binds.{bound-short, bound-bad, bound-bind, bind-deep, bind-unnamed, bind-refused, bind-one, bind-unpack, field-deep, field-other, field-bad, field_bound}
-use borrow.Author.Rules.{rules}
-use Rattle.words.specs.Kinds.{RBrace}
-use Rattle.bind_walk.specs.code.Pieces.{field_at}
-use Rattle.forms.proofs.Placing.{placed-long}
-use Rattle.lists.proofs.Listing.{Going, going-first, step-stopped, step-closes, step-last, step-on, step-goes, steps-refused, steps-closes, steps-item, item-there}
+use Rattle.lists.proofs.Listing.{going-first, step-stopped, step-closes, step-last, step-on, step-goes, steps-refused, steps-closes, steps-item, item-there}
 use Rattle.bind_walk.proofs.Structs.{fields-other, fields-enclosed, unpack-unnamed, unpack-bad, unpack-fields}
 use borrow.Author.Tests.{not-true, not-false}
 use Rattle.chains.proofs.Names.{past-read}

@@ -1,19 +1,10 @@
 -- The measures of the cycle, and what each member is given at a measure and asks below it. A measure is seven times the bytes behind the
 -- place where the member stands, and which member runs; the token behind a field's name counts a byte more, unless it is EOF.
-use Prim.Native.Nat.{ℕ, ◌+◌, ◌-◌, ◌*◌, ◌<◌, min}
+use Prim.Native.Nat.{◌+◌, ◌-◌, ◌*◌, min}
 use lib.ListN.{length}
-use mathlib.Core.Path.{sym, ◌∙◌, refl}
-use native.Mathlib.Omega.{arith}
-use Rattle.parts.proofs.Held.{next-found}
-use Rattle.bind_walk.proofs.Binds.{bound-short, bound-bad, bound-bind, bind-deep, bind-unnamed, bind-refused, bind-one, bind-unpack, field-deep, field-other, field-bad, field_bound}
-use borrow.Author.Rules.{rules}
 use Rattle.words.specs.Kinds.{RBrace}
 use Rattle.bind_walk.specs.code.Pieces.{field_at}
-use Rattle.forms.proofs.Placing.{placed-long}
-use Rattle.lists.proofs.Listing.{Going, going-first, step-stopped, step-closes, step-last, step-on, step-goes, steps-refused, steps-closes, steps-item, item-there}
-use Rattle.bind_walk.proofs.Structs.{fields-other, fields-enclosed, unpack-unnamed, unpack-bad, unpack-fields}
-use borrow.Author.Tests.{not-true, not-false}
-use Rattle.chains.proofs.Names.{past-read}
+use Rattle.lists.proofs.Listing.{Going}
 use Rattle.bind_walk.proofs.+binds.Given as goal
 
 abbrev pub decreases-field_bind : goal.decreases-field_bind

@@ -1,11 +1,7 @@
-use mathlib.Core.Path.{◌∙◌}
-use native.Mathlib.Omega.{arith}
 use Prim.Native.Nat.{◌-◌}
 use lib.ListN.{length}
 use Rattle.grammar.specs.Binds.{read_bind}
-use Rattle.forms.proofs.Placing.{placed-long}
-use Rattle.lists.proofs.Listing.{Going, going-first, step-stopped, step-closes, step-last, step-on, step-goes}
-use borrow.Author.Rules.{rules}
+use Rattle.lists.proofs.Listing.{Going}
 use Rattle.bind_walk.proofs.bind_list.Given as goal
 
 abbrev pub invariant-loop-r : goal.invariant-loop-r

@@ -1,6 +1,5 @@
 use mathlib.Core.Path.{sym, ◌∙◌}
 use Rattle.lists.proofs.Listing.{steps-refused, steps-closes, steps-item}
-use borrow.Author.Rules.{rules}
 use Rattle.bind_walk.proofs.bind_step.Goals as goal
 
 pub returns-in-Refused : goal.returns-in-Refused

@@ -1,5 +1,4 @@
 use Rattle.bind_walk.proofs.Parted.{closing-refused, closing-read}
-use borrow.Author.Rules.{rules}
 use Rattle.bind_walk.proofs.close_record.Goals as goal
 
 pub returns-in-Refused : goal.returns-in-Refused

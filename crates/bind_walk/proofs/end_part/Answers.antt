@@ -1,5 +1,4 @@
 use Rattle.bind_walk.proofs.Parted.{ending-refused, ending-read}
-use borrow.Author.Rules.{rules}
 use Rattle.bind_walk.proofs.end_part.Goals as goal
 
 pub returns-in-Refused : goal.returns-in-Refused

@@ -1,5 +1,4 @@
 use borrow.Author.Tests.{eq-eqb, ne_eqb}
-use borrow.Author.Rules.{rules}
 use Rattle.bind_walk.proofs.is_variable.Goals as goal
 
 pub returns-then-first-ne-IDENTIFIER : goal.returns-then-first-ne-IDENTIFIER

@@ -1,5 +1,4 @@
 use Rattle.bind_walk.proofs.Structs.{name-at}
-use borrow.Author.Rules.{rules}
 use Rattle.bind_walk.proofs.name_inside.Goals as goal
 
 pub returns : goal.returns

@@ -1,7 +1,6 @@
 use mathlib.Core.Path.{◌∙◌}
 use native.Mathlib.Omega.{arith}
 use Rattle.bind_walk.proofs.Outermost.{binds-one, binds-many}
-use borrow.Author.Rules.{rules}
 use Rattle.bind_walk.proofs.parse_bind_list.Goals as goal
 
 pub shape_of-out-then-a-ne-L_PAREN : goal.shape_of-out-then-a-ne-L_PAREN

@@ -1,7 +1,6 @@
 use mathlib.Core.Path.{◌∙◌}
 use native.Mathlib.Omega.{arith}
 use Rattle.bind_walk.proofs.Outermost.{lambda-other, lambda-refused, lambda-read}
-use borrow.Author.Rules.{rules}
 use Rattle.bind_walk.proofs.parse_lambda_bind_list.Goals as goal
 
 pub returns-then-a-ne-PIPE : goal.returns-then-a-ne-PIPE

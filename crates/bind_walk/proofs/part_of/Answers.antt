@@ -1,6 +1,5 @@
 use mathlib.Core.Path.{sym}
 use Rattle.lists.proofs.Contracts.{part-all, part-broken}
-use borrow.Author.Rules.{rules}
 use Rattle.bind_walk.proofs.part_of.Goals as goal
 
 pub returns-in-Refused : goal.returns-in-Refused

@@ -1,6 +1,5 @@
 use native.Mathlib.Omega.{arith}
 use Rattle.bind_walk.proofs.Laying.{name-placed}
-use borrow.Author.Rules.{rules}
 use Rattle.bind_walk.proofs.put_field_name.Goals as goal
 
 pub returns : goal.returns

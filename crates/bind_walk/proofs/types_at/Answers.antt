@@ -1,6 +1,5 @@
 use native.Mathlib.Omega.{arith}
 use Rattle.bind_walk.proofs.Structs.{types-enclosed}
-use borrow.Author.Rules.{rules}
 use Rattle.bind_walk.proofs.types_at.Goals as goal
 
 pub returns : goal.returns

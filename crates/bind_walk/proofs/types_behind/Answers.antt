@@ -1,5 +1,4 @@
 use Rattle.bind_walk.proofs.Structs.{behind-none, behind-types}
-use borrow.Author.Rules.{rules}
 use Rattle.bind_walk.proofs.types_behind.Goals as goal
 
 pub returns-then-p-ne-LESS : goal.returns-then-p-ne-LESS

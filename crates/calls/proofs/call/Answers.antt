@@ -1,4 +1,3 @@
-use borrow.Author.Rules.{rules}
 use Rattle.grammar.specs.Items.{asked}
 use Rattle.calls.proofs.Answers.{call-faulty, call-bad, call-found}
 use Rattle.calls.proofs.call.Goals as goal

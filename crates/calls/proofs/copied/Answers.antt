@@ -11,7 +11,6 @@ use Rattle.calls.specs.declared.Answer.TheVariants.{Item}
 use Rattle.calls.specs.declared.Made.{Made}
 use Rattle.calls.specs.declared.Made.TheVariants.{Whole, Answered}
 use Rattle.calls.specs.code.Given.{answer_of, buffer_of}
-use borrow.Author.Rules.{rules}
 use Rattle.calls.proofs.copied.Goals as goal
 
 take_min : (n : ℕ) (l : List ℕ) → take (min n (length l)) l ≡ take n l

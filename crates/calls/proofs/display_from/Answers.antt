@@ -1,4 +1,3 @@
-use borrow.Author.Rules.{rules}
 use mathlib.Core.Path.{sym, ap}
 use Rattle.grammar.specs.Items.{asked}
 use Rattle.calls.proofs.Answers.{display-given, display-unprintable, line_of}

@@ -6,7 +6,6 @@ use Rattle.grammar.specs.Items.{Asked, asked}
 use Rattle.calls.specs.declared.Answer.{Answer}
 use Rattle.calls.specs.declared.Made.{Made}
 use Rattle.calls.specs.code.Given.{Lays, answer_of, buffer_of}
-use borrow.Author.Rules.{rules}
 use Rattle.calls.proofs.lay_item.Goals as goal
 
 -- what was laid down and copied

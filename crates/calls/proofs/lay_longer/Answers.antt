@@ -1,7 +1,6 @@
 use native.Mathlib.Omega.{arith}
 use Rattle.grammar.specs.Items.{asked}
 use Rattle.calls.proofs.Answers.{longer-wide, longer-long, longer-done}
-use borrow.Author.Rules.{rules}
 use Rattle.calls.proofs.lay_longer.Goals as goal
 
 pub returns-then-outgrown : goal.returns-then-outgrown

@@ -2,7 +2,6 @@ use mathlib.Core.Path.{refl}
 use Rattle.grammar.specs.Items.{asked}
 use Rattle.calls.specs.code.Given.{answer_of, buffer_of}
 use Rattle.calls.proofs.Answers.{lay-refused, lay-longer, lay-long, lay_done}
-use borrow.Author.Rules.{rules}
 use Rattle.calls.proofs.lay_over.Goals as goal
 
 pub returns-then-made-to : goal.returns-then-made-to

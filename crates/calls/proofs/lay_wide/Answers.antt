@@ -1,4 +1,3 @@
-use borrow.Author.Rules.{rules}
 use native.Mathlib.Omega.{arith}
 use Rattle.grammar.specs.Items.{asked}
 use Rattle.calls.proofs.Answers.{widened-long, widened-done}

@@ -1,4 +1,3 @@
-use borrow.Author.Rules.{rules}
 use mathlib.Core.Path.{◌∙◌, sym, ap}
 use Rattle.tokens.specs.declared.Fault.TheVariants.{Faulty}
 use Rattle.tokens.proofs.Faults.{first-faulty, first-faultless, faulty-if, not-if}

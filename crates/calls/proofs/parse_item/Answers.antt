@@ -1,4 +1,3 @@
-use borrow.Author.Rules.{rules}
 use native.Mathlib.Omega.{arith}
 use Rattle.parts.proofs.Contracts.{reads_as}
 use Rattle.calls.proofs.Answers.{kind-name, kind-value, kind-type, kind-bind, kind-lambda}

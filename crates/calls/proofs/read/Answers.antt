@@ -1,4 +1,3 @@
-use borrow.Author.Rules.{rules}
 use Rattle.grammar.specs.Items.{asked}
 use Rattle.calls.proofs.Answers.{read-given}
 use Rattle.calls.proofs.read.Goals as goal

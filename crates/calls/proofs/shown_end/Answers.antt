@@ -3,7 +3,6 @@ use mathlib.Core.List.{List}
 use Prim.Native.Nat.{ℕ}
 use native.Mathlib.Omega.{arith}
 use lib.Seq.{length-take-le, take_all}
-use borrow.Author.Rules.{rules}
 use Rattle.classes.specs.Class.{shows, in_class}
 use Rattle.classes.specs.Run.{run_end}
 use Rattle.calls.proofs.shown_end.Goals as goal

@@ -1,4 +1,3 @@
-use borrow.Author.Rules.{rules}
 use borrow.Author.Tests.{eq-eqb, ne_eqb}
 use Rattle.calls.specs.code.Given.{unprintable_first}
 use Rattle.calls.proofs.unprintable_at.Goals as goal

@@ -1,4 +1,3 @@
-use borrow.Author.Rules.{rules}
 use borrow.Author.Tests.{ne_eqb}
 use Rattle.calls.proofs.Unprintables.{value-at, value_none}
 use Rattle.calls.proofs.unprintable_value.Goals as goal

@@ -1,5 +1,4 @@
 use Rattle.carried.proofs.Carrying.{refused-by, movable-by, moved_by_lem}
-use borrow.Author.Rules.{rules}
 use Rattle.carried.proofs.carry.Goals as goal
 
 pub move_notes-requires : goal.move_notes-requires

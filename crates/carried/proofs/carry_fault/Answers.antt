@@ -1,5 +1,4 @@
 use Rattle.carried.proofs.Carrying.{carry-faulty, carry-faultless}
-use borrow.Author.Rules.{rules}
 use Rattle.carried.proofs.carry_fault.Goals as goal
 
 pub returns-in-Faulty : goal.returns-in-Faulty

@@ -1,5 +1,4 @@
 use Rattle.carried.proofs.Carrying.{later-faulty, later-faultless}
-use borrow.Author.Rules.{rules}
 use Rattle.carried.proofs.later_fault.Goals as goal
 
 pub returns-in-Faulty : goal.returns-in-Faulty

@@ -1,10 +1,8 @@
 use mathlib.Core.Path.{subst}
-use Prim.Native.Nat.{ℕ, ◌≤◌, ◌-◌}
+use Prim.Native.Nat.{ℕ}
 use native.Mathlib.Omega.{arith}
-use lib.ListN.{length}
 use Rattle.carried.specs.code.Passes.{LeastOf}
 use Rattle.carried.proofs.Passes.{least-none, least_step}
-use borrow.Author.Rules.{rules}
 use Rattle.carried.proofs.least_from.Goals as goal
 
 pub loop-i-init : goal.loop-i-init

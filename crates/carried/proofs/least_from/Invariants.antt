@@ -1,10 +1,6 @@
-use mathlib.Core.Path.{subst}
-use Prim.Native.Nat.{ℕ, ◌≤◌, ◌-◌}
-use native.Mathlib.Omega.{arith}
+use Prim.Native.Nat.{◌≤◌, ◌-◌}
 use lib.ListN.{length}
 use Rattle.carried.specs.code.Passes.{LeastOf}
-use Rattle.carried.proofs.Passes.{least-none, least_step}
-use borrow.Author.Rules.{rules}
 use Rattle.carried.proofs.least_from.Given as goal
 
 abbrev pub invariant-loop-i : goal.invariant-loop-i

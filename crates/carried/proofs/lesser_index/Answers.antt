@@ -1,6 +1,5 @@
 use borrow.Author.Tests.{lt-ltb, le-ltb, le-leb, lt-leb}
 use Rattle.carried.specs.code.Passes.{lesser}
-use borrow.Author.Rules.{rules}
 use Rattle.carried.proofs.lesser_index.Goals as goal
 
 pub returns-then-x-p : goal.returns-then-x-p

@@ -1,5 +1,4 @@
 use Rattle.carried.specs.code.Passes.{lower}
-use borrow.Author.Rules.{rules}
 use Rattle.carried.proofs.lower_index.Goals as goal
 
 pub returns-then-good : goal.returns-then-good

@@ -1,9 +1,6 @@
-use mathlib.Core.Path.{refl}
 use Prim.Native.Nat.{◌-◌}
-use native.Mathlib.Omega.{arith}
 use Rattle.tokens.specs.Walk.{tokens_at}
-use Rattle.carried.proofs.Passes.{Steps, steps_next, BadBelow, bad-none, bad-all, bad-next, bad_last}
-use borrow.Author.Rules.{rules}
+use Rattle.carried.proofs.Passes.{Steps, BadBelow}
 use Rattle.carried.proofs.lowest_bad.Given as goal
 
 abbrev pub invariant-loop-bad : goal.invariant-loop-bad

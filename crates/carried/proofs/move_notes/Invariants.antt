@@ -1,9 +1,7 @@
 use Prim.Native.Nat.{◌+◌, ◌-◌}
-use native.Mathlib.Omega.{arith}
 use lib.ListN.{length}
 use Rattle.carried.specs.code.Passes.{Movable}
-use Rattle.carried.proofs.Passes.{Moving, moving-none, moving-length, moving-done, moving-within, moving-step}
-use borrow.Author.Rules.{rules}
+use Rattle.carried.proofs.Passes.{Moving}
 use Rattle.carried.proofs.move_notes.Given as goal
 
 abbrev pub invariant-loop-notes : goal.invariant-loop-notes

@@ -3,7 +3,6 @@ use native.Mathlib.Omega.{arith}
 use lib.Seq.{length-take-le}
 use Rattle.tokens.specs.declared.Fault.TheVariants.{Faulty}
 use Rattle.carried.proofs.Passes.{fault-at, fault-none}
-use borrow.Author.Rules.{rules}
 use Rattle.carried.proofs.note_fault.Goals as goal
 
 pub slice_bounds-lowest_bad-end : goal.slice_bounds-lowest_bad-end

@@ -1,8 +1,6 @@
-use Prim.Native.Nat.{◌-◌}
 use native.Mathlib.Omega.{arith}
-use lib.ListN.{length, length-set}
-use Rattle.carried.proofs.Passes.{Exchanging, exchanging-none, exchanging-step, exchanging-done}
-use borrow.Author.Rules.{rules}
+use lib.ListN.{length-set}
+use Rattle.carried.proofs.Passes.{exchanging-none, exchanging-step, exchanging-done}
 use Rattle.carried.proofs.replace.Goals as goal
 
 pub loop-i-init : goal.loop-i-init

@@ -1,8 +1,6 @@
 use Prim.Native.Nat.{◌-◌}
-use native.Mathlib.Omega.{arith}
-use lib.ListN.{length, length-set}
-use Rattle.carried.proofs.Passes.{Exchanging, exchanging-none, exchanging-step, exchanging-done}
-use borrow.Author.Rules.{rules}
+use lib.ListN.{length}
+use Rattle.carried.proofs.Passes.{Exchanging}
 use Rattle.carried.proofs.replace.Given as goal
 
 abbrev pub invariant-loop-i : goal.invariant-loop-i

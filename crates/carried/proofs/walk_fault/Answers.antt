@@ -1,5 +1,4 @@
 use Rattle.carried.proofs.Passes.{walk-met}
-use borrow.Author.Rules.{rules}
 use Rattle.carried.proofs.walk_fault.Goals as goal
 
 pub returns-in-Refused : goal.returns-in-Refused

@@ -1,7 +1,6 @@
 use mathlib.Core.Path.{sym, ◌∙◌}
 use borrow.Author.Tests.{not-true, not-false}
 use Rattle.chains.proofs.Values.{address-bad, address-other, address_read}
-use borrow.Author.Rules.{rules}
 use Rattle.chains.proofs.address_value.Goals as goal
 
 pub returns-then-not-is_first : goal.returns-then-not-is_first

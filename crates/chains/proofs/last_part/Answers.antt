@@ -1,6 +1,5 @@
 use mathlib.Core.Path.{sym, ◌∙◌}
 use Rattle.chains.proofs.Names.{last-bad, last-other, last-three}
-use borrow.Author.Rules.{rules}
 use Rattle.chains.proofs.last_part.Goals as goal
 
 pub returns-then-c-ne-IDENTIFIER : goal.returns-then-c-ne-IDENTIFIER

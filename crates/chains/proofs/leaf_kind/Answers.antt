@@ -1,5 +1,4 @@
 use Rattle.chains.proofs.Values.{leaf-true, leaf-false, leaf-number, leaf-string, leaf-none}
-use borrow.Author.Rules.{rules}
 use Rattle.chains.proofs.leaf_kind.Goals as goal
 
 pub returns-then-kind-eq-TRUE : goal.returns-then-kind-eq-TRUE

@@ -1,6 +1,5 @@
 use mathlib.Core.Path.{sym, ◌∙◌}
 use Rattle.chains.proofs.Values.{value-address, value_none, value-bad, value-colons, value-leaf}
-use borrow.Author.Rules.{rules}
 use Rattle.chains.proofs.maybe_parse_value.Goals as goal
 
 pub returns-then-a-eq-AT_SIGN : goal.returns-then-a-eq-AT_SIGN

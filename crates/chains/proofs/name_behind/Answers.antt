@@ -1,5 +1,4 @@
 use Rattle.chains.proofs.Names.{behind_more, behind-due, behind-one}
-use borrow.Author.Rules.{rules}
 use Rattle.chains.proofs.name_behind.Goals as goal
 
 pub returns-then-d-eq-COLON_COLON : goal.returns-then-d-eq-COLON_COLON

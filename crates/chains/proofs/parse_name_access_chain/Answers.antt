@@ -1,7 +1,6 @@
 use mathlib.Core.Path.{sym, ◌∙◌}
 use borrow.Author.Tests.{not-true, not-false}
 use Rattle.chains.proofs.Names.{chain-other, chain-bad}
-use borrow.Author.Rules.{rules}
 use Rattle.chains.proofs.parse_name_access_chain.Goals as goal
 
 pub returns-then-not-is_first : goal.returns-then-not-is_first

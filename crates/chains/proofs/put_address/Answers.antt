@@ -1,6 +1,5 @@
 use native.Mathlib.Omega.{arith}
 use Rattle.chains.proofs.Values.{address-placed}
-use borrow.Author.Rules.{rules}
 use Rattle.chains.proofs.put_address.Goals as goal
 
 pub returns : goal.returns

@@ -1,6 +1,5 @@
 use native.Mathlib.Omega.{arith}
 use Rattle.chains.proofs.Names.{pair-placed}
-use borrow.Author.Rules.{rules}
 use Rattle.chains.proofs.put_pair.Goals as goal
 
 pub returns : goal.returns

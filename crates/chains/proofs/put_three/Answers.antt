@@ -1,6 +1,5 @@
 use native.Mathlib.Omega.{arith}
 use Rattle.chains.proofs.Names.{three-placed}
-use borrow.Author.Rules.{rules}
 use Rattle.chains.proofs.put_three.Goals as goal
 
 pub returns : goal.returns

@@ -1,6 +1,5 @@
 use mathlib.Core.Path.{sym, ◌∙◌}
 use Rattle.chains.proofs.Names.{second-bad, second-other, second-name}
-use borrow.Author.Rules.{rules}
 use Rattle.chains.proofs.second_part.Goals as goal
 
 pub returns-then-b-eq-IDENTIFIER : goal.returns-then-b-eq-IDENTIFIER

@@ -1,6 +1,5 @@
 use mathlib.Core.Path.{sym, ◌∙◌}
 use Rattle.chains.proofs.Names.{third-bad, third-more, third-two}
-use borrow.Author.Rules.{rules}
 use Rattle.chains.proofs.third_part.Goals as goal
 
 pub returns-then-d-eq-COLON_COLON : goal.returns-then-d-eq-COLON_COLON

@@ -1,4 +1,3 @@
-use borrow.Author.Rules.{rules}
 use Rattle.forms.proofs.close_bars.Goals as goal
 
 pub returns-then-none : goal.returns-then-none

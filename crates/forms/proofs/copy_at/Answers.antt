@@ -2,7 +2,6 @@ use Rattle.forms.proofs.Copying.{sets-mid}
 use mathlib.Core.Path.{sym}
 use native.Mathlib.Omega.{arith}
 use Rattle.buffer.proofs.Sets.{sets-out}
-use borrow.Author.Rules.{rules}
 use Rattle.forms.proofs.copy_at.Goals as goal
 
 -- `forms::copy_at` meets its contract.

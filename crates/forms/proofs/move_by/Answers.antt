@@ -1,5 +1,4 @@
 use Rattle.forms.proofs.Placing.{moved_by_lem}
-use borrow.Author.Rules.{rules}
 use Rattle.forms.proofs.move_by.Goals as goal
 
 -- `forms::move_by` meets its contract.

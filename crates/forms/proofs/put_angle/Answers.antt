@@ -1,6 +1,5 @@
 use borrow.Author.Tests.{eq-eqb, ne_eqb}
 use Rattle.forms.specs.code.Constructs.{mark_in}
-use borrow.Author.Rules.{rules}
 use Rattle.forms.proofs.put_angle.Goals as goal
 
 pub returns-then-form-eq-FORM_LINE : goal.returns-then-form-eq-FORM_LINE

@@ -1,5 +1,4 @@
 use mathlib.Core.Path.{refl}
-use borrow.Author.Rules.{rules}
 use Rattle.forms.proofs.put_between.Goals as goal
 
 pub returns-then-first : goal.returns-then-first

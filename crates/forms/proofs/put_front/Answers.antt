@@ -2,7 +2,6 @@ use borrow.Author.Tests.{eq-eqb, ne_eqb}
 use mathlib.Core.Path.{refl}
 use Rattle.records.specs.Stored.{little_endian}
 use Rattle.forms.specs.Forms.{front}
-use borrow.Author.Rules.{rules}
 use Rattle.forms.proofs.put_front.Goals as goal
 
 pub returns-then-form-eq-FORM_NARROW : goal.returns-then-form-eq-FORM_NARROW

@@ -1,7 +1,6 @@
 use mathlib.Core.Path.{ap, ◌∙◌}
 use lib.Seq.{sets}
 use Rattle.forms.proofs.Placing.{head-as-narrow, head-none, head-as-wide}
-use borrow.Author.Rules.{rules}
 use Rattle.forms.proofs.put_head.Goals as goal
 
 pub returns-then-form-eq-FORM_NARROW : goal.returns-then-form-eq-FORM_NARROW

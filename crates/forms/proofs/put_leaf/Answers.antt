@@ -3,7 +3,6 @@ use mathlib.Core.Path.{ap, sym, ◌∙◌}
 use Rattle.forms.specs.code.Constructs.{spelt}
 use Rattle.forms.specs.code.Spots.{moved_by}
 use Rattle.forms.proofs.Placing.{head-long}
-use borrow.Author.Rules.{rules}
 use Rattle.forms.proofs.put_leaf.Goals as goal
 
 pub returns-then-form-eq-FORM_LINE : goal.returns-then-form-eq-FORM_LINE

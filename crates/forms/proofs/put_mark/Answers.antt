@@ -1,7 +1,6 @@
 use borrow.Author.Tests.{eq-eqb, ne_eqb}
 use mathlib.Core.Path.{refl}
 use Rattle.forms.specs.code.Constructs.{mark_in}
-use borrow.Author.Rules.{rules}
 use Rattle.forms.proofs.put_mark.Goals as goal
 
 pub returns-then-form-eq-FORM_LINE : goal.returns-then-form-eq-FORM_LINE

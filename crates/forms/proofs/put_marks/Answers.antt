@@ -1,6 +1,5 @@
 use native.Mathlib.Omega.{arith}
 use Rattle.forms.proofs.Placing.{marks-both}
-use borrow.Author.Rules.{rules}
 use Rattle.forms.proofs.put_marks.Goals as goal
 
 pub returns : goal.returns

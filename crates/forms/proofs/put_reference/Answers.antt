@@ -1,6 +1,5 @@
 use native.Mathlib.Omega.{arith}
 use Rattle.forms.proofs.Placing.{marks-both}
-use borrow.Author.Rules.{rules}
 use Rattle.forms.proofs.put_reference.Goals as goal
 
 pub returns-then-mutable : goal.returns-then-mutable

@@ -1,6 +1,5 @@
 use native.Mathlib.Omega.{arith}
 use Rattle.forms.proofs.Copying.{clipped-inside, word_none, word_some}
-use borrow.Author.Rules.{rules}
 use Rattle.forms.proofs.put_word.Goals as goal
 
 -- `forms::put_word` meets its contract.

@@ -1,5 +1,4 @@
 use Rattle.forms.proofs.Placing.{sealed-by}
-use borrow.Author.Rules.{rules}
 use Rattle.forms.proofs.seal.Goals as goal
 
 pub returns : goal.returns

@@ -1,6 +1,5 @@
 use mathlib.Core.Path.{ap, ◌∙◌}
 use Rattle.forms.specs.code.Spots.{moved_by}
-use borrow.Author.Rules.{rules}
 use Rattle.forms.proofs.step_inside.Goals as goal
 
 pub returns : goal.returns

@@ -1,6 +1,5 @@
 use mathlib.Core.Path.{sym, ◌∙◌, ap}
 use borrow.Author.Tests.{eq-eqb, ne_eqb}
-use borrow.Author.Rules.{rules}
 use Rattle.lists.specs.code.Lists.{behind_item, after_item}
 use Rattle.lists.specs.declared.Step.TheVariants.{Refused}
 use Rattle.lists.proofs.after_item.Goals as goal

@@ -1,5 +1,4 @@
 use mathlib.Core.Path.{sym, ◌∙◌}
-use borrow.Author.Rules.{rules}
 use Rattle.lists.specs.code.Lists.{closed_at}
 use Rattle.lists.proofs.close_list.Goals as goal
 

@@ -1,6 +1,5 @@
 use mathlib.Core.Path.{sym, ◌∙◌, ap}
 use borrow.Author.Tests.{eq-eqb, ne_eqb}
-use borrow.Author.Rules.{rules}
 use Rattle.lists.specs.code.Lists.{ending_at}
 use Rattle.lists.specs.declared.Ending.TheVariants.{At}
 use Rattle.lists.proofs.match_end.Goals as goal

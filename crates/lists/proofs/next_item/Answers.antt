@@ -1,6 +1,5 @@
 use mathlib.Core.Path.{sym, ◌∙◌, ap}
 use borrow.Author.Tests.{eq-eqb, ne_eqb}
-use borrow.Author.Rules.{rules}
 use Rattle.lists.specs.code.Lists.{before_item, next_item}
 use Rattle.lists.specs.declared.Turn.TheVariants.{Refused}
 use Rattle.lists.proofs.next_item.Goals as goal

@@ -1,7 +1,6 @@
 use mathlib.Core.Path.{sym}
 use native.Mathlib.Omega.{arith}
 use lib.Seq.{length-take-le}
-use borrow.Author.Rules.{rules}
 use Rattle.outline.proofs.Whole.{as-answered, as-whole}
 use Rattle.outline.proofs.copied.Goals as goal
 

@@ -1,5 +1,4 @@
 use borrow.Author.Tests.{eq-eqb, ne_eqb}
-use borrow.Author.Rules.{rules}
 use Rattle.outline.specs.Outline.{declares}
 use Rattle.outline.proofs.declares.Goals as goal
 

@@ -1,5 +1,4 @@
 use mathlib.Core.Path.{sym, ◌∙◌}
-use borrow.Author.Rules.{rules}
 use Rattle.outline.specs.Outline.{handed}
 use Rattle.outline.proofs.handed.Goals as goal
 

@@ -1,5 +1,4 @@
 use mathlib.Core.Path.{sym, ◌∙◌}
-use borrow.Author.Rules.{rules}
 use Rattle.outline.specs.Outline.{keyword_of}
 use Rattle.outline.proofs.keyword_of.Goals as goal
 

@@ -1,4 +1,3 @@
-use borrow.Author.Rules.{rules}
 use Rattle.outline.proofs.moved.Goals as goal
 
 pub returns : goal.returns

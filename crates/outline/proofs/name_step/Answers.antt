@@ -1,4 +1,3 @@
-use borrow.Author.Rules.{rules}
 use Rattle.outline.proofs.Ways.{full-way, on-way}
 use Rattle.outline.proofs.name_step.Goals as goal
 

@@ -1,6 +1,5 @@
 use mathlib.Core.Path.{sym, ◌∙◌}
 use borrow.Author.Tests.{eq-eqb, ne_eqb}
-use borrow.Author.Rules.{rules}
 use Rattle.classes.proofs.Bools.{and-true, and-false}
 use Rattle.outline.specs.Outline.{declares, names}
 use Rattle.outline.proofs.names.Goals as goal

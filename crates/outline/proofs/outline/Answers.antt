@@ -1,5 +1,4 @@
 use mathlib.Core.Path.{sym, ◌∙◌}
-use borrow.Author.Rules.{rules}
 use Rattle.outline.proofs.Asked.{fault-place}
 use Rattle.outline.proofs.Whole.{faulty-way, fine-way}
 use Rattle.outline.proofs.outline.Goals as goal

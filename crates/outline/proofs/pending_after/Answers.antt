@@ -1,5 +1,4 @@
 use mathlib.Core.Path.{sym, ◌∙◌}
-use borrow.Author.Rules.{rules}
 use Rattle.outline.specs.Outline.{pending_after}
 use Rattle.outline.proofs.pending_after.Goals as goal
 

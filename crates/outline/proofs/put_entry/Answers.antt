@@ -1,5 +1,4 @@
 use native.Mathlib.Omega.{arith}
-use borrow.Author.Rules.{rules}
 use Rattle.outline.proofs.Pieces.{ends-below, narrow-entry, wide_by, past-entry}
 use Rattle.outline.proofs.put_entry.Goals as goal
 

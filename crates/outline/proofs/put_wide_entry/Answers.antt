@@ -1,4 +1,3 @@
-use borrow.Author.Rules.{rules}
 use Rattle.outline.proofs.Pieces.{wide-entry}
 use Rattle.outline.proofs.put_wide_entry.Goals as goal
 

@@ -1,5 +1,4 @@
 use mathlib.Core.Path.{◌∙◌}
-use borrow.Author.Rules.{rules}
 use Rattle.outline.proofs.read_many.Goals as goal
 
 pub returns : goal.returns

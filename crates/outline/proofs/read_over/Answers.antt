@@ -1,4 +1,3 @@
-use borrow.Author.Rules.{rules}
 use Rattle.outline.proofs.Whole.{over-refused, over-again, over-whole}
 use Rattle.outline.proofs.read_over.Goals as goal
 

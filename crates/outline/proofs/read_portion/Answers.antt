@@ -1,9 +1,7 @@
 use mathlib.Core.Path.{refl}
-use Prim.Native.Nat.{◌-◌}
 use native.Mathlib.Omega.{arith}
-use borrow.Author.Rules.{rules}
 use mathlib.Core.List.{[]}
-use Rattle.outline.proofs.Ways.{went-none, Going, going-long, goes_on, ends-way, fills-way, refused-way, limit-way}
+use Rattle.outline.proofs.Ways.{went-none, going-long, goes_on, ends-way, fills-way, refused-way, limit-way}
 use Rattle.outline.proofs.Whole.{from_start}
 use Rattle.outline.proofs.read_portion.Goals as goal
 

@@ -1,4 +1,3 @@
-
 use Rattle.outline.proofs.record_size.Goals as goal
 
 pub returns-then-wide : goal.returns-then-wide

@@ -1,5 +1,4 @@
 use borrow.Author.Tests.{eq-eqb, ne_eqb}
-use borrow.Author.Rules.{rules}
 use Rattle.outline.specs.Outline.{separates}
 use Rattle.outline.proofs.separates.Goals as goal
 

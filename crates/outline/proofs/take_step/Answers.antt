@@ -1,4 +1,3 @@
-use borrow.Author.Rules.{rules}
 use Rattle.outline.proofs.Ways.{token-of, comment-of, names-by, unread-way, eof-way, pass-way, name-way}
 use Rattle.outline.proofs.take_step.Goals as goal
 

@@ -1,7 +1,6 @@
 -- What the private functions of the outline answer: one step, and a portion with the records that it writes.
 use Rattle.std.specs.Prelude.{ℕ, ◌+◌, ◌-◌, ◌<◌, ◌≤◌, min, ◌≡◌, Bool, true, false, cond, List, eqb, length, take}
 use Rattle.std.proofs.lemmas.List.Edits.{sets}
-use Rattle.gap.specs.Gap.{gap}
 use Rattle.tokens.specs.Answers.{place}
 use Rattle.tokens.specs.Walk.{tokens_at}
 use Rattle.tokens.specs.declared.Place.{Place}

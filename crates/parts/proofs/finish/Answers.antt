@@ -1,6 +1,5 @@
 use mathlib.Core.Path.{sym, ◌∙◌}
 use Rattle.parts.specs.code.Meets.{followed_by}
-use borrow.Author.Rules.{rules}
 use Rattle.parts.proofs.finish.Goals as goal
 
 pub returns-in-Refused : goal.returns-in-Refused

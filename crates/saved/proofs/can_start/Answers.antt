@@ -1,5 +1,4 @@
 use Rattle.saved.proofs.Heads.{starts-front, starts-past, starts-wide, starts-narrow}
-use borrow.Author.Rules.{rules}
 use Rattle.saved.proofs.can_start.Goals as goal
 
 pub returns-then-p-first : goal.returns-then-p-first

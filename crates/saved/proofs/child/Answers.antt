@@ -1,7 +1,6 @@
 use mathlib.Core.Path.{◌∙◌}
 use Rattle.saved.specs.Answers.{open_call, child_call}
 use Rattle.saved.proofs.Calls.{opened-refused, opened-record, opened_nothing}
-use borrow.Author.Rules.{rules}
 use Rattle.saved.proofs.child.Goals as goal
 
 pub returns-in-Refused : goal.returns-in-Refused

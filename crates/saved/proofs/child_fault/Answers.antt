@@ -1,6 +1,5 @@
 use mathlib.Core.Path.{◌∙◌, sym}
 use Rattle.saved.proofs.Tests.{allowed-kind, fault-outside, fault-none, fault-child, fault-kind}
-use borrow.Author.Rules.{rules}
 use Rattle.saved.proofs.child_fault.Goals as goal
 
 pub returns-then-lies_outside : goal.returns-then-lies_outside

@@ -1,13 +1,9 @@
-use mathlib.Core.Path.{◌≡◌, ◌∙◌, sym, refl}
-use Prim.Native.Nat.{◌+◌, ◌≤◌}
+use mathlib.Core.Path.{◌∙◌, sym, refl}
 use native.Mathlib.Omega.{arith}
-use lib.ListN.{length}
-use Rattle.saved.specs.Child.{child_from}
 use Rattle.saved.specs.code.Scan.{form_by}
 use Rattle.saved.proofs.Heads.{fits_told, unfit-told}
 use Rattle.saved.proofs.Scan.{child-unfit}
 use Rattle.saved.proofs.Loops.{child-next, child-last}
-use borrow.Author.Rules.{rules}
 use Rattle.saved.proofs.child_from.Goals as goal
 
 pub loop-i-init : goal.loop-i-init

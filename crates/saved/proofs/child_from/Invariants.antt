@@ -1,13 +1,8 @@
-use mathlib.Core.Path.{◌≡◌, ◌∙◌, sym, refl}
+use mathlib.Core.Path.{◌≡◌}
 use Prim.Native.Nat.{◌+◌, ◌≤◌}
-use native.Mathlib.Omega.{arith}
 use lib.ListN.{length}
 use Rattle.saved.specs.Child.{child_from}
 use Rattle.saved.specs.code.Scan.{form_by}
-use Rattle.saved.proofs.Heads.{fits_told, unfit-told}
-use Rattle.saved.proofs.Scan.{child-unfit}
-use Rattle.saved.proofs.Loops.{child-next, child-last}
-use borrow.Author.Rules.{rules}
 use Rattle.saved.proofs.child_from.Given as goal
 
 abbrev pub invariant-loop-i : goal.invariant-loop-i

@@ -1,14 +1,10 @@
 use mathlib.Core.Path.{◌∙◌}
-use Prim.Native.Nat.{◌+◌, ◌≤◌}
 use native.Mathlib.Omega.{arith}
-use lib.ListN.{length}
 use Rattle.saved.specs.Open.{parent}
-use Rattle.saved.specs.code.Scan.{form_by, Runs}
-use Rattle.saved.specs.declared.FirstFault.{FirstFault}
+use Rattle.saved.specs.code.Scan.{form_by}
 use Rattle.saved.proofs.Heads.{size-some, fits_told, unfit-told}
 use Rattle.saved.proofs.Scan.{runs-stop, fault-unfit}
 use Rattle.saved.proofs.Loops.{some, runs-from, child-number, runs-next, runs_last}
-use borrow.Author.Rules.{rules}
 use Rattle.saved.proofs.children_fault.Goals as goal
 
 pub overflow_add-p : goal.overflow_add-p

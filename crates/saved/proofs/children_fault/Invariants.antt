@@ -1,14 +1,8 @@
-use mathlib.Core.Path.{◌∙◌}
 use Prim.Native.Nat.{◌+◌, ◌≤◌}
-use native.Mathlib.Omega.{arith}
 use lib.ListN.{length}
 use Rattle.saved.specs.Open.{parent}
 use Rattle.saved.specs.code.Scan.{form_by, Runs}
 use Rattle.saved.specs.declared.FirstFault.{FirstFault}
-use Rattle.saved.proofs.Heads.{size-some, fits_told, unfit-told}
-use Rattle.saved.proofs.Scan.{runs-stop, fault-unfit}
-use Rattle.saved.proofs.Loops.{some, runs-from, child-number, runs-next, runs_last}
-use borrow.Author.Rules.{rules}
 use Rattle.saved.proofs.children_fault.Given as goal
 
 abbrev pub invariant-loop-room : goal.invariant-loop-room

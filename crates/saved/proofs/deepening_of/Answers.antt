@@ -1,7 +1,6 @@
 use mathlib.Core.Path.{◌∙◌, sym}
 use borrow.Author.Tests.{eq-eqb, ne_eqb}
 use Rattle.saved.specs.Children.{is_type, deepens}
-use borrow.Author.Rules.{rules}
 use Rattle.saved.proofs.deepening_of.Goals as goal
 
 pub returns-then-within : goal.returns-then-within

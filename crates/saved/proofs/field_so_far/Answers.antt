@@ -1,4 +1,3 @@
-
 use Rattle.saved.proofs.field_so_far.Goals as goal
 
 pub returns-then-field : goal.returns-then-field

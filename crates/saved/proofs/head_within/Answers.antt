@@ -1,6 +1,5 @@
 use native.Mathlib.Omega.{arith}
 use Rattle.saved.proofs.Heads.{unfit-few, unfit-short, unfit-long, it-fits}
-use borrow.Author.Rules.{rules}
 use Rattle.saved.proofs.head_within.Goals as goal
 
 pub returns-then-room-size : goal.returns-then-room-size

@@ -1,5 +1,4 @@
 use Rattle.saved.specs.Children.{is_chain, is_type, is_binding, allows}
-use borrow.Author.Rules.{rules}
 use Rattle.saved.proofs.is_allowed.Goals as goal
 
 pub returns-in-NoChild : goal.returns-in-NoChild

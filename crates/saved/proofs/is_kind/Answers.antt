@@ -1,6 +1,5 @@
 use mathlib.Core.Path.{◌∙◌, sym}
 use Rattle.saved.specs.Children.{is_type, is_binding, is_kind}
-use borrow.Author.Rules.{rules}
 use Rattle.saved.proofs.is_kind.Goals as goal
 
 pub returns-then-within : goal.returns-then-within

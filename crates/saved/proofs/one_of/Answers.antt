@@ -1,5 +1,4 @@
 use borrow.Author.Tests.{eq-eqb, ne_eqb}
-use borrow.Author.Rules.{rules}
 use Rattle.saved.proofs.one_of.Goals as goal
 
 pub returns-then-k-a : goal.returns-then-k-a

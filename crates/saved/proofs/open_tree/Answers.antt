@@ -3,7 +3,6 @@ use native.Mathlib.Omega.{arith}
 use Rattle.saved.specs.code.Scan.{form_by}
 use Rattle.saved.proofs.Heads.{told-long}
 use Rattle.saved.proofs.Calls.{open-long, open-refused, open-never, open-whole, as_room, as_number}
-use borrow.Author.Rules.{rules}
 use Rattle.saved.proofs.open_tree.Goals as goal
 
 pub returns-then-text-gt-TEXT_LIMIT : goal.returns-then-text-gt-TEXT_LIMIT

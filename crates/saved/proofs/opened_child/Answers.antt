@@ -5,7 +5,6 @@ use lib.ListN.{length}
 use Rattle.saved.specs.code.Scan.{form_by}
 use Rattle.saved.proofs.Heads.{fits_told, unfit-told}
 use Rattle.saved.proofs.Calls.{child-nowhere, starts-inside, child-cut, child-found}
-use borrow.Author.Rules.{rules}
 use Rattle.saved.proofs.opened_child.Goals as goal
 
 pub returns-then-not-can_start : goal.returns-then-not-can_start

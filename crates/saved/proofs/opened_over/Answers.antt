@@ -1,5 +1,4 @@
 use borrow.Author.Tests.{eq-eqb, ne_eqb}
-use borrow.Author.Rules.{rules}
 use Rattle.saved.proofs.opened_over.Goals as goal
 
 pub returns-then-n-ne0 : goal.returns-then-n-ne0

@@ -1,6 +1,5 @@
 use mathlib.Core.Path.{◌∙◌, sym, refl}
 use Rattle.saved.proofs.Tests.{fault-outside, fault-none, fault-kind, outer-short, outer-as}
-use borrow.Author.Rules.{rules}
 use Rattle.saved.proofs.outermost_fault.Goals as goal
 
 pub returns-then-h-room : goal.returns-then-h-room

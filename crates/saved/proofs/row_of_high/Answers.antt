@@ -1,7 +1,6 @@
 use mathlib.Core.Path.{◌∙◌, sym}
 use borrow.Author.Tests.{eq-eqb, ne_eqb}
 use Rattle.saved.proofs.Tests.{high_row, high-row}
-use borrow.Author.Rules.{rules}
 use Rattle.saved.proofs.row_of_high.Goals as goal
 
 pub returns-then-k-eq-REC_STRUCT : goal.returns-then-k-eq-REC_STRUCT

@@ -2,7 +2,6 @@ use mathlib.Core.Path.{◌∙◌, sym}
 use borrow.Author.Tests.{eq-eqb, ne_eqb}
 use Rattle.saved.specs.Children.{row_of}
 use Rattle.saved.proofs.Tests.{low-none}
-use borrow.Author.Rules.{rules}
 use Rattle.saved.proofs.row_of_low.Goals as goal
 
 pub returns-then-either : goal.returns-then-either

@@ -1,6 +1,4 @@
-use mathlib.Core.Path.{◌≡◌, ◌∙◌, sym, refl}
-use Prim.Native.Nat.{◌≤◌}
-use Rattle.saved.specs.code.Scan.{still_open}
+use mathlib.Core.Path.{◌∙◌, sym, refl}
 use Rattle.saved.proofs.Scan.{open-here, open-below, open_none}
 use borrow.Author.Rules.{rules}
 use Rattle.saved.proofs.still_open.Goals as goal

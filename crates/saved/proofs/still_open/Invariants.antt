@@ -1,8 +1,6 @@
-use mathlib.Core.Path.{◌≡◌, ◌∙◌, sym, refl}
+use mathlib.Core.Path.{◌≡◌}
 use Prim.Native.Nat.{◌≤◌}
 use Rattle.saved.specs.code.Scan.{still_open}
-use Rattle.saved.proofs.Scan.{open-here, open-below, open_none}
-use borrow.Author.Rules.{rules}
 use Rattle.saved.proofs.still_open.Given as goal
 
 abbrev pub invariant-loop-d : goal.invariant-loop-d

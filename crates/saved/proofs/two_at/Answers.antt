@@ -1,7 +1,6 @@
 use Prim.Native.Nat.{◌+◌}
 use native.Mathlib.Omega.{arith}
 use Rattle.saved.proofs.Heads.{two_is}
-use borrow.Author.Rules.{rules}
 use Rattle.saved.proofs.two_at.Goals as goal
 
 pub overflow_mul-result : goal.overflow_mul-result

@@ -1,6 +1,5 @@
 use borrow.Author.Tests.{eq-eqb, ne_eqb}
 use Rattle.saved.specs.Children.{is_type, allows}
-use borrow.Author.Rules.{rules}
 use Rattle.saved.proofs.type_or_field.Goals as goal
 
 pub returns-then-k-eq-REC_FIELD : goal.returns-then-k-eq-REC_FIELD

@@ -1,12 +1,10 @@
-use Prim.Native.Nat.{◌-◌, ◌≤◌}
+use Prim.Native.Nat.{◌-◌}
 use native.Mathlib.Omega.{arith}
 use lib.ListN.{length}
-use Rattle.saved.specs.code.Scan.{form_by, Walks}
-use Rattle.saved.specs.declared.FirstFault.{FirstFault}
+use Rattle.saved.specs.code.Scan.{form_by}
 use Rattle.saved.proofs.Heads.{size-some, fits_told, unfit-told}
 use Rattle.saved.proofs.Scan.{open-few, few-by, walks-end, walks-unfit}
 use Rattle.saved.proofs.Loops.{walks_from, walks_next, walks-stop, kept-inside}
-use borrow.Author.Rules.{rules}
 use Rattle.saved.proofs.walk.Goals as goal
 
 pub overflow_sub-depth : goal.overflow_sub-depth

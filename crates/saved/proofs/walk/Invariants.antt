@@ -1,12 +1,7 @@
 use Prim.Native.Nat.{◌-◌, ◌≤◌}
-use native.Mathlib.Omega.{arith}
 use lib.ListN.{length}
 use Rattle.saved.specs.code.Scan.{form_by, Walks}
 use Rattle.saved.specs.declared.FirstFault.{FirstFault}
-use Rattle.saved.proofs.Heads.{size-some, fits_told, unfit-told}
-use Rattle.saved.proofs.Scan.{open-few, few-by, walks-end, walks-unfit}
-use Rattle.saved.proofs.Loops.{walks_from, walks_next, walks-stop, kept-inside}
-use borrow.Author.Rules.{rules}
 use Rattle.saved.proofs.walk.Given as goal
 
 abbrev pub invariant-loop-i : goal.invariant-loop-i

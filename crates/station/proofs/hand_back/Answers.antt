@@ -1,5 +1,4 @@
 use Rattle.station.proofs.Cases.{recorded, none, unopened}
-use borrow.Author.Rules.{rules}
 use Rattle.station.proofs.hand_back.Goals as goal
 
 pub returns-in-Record : goal.returns-in-Record

@@ -1,6 +1,5 @@
 use mathlib.Core.Path.{◌∙◌, sym}
 use Rattle.station.proofs.Cases.{all_moved, none-moved}
-use borrow.Author.Rules.{rules}
 use Rattle.station.proofs.movesig_carry.Goals as goal
 
 pub returns-in-Moved : goal.returns-in-Moved

@@ -1,6 +1,5 @@
 use mathlib.Core.Path.{◌∙◌, sym}
 use Rattle.station.proofs.Cases.{line, undisplayed}
-use borrow.Author.Rules.{rules}
 use Rattle.station.proofs.movesig_display.Goals as goal
 
 pub returns-in-Line : goal.returns-in-Line

@@ -1,6 +1,5 @@
 use mathlib.Core.Path.{◌∙◌, sym}
 use Rattle.station.proofs.Cases.{doc, nothing, broken}
-use borrow.Author.Rules.{rules}
 use Rattle.station.proofs.movesig_next_comment.Goals as goal
 
 pub returns-in-Doc : goal.returns-in-Doc

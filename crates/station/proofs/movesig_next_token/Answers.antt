@@ -1,5 +1,4 @@
 use Rattle.station.proofs.Cases.{found, refused}
-use borrow.Author.Rules.{rules}
 use Rattle.station.proofs.movesig_next_token.Goals as goal
 
 pub returns-in-Found : goal.returns-in-Found

@@ -1,5 +1,4 @@
 use Rattle.station.proofs.Cases.{handed}
-use borrow.Author.Rules.{rules}
 use Rattle.station.proofs.movesig_open.Goals as goal
 
 pub returns : goal.returns

@@ -1,5 +1,4 @@
 use Rattle.station.proofs.Cases.{hands}
-use borrow.Author.Rules.{rules}
 use Rattle.station.proofs.movesig_opened_child.Goals as goal
 
 pub returns : goal.returns

@@ -1,5 +1,4 @@
 use Rattle.station.proofs.Cases.{portion-read, portion-refused}
-use borrow.Author.Rules.{rules}
 use Rattle.station.proofs.movesig_outline.Goals as goal
 
 pub returns-in-Read : goal.returns-in-Read

@@ -1,4 +1,3 @@
-use borrow.Author.Rules.{rules}
 use Rattle.station.proofs.Cases.{item, rejected}
 use mathlib.Core.Path.{◌∙◌, sym}
 use Rattle.station.proofs.movesig_read.Goals as goal

@@ -1,5 +1,4 @@
 use mathlib.Core.Path.{refl}
-use borrow.Author.Rules.{rules}
 use Rattle.outline.specs.Calls.{pending_of}
 use Rattle.station.proofs.pending_of.Goals as goal
 

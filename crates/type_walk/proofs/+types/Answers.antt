@@ -1,16 +1,11 @@
-use Prim.Native.Nat.{ℕ, ◌+◌, ◌-◌, ◌*◌, ◌<◌, min}
-use lib.ListN.{length}
 use native.Mathlib.Omega.{arith}
 use Rattle.type_walk.proofs.Types.{brackets-refused, brackets-read, function-refused, result-refused, function-read, begins-reference, no-reference, no-reference-mut, marked-brackets, marked-reference, marked-function, marked_other, named-refused, named-alone, arguments-refused, named-read, type-deep, type-over, begins-some, begun-bad, begun-named, reference-bad, reference-refused, reference-read}
-use borrow.Author.Rules.{rules}
 use mathlib.Core.Path.{◌∙◌, sym}
 use Rattle.parts.proofs.Held.{next-found}
 use Rattle.lists.proofs.Contracts.{all-goes}
 use Rattle.chains.proofs.Names.{past-read}
 use borrow.Author.Tests.{not-true, not-false}
-use Rattle.grammar.specs.Types.{read_type}
-use Rattle.forms.proofs.Placing.{placed-long}
-use Rattle.lists.proofs.Listing.{Going, going-first, step-stopped, step-closes, step-last, step-on, step-goes, steps-refused, steps-closes, steps-item, item-there}
+use Rattle.lists.proofs.Listing.{going-first, step-stopped, step-closes, step-last, step-on, step-goes, steps-refused, steps-closes, steps-item, item-there}
 use Rattle.type_walk.proofs.+types.Goals as goal
 
 pub brackets_at-type_list-l-requires : goal.brackets_at-type_list-l-requires

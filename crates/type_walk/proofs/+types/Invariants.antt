@@ -1,19 +1,10 @@
 -- The measures of the cycle, and what each member is given at a measure and asks below it. A measure is six times the bytes behind the
 -- place where the member stands, and which member runs; an item's first token counts a byte more, unless it is EOF, so that a step to the
 -- next token falls whatever token a member is given.
-use Prim.Native.Nat.{ℕ, ◌+◌, ◌-◌, ◌*◌, ◌<◌, min}
+use Prim.Native.Nat.{◌+◌, ◌-◌, ◌*◌, min}
 use lib.ListN.{length}
-use native.Mathlib.Omega.{arith}
-use Rattle.type_walk.proofs.Types.{brackets-refused, brackets-read, function-refused, result-refused, function-read, begins-reference, no-reference, no-reference-mut, marked-brackets, marked-reference, marked-function, marked_other, named-refused, named-alone, arguments-refused, named-read, type-deep, type-over, begins-some, begun-bad, begun-named, reference-bad, reference-refused, reference-read}
-use borrow.Author.Rules.{rules}
-use mathlib.Core.Path.{◌∙◌, sym}
-use Rattle.parts.proofs.Held.{next-found}
-use Rattle.lists.proofs.Contracts.{all-goes}
-use Rattle.chains.proofs.Names.{past-read}
-use borrow.Author.Tests.{not-true, not-false}
 use Rattle.grammar.specs.Types.{read_type}
-use Rattle.forms.proofs.Placing.{placed-long}
-use Rattle.lists.proofs.Listing.{Going, going-first, step-stopped, step-closes, step-last, step-on, step-goes, steps-refused, steps-closes, steps-item, item-there}
+use Rattle.lists.proofs.Listing.{Going}
 use Rattle.type_walk.proofs.+types.Given as goal
 
 abbrev pub decreases-brackets_at : goal.decreases-brackets_at

@@ -1,5 +1,4 @@
 use Rattle.type_walk.proofs.Types.{angled-not, angled-both}
-use borrow.Author.Rules.{rules}
 use Rattle.type_walk.proofs.close_angles.Goals as goal
 
 pub returns-then-none : goal.returns-then-none
