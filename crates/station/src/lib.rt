@@ -1,5 +1,5 @@
-// What a station links: the calls as C functions, over numbers and byte slices. The C header is
-// include/movesig.h.
+// What a station calls, over numbers and byte slices: the functions that crates/station_c exports to C under the same
+// names, and that the program replay calls.
 #![tactic(auto)]
 
 ghost use Rattle.std.specs.Prelude.{◌≡◌, cond, length};
@@ -57,13 +57,7 @@ fn pending_of(n: &[u64; 3]) -> Pending
 }
 
 // The next token from `at` on, and whether LF stands between `at` and it.
-#[unsafe(no_mangle)]
-pub extern "C" fn movesig_next_token(
-    edition: u64,
-    text: &[u8],
-    at: usize,
-    answer: &mut [u64; 6],
-) -> u32
+pub fn movesig_next_token(edition: u64, text: &[u8], at: usize, answer: &mut [u64; 6]) -> u32
     ensures number { result ≡ token_number (token_call edition text.now at).lexed }
     ensures values { answer.new ≡ token_values (token_call edition text.now at).lexed (token_call edition text.now at).feed }
 {
@@ -83,13 +77,7 @@ pub extern "C" fn movesig_next_token(
 }
 
 // The first doc comment in the gap from `at` on.
-#[unsafe(no_mangle)]
-pub extern "C" fn movesig_next_comment(
-    edition: u64,
-    text: &[u8],
-    at: usize,
-    answer: &mut [u64; 6],
-) -> u32
+pub fn movesig_next_comment(edition: u64, text: &[u8], at: usize, answer: &mut [u64; 6]) -> u32
     ensures number { result ≡ comment_number (next_comment edition text.now at) }
     ensures values { answer.new ≡ comment_values (next_comment edition text.now at) }
 {
@@ -118,8 +106,7 @@ pub extern "C" fn movesig_next_comment(
 }
 
 // Reads the item of the kind from `at` on into the lent buffer.
-#[unsafe(no_mangle)]
-pub extern "C" fn movesig_read(
+pub fn movesig_read(
     kind: u64,
     edition: u64,
     text: &[u8],
@@ -145,8 +132,7 @@ pub extern "C" fn movesig_read(
 }
 
 // Displays the item of the kind from `at` on as one line in the lent buffer.
-#[unsafe(no_mangle)]
-pub extern "C" fn movesig_display(
+pub fn movesig_display(
     kind: u64,
     edition: u64,
     text: &[u8],
@@ -172,8 +158,7 @@ pub extern "C" fn movesig_display(
 }
 
 // Carries the lent notes, offsets of token starts in edition 1, to edition 2: all of them, or none.
-#[unsafe(no_mangle)]
-pub extern "C" fn movesig_carry(text: &[u8], notes: &mut [usize], answer: &mut [u64; 6]) -> u32
+pub fn movesig_carry(text: &[u8], notes: &mut [usize], answer: &mut [u64; 6]) -> u32
     ensures number { result ≡ carry_number (answer_of (carry text.now notes.old)) }
     ensures values { answer.new ≡ carry_values (answer_of (carry text.now notes.old)) }
     ensures notes { notes.new ≡ notes_after (carry text.now notes.old) notes.old }
@@ -193,8 +178,7 @@ pub extern "C" fn movesig_carry(text: &[u8], notes: &mut [usize], answer: &mut [
 
 // The outline of at most `limit` tokens from `at` on: its records into the lent buffer. What is pending is handed in and
 // handed back: a keyword's kind, and a comment's start and end.
-#[unsafe(no_mangle)]
-pub extern "C" fn movesig_outline(
+pub fn movesig_outline(
     edition: u64,
     text: &[u8],
     at: usize,
@@ -258,8 +242,7 @@ fn hand_back(a: Handed, answer: &mut [u64; 6]) -> u32
 }
 
 // Opens a saved tree over its text.
-#[unsafe(no_mangle)]
-pub extern "C" fn movesig_open(tree: &[u8], text: &[u8], answer: &mut [u64; 6]) -> u32
+pub fn movesig_open(tree: &[u8], text: &[u8], answer: &mut [u64; 6]) -> u32
     ensures number { result ≡ handed_number (open_call tree.now text.now) }
     ensures values { answer.new ≡ handed_values (open_call tree.now text.now) }
 {
@@ -267,8 +250,7 @@ pub extern "C" fn movesig_open(tree: &[u8], text: &[u8], answer: &mut [u64; 6]) 
 }
 
 // Opens a saved tree over its text, and hands back the child of an index of the record at an offset.
-#[unsafe(no_mangle)]
-pub extern "C" fn movesig_child(
+pub fn movesig_child(
     tree: &[u8],
     text: &[u8],
     offset: u64,
@@ -285,13 +267,7 @@ pub extern "C" fn movesig_child(
 }
 
 // The same in a tree that was opened before: nothing is refused, and the call costs as many steps as the index.
-#[unsafe(no_mangle)]
-pub extern "C" fn movesig_opened_child(
-    tree: &[u8],
-    offset: u64,
-    index: u64,
-    answer: &mut [u64; 6],
-) -> u32
+pub fn movesig_opened_child(tree: &[u8], offset: u64, index: u64, answer: &mut [u64; 6]) -> u32
     ensures number { result ≡ 0 }
     ensures values { answer.new ≡ handed_values (child_in tree.now offset index) }
 {

@@ -1,12 +1,16 @@
 // The token program: reads standard input and prints kind, start and end of each token.
 #![tactic(auto)]
-ghost use Rattle.std.specs.Prelude.{◌≡◌, ◌+◌, ◌*◌, ◌≤◌, ◌<◌, length, [], ◌∷◌};
+
+ghost use Rattle.std.specs.Prelude.{◌≡◌, ◌+◌, ◌*◌, ◌≤◌, ◌<◌, length, [], ◌∷◌, OnOk, IfSome};
+ghost use Rattle.std.specs.Io.KnownBytes.{Appends};
 ghost use Rattle.classes.specs.Bytes.{bytes};
 ghost use Rattle.buffer.specs.code.Written.{Written};
 ghost use Rattle.token_program.specs.Printed.{digit, in_decimal, three_line, token_line, refused_line, printed, input_limit, output};
 ghost use Rattle.tokens.specs.Walk.{tokens_of};
 
-use libc::{STDIN_FILENO, STDOUT_FILENO};
+use std::alloc::Global;
+use std::io;
+use std::io::{Read, Write};
 use tokens::refusals::TEXT_TOO_LONG;
 use tokens::{Lexed, Refusal, Token};
 use words::kinds::EOF;
@@ -16,6 +20,9 @@ const EDITION: u64 = 1;
 
 // The longest input.
 const INPUT_LIMIT: usize = 65535;
+
+// How many bytes are read at most: one more than the longest input has, which suffices to tell a longer one.
+const INPUT_ROOM: u64 = 65536;
 
 // Writes the digit of n that counts u's, where n reaches it, and answers where it ends.
 fn put_digit(out: &mut [u8], pos: usize, n: usize, u: usize) -> usize
@@ -144,10 +151,19 @@ fn lines_buffer() -> [u8; 1179656]
     [0; 1179656]
 }
 
-fn main() {
-    let mut text = io::large_buffer();
-    let n = io::read_full(STDIN_FILENO, &mut text);
+// Reads the input, up to INPUT_ROOM bytes of it, and writes what is printed of the whole. A read or a write
+// that fails ends it with that error.
+fn print_input<R: Read + Drop, W: Write>(alloc: Global, input: R, out: &mut W) -> io::Result<()>
+    ensures { OnOk result (IfSome (R.remaining input)
+        (λ text. Appends (W.contents out.old) (W.contents out.new) (output text))) }
+{
+    let mut text = Vec::new(alloc);
+    input.take(INPUT_ROOM).read_to_end(&mut text)?;
     let mut lines = lines_buffer();
-    let end = print_tokens(&text[..n], &mut lines);
-    io::write_all(STDOUT_FILENO, &lines[..end]);
+    let end = print_tokens(&text, &mut lines);
+    out.write_all(&lines[..end])
+}
+
+fn main(rt: HostRuntime) -> io::Result<()> {
+    print_input(rt.alloc(), rt.stdin(), &mut rt.stdout())
 }
