@@ -13,9 +13,10 @@
 // Texts and bytes are in hexadecimal, `-` for none. A line of another call is a branch of `holds` and a
 // function over `field_at`, `expected_at`, `bytes_at` and `numbers_at`.
 #![tactic(auto)]
+
 ghost use Rattle.std.specs.Prelude.{◌≡◌, ◌≤◌, ◌<◌, length};
 
-use libc::{STDIN_FILENO, STDOUT_FILENO};
+use std::io;
 
 // The room for the text of a line that is short: all but those of items.
 const SHORT_ROOM: usize = 128;
@@ -531,12 +532,11 @@ fn sample_buffer() -> [u8; 1048576]
     [0; 1048576]
 }
 
-fn main() {
+fn main(rt: HostRuntime) -> io::Result<()> {
     let mut sample = sample_buffer();
-    let n = io::read_full(STDIN_FILENO, &mut sample);
+    let n = inputs::read_full(&mut rt.stdin(), &mut sample)?;
     let t = replayed(&sample[..n]);
-    io::print_decimal(STDOUT_FILENO, t.lines);
-    io::write_all(STDOUT_FILENO, b" answers replayed, ");
-    io::print_decimal(STDOUT_FILENO, t.differ);
-    io::write_all(STDOUT_FILENO, b" differ\n");
+    let lines = t.lines;
+    let differ = t.differ;
+    println!(rt; "{lines} answers replayed, {differ} differ")
 }

@@ -12,7 +12,6 @@ use lib.ListN.{length, take, drop, length-take}
 use lib.Seq.{sets-eq, take_all, take-append_seam}
 use Rattle.std.specs.Prelude.{IfSome, Some, None}
 use Rattle.std.specs.Io.KnownBytes.{Appends}
-use Rattle.std.specs.Option.{option_map}
 use Rattle.std.specs.declared.option.Option.{Option}
 use Rattle.buffer.specs.code.Written.{Written}
 use Rattle.token_program.specs.Printed.{output, input_limit}
@@ -36,11 +35,11 @@ read-enough n xs h = go (ltb input_limit (length xs)) refl
         rw (lt-ltb input_limit (length (take n xs)) k, e)
     go false e = ap output (take_all n xs (omega (arith, ltb-false input_limit (length xs) e)))
 
--- where the bytes of the input are known, those that stand in the buffer `m` below the end `e` are what is printed of them: the first n
--- of them were read into the vector `v`, whose bytes `text` the buffer was filled from
-pub passed-on : (n : ℕ) (known old new : Option (List ℕ)) (v text l m : List ℕ) (e : ℕ) → input_limit < n
-    → IfSome (option_map (take n) known) (λ xs. v ≡ xs) → text ≡ v → Written l 0 (output text) e m → e ≤ length l → Appends old new (take e m)
+-- where the bytes of the input are known, those that stand in the buffer `m` below the end `e` are what is printed of them: `text`, from
+-- which the buffer was filled, is the first n of them
+pub passed-on : (n : ℕ) (known old new : Option (List ℕ)) (text l m : List ℕ) (e : ℕ) → input_limit < n
+    → IfSome known (λ xs. text ≡ take n xs) → Written l 0 (output text) e m → e ≤ length l → Appends old new (take e m)
     → IfSome known (λ xs. Appends old new (output xs))
-passed-on n None old new v text l m e q r t w h a = _
-passed-on n (Some xs) old new v text l m e q r t w h a =
-    let k : take e m ≡ output xs = written-front l m (output text) e w h ∙ ap output (t ∙ r) ∙ read-enough n xs q in rw k at a
+passed-on n None old new text l m e q r w h a = _
+passed-on n (Some xs) old new text l m e q r w h a =
+    let k : take e m ≡ output xs = written-front l m (output text) e w h ∙ ap output r ∙ read-enough n xs q in rw k at a

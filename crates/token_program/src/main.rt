@@ -8,7 +8,6 @@ ghost use Rattle.buffer.specs.code.Written.{Written};
 ghost use Rattle.token_program.specs.Printed.{digit, in_decimal, three_line, token_line, refused_line, printed, input_limit, output};
 ghost use Rattle.tokens.specs.Walk.{tokens_of};
 
-use std::alloc::Global;
 use std::io;
 use std::io::{Read, Write};
 use tokens::refusals::TEXT_TOO_LONG;
@@ -22,7 +21,7 @@ const EDITION: u64 = 1;
 const INPUT_LIMIT: usize = 65535;
 
 // How many bytes are read at most: one more than the longest input has, which suffices to tell a longer one.
-const INPUT_ROOM: u64 = 65536;
+const INPUT_ROOM: usize = 65536;
 
 // Writes the digit of n that counts u's, where n reaches it, and answers where it ends.
 fn put_digit(out: &mut [u8], pos: usize, n: usize, u: usize) -> usize
@@ -151,19 +150,26 @@ fn lines_buffer() -> [u8; 1179656]
     [0; 1179656]
 }
 
+// Zeros, for the input. The `ensures` gives only the length, which lending the array as a slice needs.
+fn input_buffer() -> [u8; INPUT_ROOM]
+    ensures { INPUT_ROOM ≡ length result }
+{
+    [0; INPUT_ROOM]
+}
+
 // Reads the input, up to INPUT_ROOM bytes of it, and writes what is printed of the whole. A read or a write
 // that fails ends it with that error.
-fn print_input<R: Read + Drop, W: Write>(alloc: Global, input: R, out: &mut W) -> io::Result<()>
+fn print_input<R: Read + Drop, W: Write>(mut input: R, out: &mut W) -> io::Result<()>
     ensures { OnOk result (IfSome (R.remaining input)
         (λ text. Appends (W.contents out.old) (W.contents out.new) (output text))) }
 {
-    let mut text = Vec::new(alloc);
-    input.take(INPUT_ROOM).read_to_end(&mut text)?;
+    let mut text = input_buffer();
+    let n = inputs::read_full(&mut input, &mut text)?;
     let mut lines = lines_buffer();
-    let end = print_tokens(&text, &mut lines);
+    let end = print_tokens(&text[..n], &mut lines);
     out.write_all(&lines[..end])
 }
 
 fn main(rt: HostRuntime) -> io::Result<()> {
-    print_input(rt.alloc(), rt.stdin(), &mut rt.stdout())
+    print_input(rt.stdin(), &mut rt.stdout())
 }

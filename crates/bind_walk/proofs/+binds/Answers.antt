@@ -97,12 +97,12 @@ parse_bind-returns-then-w-eq0 t c =
 pub parse_bind-returns-then-not-is_first : goal.parse_bind-returns-then-not-is_first
 parse_bind-returns-then-not-is_first t c =
     let x = c.args in
-    bind-unnamed x.w.form x.w.edition x.text.now x.s x.out.now _ x.a x.w.left c.if-w-eq0.false _ (sym c.is_first.ensures ∙ not-true _ c.if-not-is_first.true-raw) c.unexpected.ensures
+    bind-unnamed x.w.form x.w.edition x.text.now x.s x.out.now _ x.a x.w.left (omega arith) _ (sym c.is_first.ensures ∙ not-true _ c.if-not-is_first.true-raw) c.unexpected.ensures
 
 pub parse_bind-returns-then-is_variable : goal.parse_bind-returns-then-is_variable
 parse_bind-returns-then-is_variable t c =
     let x = c.args in
-    bind-one x.w.form x.w.edition x.text.now x.s x.out.now _ x.a x.w.left c.if-w-eq0.false _ (sym c.next_token-l.ensures ∙ c.in-Found.is) _
+    bind-one x.w.form x.w.edition x.text.now x.s x.out.now _ x.a x.w.left (omega arith) _ (sym c.next_token-l.ensures ∙ c.in-Found.is) _
     c.is_variable.ensures _ c.if-is_variable.true c.put_leaf-to.ensures
 
 pub parse_bind-unpack_at-requires : goal.parse_bind-unpack_at-requires
@@ -113,13 +113,13 @@ parse_bind-unpack_at-requires t c =
 pub parse_bind-returns-in-Refused : goal.parse_bind-returns-in-Refused
 parse_bind-returns-in-Refused t c =
     let x = c.args in
-    bind-refused x.w.form x.w.edition x.text.now x.s x.out.now _ x.a x.w.left c.if-w-eq0.false _ (sym c.is_first.ensures ∙ not-false _ c.if-not-is_first.false-raw) (sym c.next_token-l.ensures ∙ c.in-Refused.is)
+    bind-refused x.w.form x.w.edition x.text.now x.s x.out.now _ x.a x.w.left (omega arith) _ (sym c.is_first.ensures ∙ not-false _ c.if-not-is_first.false-raw) (sym c.next_token-l.ensures ∙ c.in-Refused.is)
 
 pub parse_bind-returns-else-is_variable : goal.parse_bind-returns-else-is_variable
 parse_bind-returns-else-is_variable t c =
     let x = c.args in
     let e = sym c.next_token-l.ensures ∙ c.in-Found.is in
-    bind-unpack x.w.form x.w.edition x.text.now x.s x.out.now _ x.a x.w.left c.if-w-eq0.false _ e _ c.is_variable.ensures _ c.if-is_variable.false
+    bind-unpack x.w.form x.w.edition x.text.now x.s x.out.now _ x.a x.w.left (omega arith) _ e _ c.is_variable.ensures _ c.if-is_variable.false
     (c.unpack_at.ensures e (sym c.is_first.ensures ∙ not-false _ c.if-not-is_first.false-raw))
 
 pub parse_bind_field-returns-then-w-eq0 : goal.parse_bind_field-returns-then-w-eq0
@@ -130,7 +130,7 @@ parse_bind_field-returns-then-w-eq0 t c =
 pub parse_bind_field-returns-then-a-ne-IDENTIFIER : goal.parse_bind_field-returns-then-a-ne-IDENTIFIER
 parse_bind_field-returns-then-a-ne-IDENTIFIER t c =
     let x = c.args in
-    field-other x.w.form x.w.edition x.text.now x.s x.out.now _ x.a x.w.left c.if-w-eq0.false _ c.if-a-ne-IDENTIFIER.true c.unexpected.ensures
+    field-other x.w.form x.w.edition x.text.now x.s x.out.now _ x.a x.w.left (omega arith) _ c.if-a-ne-IDENTIFIER.true c.unexpected.ensures
 
 pub parse_bind_field-field_bind-f-requires : goal.parse_bind_field-field_bind-f-requires
 parse_bind_field-field_bind-f-requires t c =
@@ -140,13 +140,13 @@ parse_bind_field-field_bind-f-requires t c =
 pub parse_bind_field-returns-in-Refused : goal.parse_bind_field-returns-in-Refused
 parse_bind_field-returns-in-Refused t c =
     let x = c.args in
-    field-bad x.w.form x.w.edition x.text.now x.s x.out.now _ x.a x.w.left c.if-w-eq0.false c.if-a-ne-IDENTIFIER.false _ (sym c.next_token-l.ensures ∙ c.in-Refused.is)
+    field-bad x.w.form x.w.edition x.text.now x.s x.out.now _ x.a x.w.left (omega arith) c.if-a-ne-IDENTIFIER.false _ (sym c.next_token-l.ensures ∙ c.in-Refused.is)
 
 pub parse_bind_field-returns-in-Found : goal.parse_bind_field-returns-in-Found
 parse_bind_field-returns-in-Found t c =
     let x = c.args in
     let e = sym c.next_token-l.ensures ∙ c.in-Found.is in
-    field_bound x.w.form x.w.edition x.text.now x.s x.out.now _ x.a x.w.left c.if-w-eq0.false c.if-a-ne-IDENTIFIER.false _ e (omega (arith, c.well_formed.1.1.1.0.0)) _ _ _ _ _
+    field_bound x.w.form x.w.edition x.text.now x.s x.out.now _ x.a x.w.left (omega arith) c.if-a-ne-IDENTIFIER.false _ e (omega (arith, c.well_formed.1.1.1.0.0)) _ _ _ _ _
     c.put_field_name-p.ensures (c.field_bind-f.ensures e) (c.close_record.ensures.answer, c.close_record.ensures.bytes)
 
 pub unpack_at-fields_at-f-requires : goal.unpack_at-fields_at-f-requires
