@@ -17,7 +17,7 @@ use Rattle.frames.proofs.Held.{Held, item-held}
 use Rattle.frames.proofs.Faithful.{item-fitting as numbers_fit}
 use Rattle.frames.proofs.Raised.{item_from_lem as item-raised}
 use Rattle.frames.proofs.Unbracketed.{rust-item as rust-unbracketed}
-use Rattle.calls.proofs.RefusalSets.{read-refusals as read_Meets, display-refusals as display-meets}
+use Rattle.calls.proofs.RefusalSets.{read-refusals as read-meets, display-refusals as display-meets}
 use Rattle.calls.proofs.Faithful.{room-enough as tree-fits, read-faithful as told-apart}
 use Rattle.roundtrip.specs.Theorems.{ReadsBack, AnswersBack, TokenFrom, FlagFrom, CommentFrom, ItemFrom, RustItem, TokenRefusals, CommentRefusals, ReadRefusals, DisplayRefusals, BeginsExactly, EditionsSame, EditionsNumber, EditionsRefused, OthersFirst, LineFeedThere, NoTokenHoldsLineFeed, Walk, last_start, flags, SameLine, TokensEnd, ItemPlaced, ItemFitting, ReadFaithful, RoomEnough}
 use Rattle.roundtrip.proofs.Theorem.{reads-back as read_again, answers-back as answered-again}
@@ -50,7 +50,7 @@ pub comment-refusals : CommentRefusals
 comment-refusals = comment-meets
 
 pub read-refusals : ReadRefusals
-read-refusals = read_Meets
+read-refusals = read-meets
 
 pub display-refusals : DisplayRefusals
 display-refusals = display-meets

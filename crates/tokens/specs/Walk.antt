@@ -18,7 +18,7 @@ listed (bad r) go = refused r
 listed (tok k s e w r) go = cond (eqb k EOF) (eof (token k s e)) (next (token k s e) (go e r))
 
 -- the tokens from a scanned one on, n of them at most before EOF; where `tokens_from` asks for them, what stands behind a
--- token at `zero` is never reached (`Walk-Ends` in proofs/Walks.antt)
+-- token at `zero` is never reached (`walk_ends` in proofs/Walks.antt)
 unfoldable pub walk : ℕ → ℕ → Scanned → Listed
 walk ed zero l = listed l (λ e r. eof (token EOF e e))
 walk ed (suc n) l = listed l (λ e r. walk ed n (scan ed e r))

@@ -36,15 +36,15 @@ still_open-open-requires c = omega (arith, c.loop-i.invariant.1)
 pub overflow_add-deep : goal.overflow_add-deep
 overflow_add-deep c =
     let deepening-of2 = c.deepening_of in
-    let still_Open = c.still_open-open in
+    let still_open = c.still_open-open in
     let loop = c.loop-i in
-    omega (arith, open-few loop.ends loop.depth loop.i, still_Open.ensures, few-by _ _ deepening-of2.ensures, loop.invariant.1)
+    omega (arith, open-few loop.ends loop.depth loop.i, still_open.ensures, few-by _ _ deepening-of2.ensures, loop.invariant.1)
 
 pub returns-then-deep-gt-LEVELS : goal.returns-then-deep-gt-LEVELS
 returns-then-deep-gt-LEVELS c =
     let if2 = c.if-deep-gt-LEVELS in
     let deepening-of2 = c.deepening_of in
-    let still_Open = c.still_open-open in
+    let still_open = c.still_open-open in
     let head-within = c.head_within-q in
     let if1 = c.loop-i-test in
     let loop = c.loop-i in
@@ -53,7 +53,7 @@ returns-then-deep-gt-LEVELS c =
     let f = form_by given.wide in
     let tree = given.tree.now in
     let t = fits_told f tree loop.i (length tree - loop.i) _ _ head-within.ensures c.in-Fits.is in
-    walks_from f tree _ _ given.outermost _ _ _ deepening-of.ensures (loop.invariant.2 _ (walks-stop f tree loop.ends loop.depth loop.i loop.kept if1.true loop.invariant.0 _ t _ still_Open.ensures _ deepening-of2.ensures if2.true))
+    walks_from f tree _ _ given.outermost _ _ _ deepening-of.ensures (loop.invariant.2 _ (walks-stop f tree loop.ends loop.depth loop.i loop.kept if1.true loop.invariant.0 _ t _ still_open.ensures _ deepening-of2.ensures if2.true))
 
 pub overflow_add-ends : goal.overflow_add-ends
 overflow_add-ends c =
@@ -69,16 +69,16 @@ overflow_add-ends c =
 pub offset_bounds-ends-open : goal.offset_bounds-ends-open
 offset_bounds-ends-open c =
     let deepening-of2 = c.deepening_of in
-    let still_Open = c.still_open-open in
+    let still_open = c.still_open-open in
     let loop = c.loop-i in
-    omega (arith, open-few loop.ends loop.depth loop.i, still_Open.ensures, few-by _ _ deepening-of2.ensures, loop.invariant.1)
+    omega (arith, open-few loop.ends loop.depth loop.i, still_open.ensures, few-by _ _ deepening-of2.ensures, loop.invariant.1)
 
 pub bounds-ends-open : goal.bounds-ends-open
 bounds-ends-open c =
     let deepening-of2 = c.deepening_of in
-    let still_Open = c.still_open-open in
+    let still_open = c.still_open-open in
     let loop = c.loop-i in
-    omega (arith, open-few loop.ends loop.depth loop.i, still_Open.ensures, few-by _ _ deepening-of2.ensures, loop.invariant.1)
+    omega (arith, open-few loop.ends loop.depth loop.i, still_open.ensures, few-by _ _ deepening-of2.ensures, loop.invariant.1)
 
 pub children_fault-requires : goal.children_fault-requires
 children_fault-requires c =
@@ -118,7 +118,7 @@ loop-i-preserved c =
     let children-fault = c.children_fault in
     let if2 = c.if-deep-gt-LEVELS in
     let deepening-of2 = c.deepening_of in
-    let still_Open = c.still_open-open in
+    let still_open = c.still_open-open in
     let head-within = c.head_within-q in
     let if1 = c.loop-i-test in
     let loop = c.loop-i in
@@ -129,7 +129,7 @@ loop-i-preserved c =
     let t = fits_told f tree loop.i (length tree - loop.i) _ _ head-within.ensures c.in-Fits.is in (
       kept-inside (length tree) loop.kept _ _ earlier-of.ensures loop.invariant.0,
       omega (arith, if2.false),
-      λ r x. loop.invariant.2 r (walks_next f tree loop.ends loop.depth loop.i loop.kept if1.true loop.invariant.0 _ t _ still_Open.ensures _ deepening-of2.ensures if2.false (omega (arith, (size-some given.wide).0)) _ children-fault.ensures _ earlier-of.ensures _ head-size.ensures r x),
+      λ r x. loop.invariant.2 r (walks_next f tree loop.ends loop.depth loop.i loop.kept if1.true loop.invariant.0 _ t _ still_open.ensures _ deepening-of2.ensures if2.false (omega (arith, (size-some given.wide).0)) _ children-fault.ensures _ earlier-of.ensures _ head-size.ensures r x),
     )
 
 pub returns : goal.returns
