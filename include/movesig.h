@@ -179,7 +179,7 @@ extern "C" {
 #define MOVESIG_MOST_NOTES 256
 
 /* Bytes of stack that are enough for any call. The most that was measured, over nests of every construct
- * and 1,000 at random, in texts of up to MOVESIG_LONGEST bytes, is 43,624; this is at least a fortieth more.
+ * and 1,000 at random, in texts of up to MOVESIG_LONGEST bytes, is 43,896; this is at least a fortieth more.
  * Measured, not proved: a test holds it to what is measured, and makes the calls in threads of this stack
  * beside their own. Put no buffer for a line or a tree on the same small stack. The three calls on saved trees
  * take less than 2,048 bytes, measured too. */

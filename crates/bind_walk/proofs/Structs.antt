@@ -13,11 +13,10 @@ use Rattle.tokens.specs.Refusals.{UnexpectedToken}
 use Rattle.tokens.specs.Calls.{next_token}
 use Rattle.tokens.specs.declared.Refusal.{Refusal}
 use Rattle.tokens.specs.declared.Token.{Token as Answer}
-use Rattle.tokens.specs.declared.Lexed.TheVariants.{Found}
 use Rattle.records.specs.Kinds.{RecStruct, RecStructTyped}
 use Rattle.records.specs.Tree.{Tree, node, Trees, more, joined}
 use Rattle.sources.specs.Source.{Source, opened, Lexeme, lex}
-use Rattle.answers.specs.Reading.{Ans, ok, then, look, when, Reader, list_behind}
+use Rattle.answers.specs.Reading.{Ans, ok, then, look, when, list_behind}
 use Rattle.grammar.specs.Names.{chain}
 use Rattle.grammar.specs.Types.{read_type}
 use Rattle.grammar.specs.Binds.{fields, struct_over, unpacked}
@@ -30,20 +29,19 @@ use Rattle.forms.proofs.Constructs.{laid-struct, laid-struct-typed}
 use Rattle.frames.proofs.Told.{types-behind, fields-every}
 use Rattle.parts.specs.declared.Way.{Way}
 use Rattle.parts.specs.declared.Part.{Part}
-use Rattle.parts.specs.declared.Parsed.{Parsed}
-use Rattle.parts.specs.declared.Parsed.TheVariants.{Read, Refused}
 use Rattle.parts.specs.code.Meets.{Fits, held, refused_token, Had, Contract, ReadsBy}
 use Rattle.parts.proofs.Held.{Next, next-found}
 use Rattle.parts.proofs.Contracts.{reads-no, reads-token, reads_as, reads-had, reads-goes, reads-not, goes-from, refuses-look}
-use Rattle.lists.specs.declared.Listed.{Listed}
 use Rattle.lists.specs.code.Lists.{part_of, ListContract}
-use Rattle.chains.specs.code.Parts.{Past, ReadsBehind}
+use Rattle.chains.specs.code.Parts.{Past}
 use Rattle.chains.proofs.Names.{when_true, when_false, past-from}
 use Rattle.bind_walk.specs.code.Pieces.{field_at, angled, braced, ended_by, marked_by, headed_by, TypesBehind}
 use Rattle.bind_walk.proofs.Parted.{then_ok, front, marked, closed-by}
+use Rattle.lists.specs.declared.Items.{Items}
+use Rattle.std.specs.Prelude.{Result, Ok, Err}
 
 -- looking at the token that stands at a place
-look_at : {B : Type 0} (ed : ℕ) (text : List ℕ) (q : ℕ) (b : Answer) (g : Lexeme → Ans B) → next_token ed text q ≡ Found b → look (lex (opened ed text q)) g ≡ g (held ed text b)
+look_at : {B : Type 0} (ed : ℕ) (text : List ℕ) (q : ℕ) (b : Answer) (g : Lexeme → Ans B) → next_token ed text q ≡ Ok b → look (lex (opened ed text q)) g ≡ g (held ed text b)
 unfolding look
 look_at ed text q b g h = rw (next-found ed text q b h).is
 
@@ -52,24 +50,20 @@ joins : (a b c d e : List ℕ) → a ++ (b ++ (c ++ (d ++ e))) ≡ (a ++ (b ++ (
 joins a b c d e = simp append_assoc
 
 -- the types behind the `<` o
-pub types-enclosed : (f ed : ℕ) (text : List ℕ) (n : ℕ) (o : Answer) (s q : Spot) (l l₂ m₂ m : List ℕ) (t : Listed) (p r : Parsed) → length l ≤ last → Placed l s (mark_in f (bytes "<")) q l₂
+pub types-enclosed : (f ed : ℕ) (text : List ℕ) (n : ℕ) (o : Answer) (s q : Spot) (l l₂ m₂ m : List ℕ) (t : Result Items Refusal) (p r : Result Part Refusal) → length l ≤ last → Placed l s (mark_in f (bytes "<")) q l₂
     → ListContract f ed text (read_type n) Greater o q l₂ t m₂ → p ≡ part_of t → (r ≡ ended_by f 62 p) × (m ≡ marked_by f 62 p m₂)
     → ReadsBy (angled f) ed text (list_behind (read_type n) Greater) o s l r m
 types-enclosed f ed text n o s q l l₂ m₂ m t p r h g d e w =
     let items : ReadsBy (laid_items f) ed text (list_behind (read_type n) Greater) o q l₂ p m₂ = rw e d.reads in
     marked f 62 (bytes "<") h g items w.0 w.1
 
--- a name at a place
-pub name-at : {w : Way} {text : List ℕ} {reader : Reader} {a d : Answer} {s i : Spot} {l m : List ℕ} {r : Parsed} → i ≡ s → ReadsBehind w text reader a d i l r m → ReadsBehind w text reader a d s l r m
-name-at {w} {text} {reader} {a} {d} {l = l} {m = m} {r = r} e v = subst (λ (z : Spot). ReadsBehind w text reader a d z l r m) e v
-
 -- the types, or none
 module _ (w : Way) (text : List ℕ) (p : Part) (l : List ℕ) where
-  pub behind-none : (p.next.kind ≡ Less → ⊥) → TypesBehind w text p l (Read p) l
+  pub behind-none : (p.next.kind ≡ Less → ⊥) → TypesBehind w text p l (Ok p) l
   unfolding Past
   behind-none k = record { plain = λ _. (refl, refl); typed = λ h. absurd (k h); past = omega arith }
 
-  pub behind-types : (r : Parsed) (m : List ℕ) → p.next.kind ≡ Less → ReadsBy (angled w.form) w.edition text (list_behind (read_type w.left) Greater) p.next p.to l r m → TypesBehind w text p l r m
+  pub behind-types : (r : Result Part Refusal) (m : List ℕ) → p.next.kind ≡ Less → ReadsBy (angled w.form) w.edition text (list_behind (read_type w.left) Greater) p.next p.to l r m → TypesBehind w text p l r m
   behind-types r m k d = record { plain = λ h. absurd (h k); typed = λ _. d; past = past-from w.edition text p.next.end r d.goes }
 
 module _ (f ed : ℕ) (text : List ℕ) (n : ℕ) where
@@ -78,14 +72,14 @@ module _ (f ed : ℕ) (text : List ℕ) (n : ℕ) where
     abbrev braces : Ans Trees
     braces = fields (read_type n) (field_at n) (held ed text b)
 
-    abbrev Fields : Parsed → Type 0
+    abbrev Fields : Result Part Refusal → Type 0
     Fields r = Contract (braced f) ed text (Fits text b) braces b.end s l r m
 
-    pub fields-other : (r : Parsed) → (b.kind ≡ LBrace → ⊥) → r ≡ refused_token UnexpectedToken b → Fields r
+    pub fields-other : (r : Result Part Refusal) → (b.kind ≡ LBrace → ⊥) → r ≡ refused_token UnexpectedToken b → Fields r
     unfolding fields
     fields-other r k e = reads-token UnexpectedToken b r (λ z. z) (λ _. when_false (eqb b.kind LBrace) _ _ (ne_eqb b.kind LBrace k)) e
 
-    pub fields-enclosed : (q : Spot) (l₂ m₂ : List ℕ) (t : Listed) (p r : Parsed) → length l ≤ last → b.kind ≡ LBrace → Placed l s (mark_in f (bytes " {")) q l₂
+    pub fields-enclosed : (q : Spot) (l₂ m₂ : List ℕ) (t : Result Items Refusal) (p r : Result Part Refusal) → length l ≤ last → b.kind ≡ LBrace → Placed l s (mark_in f (bytes " {")) q l₂
         → ListContract f ed text (field_at n) RBrace b q l₂ t m₂ → p ≡ part_of t → (r ≡ ended_by f 125 p) × (m ≡ marked_by f 125 p m₂) → Fields r
     unfolding fields
     fields-enclosed q l₂ m₂ t p r h k g d e w =
@@ -93,23 +87,23 @@ module _ (f ed : ℕ) (text : List ℕ) (n : ℕ) where
         reads_as (omega arith) (λ z. z) (λ _. when_true (eqb b.kind LBrace) _ _ (eq-eqb b.kind LBrace k)) (marked f 125 (bytes " {") h g items w.0 w.1)
 
   -- structs
-  module _ (a : Answer) (s i : Spot) (l l₁ : List ℕ) (c : Parsed) (d : ReadsBy (laid f) ed text chain a i l c l₁) where
+  module _ (a : Answer) (s i : Spot) (l l₁ : List ℕ) (c : Result Part Refusal) (d : ReadsBy (laid f) ed text chain a i l c l₁) where
     abbrev struct : Ans Tree
     struct = unpacked (read_type n) (field_at n) (held ed text a)
 
-    abbrev Unpack : Parsed → List ℕ → Type 0
+    abbrev Unpack : Result Part Refusal → List ℕ → Type 0
     Unpack r m = Contract (laid f) ed text (Fits text a) struct a.end s l r m
 
     -- the name is refused, or the token behind it
-    pub unpack-unnamed : (r : Refusal) → c ≡ Refused r → Unpack (Refused r) l₁
+    pub unpack-unnamed : (r : Refusal) → c ≡ Err r → Unpack (Err r) l₁
     unfolding unpacked struct_over
     unpack-unnamed r e = reads-no r (λ z. refuses-look (chain (held ed text a)) r _ (reads-not d r e z))
 
-    module _ (p : Part) (e : c ≡ Read p) where
+    module _ (p : Part) (e : c ≡ Ok p) where
       name-had : Fits text a → Had (laid f) ed text (chain (held ed text a)) i l p l₁
       name-had = reads-had d p e
 
-      name-goes : (a.end ≤ p.end) × (next_token ed text p.end ≡ Found p.next)
+      name-goes : (a.end ≤ p.end) × (next_token ed text p.end ≡ Ok p.next)
       name-goes = reads-goes d p e
 
       abbrev here : Next ed text p.end p.next
@@ -129,11 +123,11 @@ module _ (f ed : ℕ) (text : List ℕ) (n : ℕ) where
           then_ok (chain (held ed text a)) (λ x u. struct_over (read_type n) (field_at n) (held ed text a) x u) w.what (opened ed text p.end) w.is ∙ look_at ed text p.end p.next _ name-goes.1
 
       -- no types
-      unpack-plain : length l ≤ last → i ≡ inside f s → (p.next.kind ≡ Less → ⊥) → (q r : Parsed) (m₂ m : List ℕ)
+      unpack-plain : length l ≤ last → i ≡ inside f s → (p.next.kind ≡ Less → ⊥) → (q r : Result Part Refusal) (m₂ m : List ℕ)
           → ReadsBy (braced f) ed text (fields (read_type n) (field_at n)) p.next p.to l₁ q m₂ → (r ≡ q) × (m ≡ headed_by f RecStruct a.start s q m₂) → Unpack r m
       unpack-plain h j k q r m₂ m g w =
           let y = fields (read_type n) (field_at n) (held ed text p.next) in
-          subst (λ (x : Parsed). Unpack x m) (sym w.0)
+          subst (λ (x : Result Part Refusal). Unpack x m) (sym w.0)
           (record {
             meets = λ z.
                 (let v = name-had z in
@@ -145,7 +139,7 @@ module _ (f ed : ℕ) (text : List ℕ) (n : ℕ) where
           })
 
       -- types in `<` and `>`
-      module _ (k : p.next.kind ≡ Less) (t : Parsed) (l₂ : List ℕ)
+      module _ (k : p.next.kind ≡ Less) (t : Result Part Refusal) (l₂ : List ℕ)
           (g : ReadsBy (angled f) ed text (list_behind (read_type n) Greater) p.next p.to l₁ t l₂) where
         abbrev types : Ans Trees
         types = list_behind (read_type n) Greater (held ed text p.next)
@@ -153,15 +147,15 @@ module _ (f ed : ℕ) (text : List ℕ) (n : ℕ) where
         is-typed : (z : Fits text a) → struct ≡ typed (name-had z).what
         is-typed z = is-named z ∙ when_true (eqb p.next.kind Less) _ _ (eq-eqb p.next.kind Less k)
 
-        unpack-untyped : (r : Refusal) → t ≡ Refused r → Unpack (Refused r) l₂
+        unpack-untyped : (r : Refusal) → t ≡ Err r → Unpack (Err r) l₂
         unpack-untyped r x =
             reads-no r (λ z. is-typed z ∙ refuses-look types r _ (reads-not g r x here.fits))
 
-        module _ (q : Part) (x : t ≡ Read q) where
+        module _ (q : Part) (x : t ≡ Ok q) where
           types-had : Had (angled f) ed text types p.to l₁ q l₂
           types-had = reads-had g q x here.fits
 
-          types-goes : (p.next.end ≤ q.end) × (next_token ed text q.end ≡ Found q.next)
+          types-goes : (p.next.end ≤ q.end) × (next_token ed text q.end ≡ Ok q.next)
           types-goes = reads-goes g q x
 
           abbrev there : Next ed text q.end q.next
@@ -185,10 +179,10 @@ module _ (f ed : ℕ) (text : List ℕ) (n : ℕ) where
               laid-struct-typed f a.start e y types-had.what fs (types-behind n (held ed text p.next) types-had.what (opened ed text q.end) types-had.is) (fields-every n (held ed text q.next) fs u o)
               ∙ ap (headed f RecStructTyped a.start e) (joins (laid f y) (mark_in f (bytes "<")) (laid_items f types-had.what) (mark_in f (bytes ">")) (braced f fs))
 
-          unpack-typed : length l ≤ last → i ≡ inside f s → (v r : Parsed) (m₂ m : List ℕ) → Contract (braced f) ed text (Fits text q.next) rest q.next.end q.to l₂ v m₂
+          unpack-typed : length l ≤ last → i ≡ inside f s → (v r : Result Part Refusal) (m₂ m : List ℕ) → Contract (braced f) ed text (Fits text q.next) rest q.next.end q.to l₂ v m₂
               → (r ≡ v) × (m ≡ headed_by f RecStructTyped a.start s v m₂) → Unpack r m
           unpack-typed h j v r m₂ m o w =
-              subst (λ (x : Parsed). Unpack x m) (sym w.0)
+              subst (λ (x : Result Part Refusal). Unpack x m) (sym w.0)
               (record {
                 meets = λ z.
                     (let y = (name-had z).what in
@@ -200,21 +194,21 @@ module _ (f ed : ℕ) (text : List ℕ) (n : ℕ) where
               })
 
       -- types or none
-      module _ (t : Parsed) (l₂ : List ℕ) (g : TypesBehind (record { form = f; edition = ed; left = n }) text p l₁ t l₂) where
-        pub unpack-bad : (r : Refusal) → t ≡ Refused r → Unpack (Refused r) l₂
+      module _ (t : Result Part Refusal) (l₂ : List ℕ) (g : TypesBehind (record { form = f; edition = ed; left = n }) text p l₁ t l₂) where
+        pub unpack-bad : (r : Refusal) → t ≡ Err r → Unpack (Err r) l₂
         unpack-bad r x = go (eqb p.next.kind Less) refl
           where
-            go : (b : Bool) → eqb p.next.kind Less ≡ b → Unpack (Refused r) l₂
+            go : (b : Bool) → eqb p.next.kind Less ≡ b → Unpack (Err r) l₂
             go true k = let y = eqb-true p.next.kind Less k in unpack-untyped y t l₂ (g.typed y) r x
             go false k =
-                let y : Read p ≡ Refused r = sym (g.plain (eqb-false p.next.kind Less k)).0 ∙ x in
+                let y : Ok p ≡ Err r = sym (g.plain (eqb-false p.next.kind Less k)).0 ∙ x in
                 let z : ◌≡◌ {A = ℕ} 0 1 = cc in
                 absurd (omega arith)
 
-        abbrev Fielded : Part → List ℕ → Parsed → List ℕ → Type 0
+        abbrev Fielded : Part → List ℕ → Result Part Refusal → List ℕ → Type 0
         Fielded q k v m₂ = ReadsBy (braced f) ed text (fields (read_type n) (field_at n)) q.next q.to k v m₂
 
-        pub unpack-fields : length l ≤ last → i ≡ inside f s → (k : ℕ) → k ≡ cond (eqb p.next.kind Less) RecStructTyped RecStruct → (q : Part) → t ≡ Read q → (v r : Parsed) (m₂ m : List ℕ) → Fielded q l₂ v m₂
+        pub unpack-fields : length l ≤ last → i ≡ inside f s → (k : ℕ) → k ≡ cond (eqb p.next.kind Less) RecStructTyped RecStruct → (q : Part) → t ≡ Ok q → (v r : Result Part Refusal) (m₂ m : List ℕ) → Fielded q l₂ v m₂
             → (r ≡ v) × (m ≡ headed_by f k a.start s v m₂) → Unpack r m
         unpack-fields h j k c q x v r m₂ m o w = go (eqb p.next.kind Less) refl
           where
@@ -225,7 +219,7 @@ module _ (f ed : ℕ) (text : List ℕ) (n : ℕ) where
             go true e = let y = eqb-true p.next.kind Less e in unpack-typed y t l₂ (g.typed y) q x h j v r m₂ m o (w.0, headed-as true e)
             go false e =
                 let y = g.plain (eqb-false p.next.kind Less e) in
-                let z : Read p ≡ Read q = sym y.0 ∙ x in
+                let z : Ok p ≡ Ok q = sym y.0 ∙ x in
                 let u : p ≡ q = cc in
                 unpack-plain h j (eqb-false p.next.kind Less e) v r m₂ m
                 (subst (λ (b : Part). Fielded b l₁ v m₂) (sym u) (subst (λ (b : List ℕ). Fielded q b v m₂) y.1 o)) (w.0, headed-as false e)

@@ -1,15 +1,14 @@
 -- Runs of stores: one after the other, and what they leave of a buffer that has room for them.
 use mathlib.Core.Path.{◌≡◌, refl, sym, ap, ◌∙◌}
 use mathlib.Core.List.{List, [], ◌∷◌, ◌++◌}
-use Prim.Native.Nat.{ℕ, suc, ◌+◌, ◌<◌, ◌≤◌, min}
+use Prim.Native.Nat.{ℕ, suc, ◌+◌, ◌≤◌, min}
 use native.Mathlib.Omega.{arith}
-use native.Mathlib.Numerals.{add-one}
 use native.Mathlib.Nat.{add-zero, add-suc, suc-add, add_assoc}
 use mathlib.Core.Bool.{Bool, true, false}
 use borrow.Author.Tests.{ltb-true, ltb-false}
 use lib.Dec.{ltb}
-use lib.ListN.{length, get_or, set, drop, length-append, drop_of_length-le}
-use lib.Seq.{sets, set_out, length-sets, drop-cons}
+use lib.ListN.{length, set, drop, length-append, drop_of_length-le}
+use lib.Seq.{sets, set_out, length-sets}
 use Rattle.buffer.specs.code.Written.{Written}
 
 pub sets-append : (xs ys l : List ℕ) (i : ℕ) → sets l i (xs ++ ys) ≡ sets (sets l i xs) (i + length xs) ys
@@ -22,10 +21,12 @@ pub sets-out : (vs l : List ℕ) (i : ℕ) → length l ≤ i → sets l i vs �
 sets-out [] l i h = refl
 sets-out (v ∷ vs) l i h = let e : set l i v ≡ l = set_out l i v h in rw e (sets-out vs l (suc i) (omega arith))
 
--- a run byte by byte, up to its end or the buffer's
-pub sets-step : (xs l : List ℕ) (i : ℕ) → i < length xs → sets l i (drop i xs) ≡ sets (set l i (get_or xs i 0)) (i + 1) (drop (i + 1) xs)
-sets-step xs l i h = rw (drop-cons xs i 0 h, add-one i)
+-- a run behind a first byte
+pub sets-front : (vs : List ℕ) (a : ℕ) (l : List ℕ) (i : ℕ) → sets (a ∷ l) (suc i) vs ≡ a ∷ sets l i vs
+sets-front [] a l i = refl
+sets-front (v ∷ vs) a l i = sets-front vs a (set l i v) (suc i)
 
+-- a run that has reached its end or the buffer's
 pub sets-done : (xs l m : List ℕ) (i n : ℕ) → n ≡ min (length l) (length xs) → length m ≡ length l → n ≤ i → sets m i (drop i xs) ≡ m
 sets-done xs l m i n e h g = go (ltb i (length xs)) refl
   where

@@ -3,4 +3,3 @@ pub mod Room
 pub mod RefusalSets
 pub mod Faithful
 pub mod Answers
-pub mod Ends

@@ -3,9 +3,9 @@ use mathlib.Core.Path.{◌≡◌, refl, ap, sym, ◌∙◌, subst}
 use mathlib.Core.Bool.{Bool, true, false, cond, ◌&&◌}
 use mathlib.Core.List.{List}
 use Rattle.forms.specs.Unprintable.{FirstByte, clean, found_at, unprintable_in, unprintable}
-use Prim.Native.Nat.{ℕ, ◌+◌, ◌-◌, ◌<◌, ◌≤◌}
+use Prim.Native.Nat.{ℕ, ◌+◌, ◌-◌}
 use native.Mathlib.Omega.{arith}
-use borrow.Author.Tests.{eqb-true, eq-eqb, lt-ltb, le-ltb, ltb-true, ltb-false}
+use borrow.Author.Tests.{eqb-true, lt-ltb, le-ltb, ltb-true, ltb-false}
 use lib.Dec.{eqb, ltb}
 use lib.ListN.{length, take, drop, length-take, length-drop}
 use Rattle.classes.specs.Class.{is_ascii, shows}
@@ -16,11 +16,7 @@ use Rattle.tokens.specs.Refusals.{LineUnprintable}
 use Rattle.tokens.specs.Answers.{refusal}
 use Rattle.tokens.specs.declared.Refusal.{Refusal}
 use Rattle.tokens.specs.Calls.{unless}
-use Rattle.tokens.specs.declared.Fault.{Fault}
-use Rattle.tokens.specs.declared.Fault.TheVariants.{Faultless, Faulty}
 use Rattle.tokens.specs.declared.Token.{Token as First}
-use Rattle.tokens.specs.declared.Lexed.{Lexed}
-use Rattle.tokens.specs.declared.Lexed.TheVariants.{Found, Refused as Bad}
 use Rattle.tokens.proofs.Legible.{legible}
 use Rattle.records.specs.Tree.{Tree}
 use Rattle.sources.specs.Source.{opened, Lexeme, LexResult, tok, bad, lex}
@@ -35,7 +31,8 @@ use Rattle.frames.proofs.Words.{Unprintables, IsClean, other-clean, value-clean,
 use Rattle.parts.specs.code.Meets.{Fits, held}
 use Rattle.parts.proofs.Held.{next-found, next-refused}
 use Rattle.calls.specs.Calls.{unless_unprintable, if_printable}
-use Rattle.calls.specs.code.Given.{item_from, first_of, shown_end, unprintable_value, unprintable_first, unprintable_at, in_place}
+use Rattle.calls.specs.code.Given.{item_from, first_of, shown_end, unprintable_first, unprintable_at, in_place}
+use Rattle.std.specs.Prelude.{Option, Some, None, Result, Ok, Err, ⊤}
 
 -- two items that are one have one tree
 pub item-only : (x y : Tree) (t u : Lexeme) → item x t ≡ item y u → x ≡ y
@@ -118,18 +115,15 @@ module _ (ask : Asked) (a : First) (f : Fits ask.text a) (g : Ascii ask.text a) 
         go true p false q = unprintable-item IsClean x t (value (held ask.edition ask.text a)) (value-clean (held ask.edition ask.text a) q) (ap finished (sym (kind-two ask.kind (held ask.edition ask.text a) p)) ∙ e)
         go false p c q = unprintable-item IsClean x t (read_kind ask.kind (held ask.edition ask.text a)) (other-clean ask.kind (held ask.edition ask.text a) p) e
 
--- the place of a value's first unprintable byte, by the run
-module _ (text : List ℕ) (a : First) (n : ℕ) (k : a.kind ≡ ByteStringValue) (e : n ≡ shown_end text a) where
-  pub value-at : n < a.end → n ≡ unprintable_value text a
-  value-at h = rw (eq-eqb a.kind ByteStringValue k, lt-ltb (shown_end text a) a.end (omega arith)) e
-
-  pub value_none : a.end ≤ n → length text ≡ unprintable_value text a
-  value_none h = rw (eq-eqb a.kind ByteStringValue k, le-ltb (shown_end text a) a.end (omega arith))
+-- the first byte of what has an unprintable one there, where it has one
+abbrev first_byte : Option ℕ → FirstByte
+first_byte (Some b) = found_at b
+first_byte None = clean
 
 -- an item that is read is that of the token that is found at its offset
-record Begun (ask : Asked) (first : Lexed) (x : Tree) (t : Lexeme) : Type 0 where
+record Begun (ask : Asked) (first : Result First Refusal) (x : Tree) (t : Lexeme) : Type 0 where
   token : First
-  found : first ≡ Found token
+  found : first ≡ Ok token
   fits : Fits ask.text token
   ascii : Ascii ask.text token
   from : item_from ask token ≡ item x t
@@ -139,68 +133,56 @@ module _ (ask : Asked) where
   of = ask.text
 
   -- no refusal of the caller
-  admitted : (x : Tree) (t : Lexeme) → read_item ask ≡ item x t → (fault_of ask ≡ Faultless) × (finished (reading ask) ≡ item x t)
+  admitted : (x : Tree) (t : Lexeme) → read_item ask ≡ item x t → (fault_of ask ≡ (Ok tt)) × (finished (reading ask) ≡ item x t)
   unfolding read_item unless
   admitted x t e = go (fault_of ask) refl e
     where
-      go : (f : Fault) → fault_of ask ≡ f → unless refused f (finished (reading ask)) ≡ item x t → (fault_of ask ≡ Faultless) × (finished (reading ask) ≡ item x t)
-      go Faultless p h = (p, h)
-      go (Faulty r) p h = absurd (not-item x t r h)
+      go : (f : Result ⊤ Refusal) → fault_of ask ≡ f → unless refused f (finished (reading ask)) ≡ item x t → (fault_of ask ≡ (Ok tt)) × (finished (reading ask) ≡ item x t)
+      go (Ok tt) p h = (p, h)
+      go (Err r) p h = absurd (not-item x t r h)
 
-  begun : (first : Lexed) → first ≡ first_of ask → (x : Tree) (t : Lexeme) → read_item ask ≡ item x t → Begun ask first x t
+  begun : (first : Result First Refusal) → first ≡ first_of ask → (x : Tree) (t : Lexeme) → read_item ask ≡ item x t → Begun ask first x t
   unfolding finished look
-  begun (Found a) f x t e =
+  begun (Ok a) f x t e =
       let n = next-found ask.edition of ask.at a (sym f) in
       record { token = a; found = refl; fits = n.fits; ascii = found-ascii ask.edition of ask.at a n.is; from = ap (λ (l : LexResult). finished (look l (read_kind ask.kind))) (sym n.is) ∙ (admitted x t e).1 }
-  begun (Bad r) f x t e =
+  begun (Err r) f x t e =
       let g = admitted x t e in
       let d = in_order_lem ask g.0 in
       absurd (not-item x t r (ap (λ (l : LexResult). finished (look l (read_kind ask.kind))) (sym (next-refused ask.edition of ask.at d.short d.inside r (sym f))) ∙ g.1))
 
-  module _ (first : Lexed) (f : first ≡ first_of ask) (b : ℕ) (h : b ≡ unprintable_at ask.kind of first) where
-    -- the place, by the item's first token
-    at-token : (a : First) → first ≡ Found a → b ≡ cond (eqb ask.kind 2) (cond (eqb a.kind ByteStringValue && ltb (shown_end of a) a.end) (shown_end of a) (length of)) (length of)
+  module _ (first : Result First Refusal) (f : first ≡ first_of ask) where
+    -- where it stands, by the item's first token
+    at-token : (b : Option ℕ) → b ≡ unprintable_at ask.kind of first → (a : First) → first ≡ Ok a
+        → b ≡ cond (eqb ask.kind 2) (cond (eqb a.kind ByteStringValue && ltb (shown_end of a) a.end) (Some (shown_end of a)) None) None
     unfolding unprintable_first
-    at-token a e = h ∙ ap (unprintable_at ask.kind of) e
+    at-token b h a e = h ∙ ap (unprintable_at ask.kind of) e
 
-    -- where no byte is unprintable, the item is clean; where one is, it is the first
-    item-clean : (x : Tree) (t : Lexeme) → read_item ask ≡ item x t → length of ≤ b → unprintable x ≡ clean
-    item-clean x t e l =
+    -- the first byte of an item, as it was found by its first token
+    item-byte : (b : Option ℕ) → b ≡ unprintable_at ask.kind of first → (x : Tree) (t : Lexeme) → read_item ask ≡ item x t → unprintable x ≡ first_byte b
+    item-byte b h x t e =
         let d = begun first f x t e in
         let a = d.token in
-        unprintable-is ask a d.fits d.ascii x t d.from ∙ go a d.fits (eqb ask.kind 2) (eqb a.kind ByteStringValue) (ltb (shown_end of a) a.end) refl (at-token a d.found)
+        unprintable-is ask a d.fits d.ascii x t d.from ∙ go a (eqb ask.kind 2) (eqb a.kind ByteStringValue) (ltb (shown_end of a) a.end) (at-token b h a d.found)
       where
-        go : (a : First) → Fits of a → (p q r : Bool) → ltb (shown_end of a) a.end ≡ r → b ≡ cond p (cond (q && r) (shown_end of a) (length of)) (length of)
-            → cond (p && q) (cond r (found_at (shown_end of a)) clean) clean ≡ clean
-        go a k true true true i j = let m = ltb-true (shown_end of a) a.end i in absurd (omega (arith, k.2))
-        go a k true true false i j = refl
-        go a k true false r i j = refl
-        go a k false q r i j = refl
+        go : (a : First) → (p q r : Bool) → b ≡ cond p (cond (q && r) (Some (shown_end of a)) None) None → cond (p && q) (cond r (found_at (shown_end of a)) clean) clean ≡ first_byte b
+        go a true true true j = ap first_byte (sym j)
+        go a true true false j = ap first_byte (sym j)
+        go a true false r j = ap first_byte (sym j)
+        go a false q r j = ap first_byte (sym j)
 
-    item-unprintable : (x : Tree) (t : Lexeme) → read_item ask ≡ item x t → b < length of → unprintable x ≡ found_at b
-    item-unprintable x t e l =
-        let d = begun first f x t e in
-        let a = d.token in
-        unprintable-is ask a d.fits d.ascii x t d.from ∙ go a (eqb ask.kind 2) (eqb a.kind ByteStringValue) (ltb (shown_end of a) a.end) (at-token a d.found)
-      where
-        go : (a : First) → (p q r : Bool) → b ≡ cond p (cond (q && r) (shown_end of a) (length of)) (length of) → cond (p && q) (cond r (found_at (shown_end of a)) clean) clean ≡ found_at b
-        go a true true true j = ap found_at (sym j)
-        go a true true false j = absurd (omega arith)
-        go a true false r j = absurd (omega arith)
-        go a false q r j = absurd (omega arith)
-
-    pub read-clean : length of ≤ b → if_printable (read_item ask) ≡ read_item ask
+    pub read-clean : None ≡ unprintable_at ask.kind of first → if_printable (read_item ask) ≡ read_item ask
     unfolding if_printable unless_unprintable
-    read-clean l = go (read_item ask) refl
+    read-clean h = go (read_item ask) refl
       where
         go : (i : Item) → read_item ask ≡ i → if_printable i ≡ i
-        go (item x t) e = ap (λ (o : FirstByte). unless_unprintable o (item x t)) (item-clean x t e l)
+        go (item x t) e = ap (λ (o : FirstByte). unless_unprintable o (item x t)) (item-byte None h x t e)
         go (refused r) e = refl
 
-    pub read-unprintable : b < length of → (q : Refusal) → q ≡ refusal LineUnprintable b (b + 1) → if_printable (read_item ask) ≡ in_place q (read_item ask)
+    pub read-unprintable : (b : ℕ) → Some b ≡ unprintable_at ask.kind of first → (q : Refusal) → q ≡ refusal LineUnprintable b (b + 1) → if_printable (read_item ask) ≡ in_place q (read_item ask)
     unfolding if_printable unless_unprintable in_place
-    read-unprintable l q g = go (read_item ask) refl
+    read-unprintable b h q g = go (read_item ask) refl
       where
         go : (i : Item) → read_item ask ≡ i → if_printable i ≡ in_place q i
-        go (item x t) e = ap (λ (o : FirstByte). unless_unprintable o (item x t)) (item-unprintable x t e l) ∙ ap refused (sym g)
+        go (item x t) e = ap (λ (o : FirstByte). unless_unprintable o (item x t)) (item-byte (Some b) h x t e) ∙ ap refused (sym g)
         go (refused r) e = refl

@@ -1,7 +1,7 @@
 -- The read call and the display call, for every text, offset, kind number, edition number and buffer, over the form in which the tree of
 -- an item is written, which for a read the text and the tree decide. What is left of a call is its form, its room and its answer, and of a
 -- display that no byte of its line is unprintable.
-use Rattle.std.specs.Prelude.{ℕ, ◌+◌, min, List, [], ◌∷◌, ◌++◌, ltb, length, drop}
+use Rattle.std.specs.Prelude.{ℕ, ◌+◌, min, List, [], ◌∷◌, ◌++◌, ltb, length, drop, Result, Ok, Err}
 use Rattle.forms.specs.Unprintable.{FirstByte, clean, found_at, unprintable}
 use Rattle.tokens.specs.Refusals.{NoRoom, LineUnprintable}
 use Rattle.tokens.specs.Answers.{refusal, places}
@@ -10,10 +10,9 @@ use Rattle.sources.specs.Source.{token_of}
 use Rattle.answers.specs.Reading.{when}
 use Rattle.grammar.specs.Items.{Item, item, refused, Asked, read_item}
 use Rattle.forms.specs.Forms.{FormLine, written, form_of}
-use Rattle.calls.specs.declared.Answer.{Answer}
-use Rattle.calls.specs.declared.Answer.TheVariants.{Item as Accepted, Refused as Rejected}
-use Rattle.calls.specs.declared.Displayed.{Displayed}
-use Rattle.calls.specs.declared.Displayed.TheVariants.{Line, Refused as Undisplayed}
+use Rattle.tokens.specs.declared.Refusal.{Refusal}
+use Rattle.tokens.specs.declared.Token.{Token}
+use Rattle.calls.specs.declared.Accepted.{Accepted}
 
 -- the longest line
 abbrev pub line_limit : ℕ
@@ -38,10 +37,13 @@ unfoldable pub if_printable : Item → Item
 if_printable (item x t) = unless_unprintable (unprintable x) (item x t)
 if_printable (refused r) = refused r
 
+abbrev pub accepted : ℕ → Token → Result Accepted Refusal
+accepted n t = Ok (record { len = n; next = t })
+
 -- the length in its form and the token that follows, or the refusal
-unfoldable pub answered_in : (Tree → ℕ) → Item → Answer
-answered_in form (item x t) = Accepted (length (written (form x) x)) (token_of t)
-answered_in form (refused r) = Rejected r
+unfoldable pub answered_in : (Tree → ℕ) → Item → Result Accepted Refusal
+answered_in form (item x t) = accepted (length (written (form x) x)) (token_of t)
+answered_in form (refused r) = Err r
 
 -- the read call: the item's stored tree
 unfoldable pub read : Asked → ℕ → Item
@@ -50,17 +52,17 @@ read q room = roomed (form_of q.text) room (read_item q)
 unfoldable pub read_buffer : Asked → List ℕ → List ℕ
 read_buffer q out = filled (form_of q.text) (read q (length out)) out
 
-unfoldable pub answered : List ℕ → Item → Answer
+unfoldable pub answered : List ℕ → Item → Result Accepted Refusal
 answered text i = answered_in (form_of text) i
 
 -- for every case of the answer its number, 0 where nothing is refused, and its six values
-unfoldable pub read_number : Answer → ℕ
-read_number (Accepted n t) = 0
-read_number (Rejected r) = r.number
+unfoldable pub read_number : Result Accepted Refusal → ℕ
+read_number (Ok a) = 0
+read_number (Err r) = r.number
 
-unfoldable pub read_values : Answer → List ℕ
-read_values (Accepted n t) = n ∷ t.kind ∷ t.start ∷ t.end ∷ 0 ∷ 0 ∷ []
-read_values (Rejected r) = places r
+unfoldable pub read_values : Result Accepted Refusal → List ℕ
+read_values (Ok a) = a.len ∷ a.next.kind ∷ a.next.start ∷ a.next.end ∷ 0 ∷ 0 ∷ []
+read_values (Err r) = places r
 
 -- the display call: the item's line, which has no more room than the longest line. So the order is 1, 2, 3, 19, the walk's 5 to 9 or
 -- 21, the item's 5 to 14, 18, 4
@@ -74,14 +76,14 @@ unfoldable pub display_buffer : Asked → List ℕ → List ℕ
 display_buffer q out = filled as_line (display q (length out)) out
 
 -- the line's length alone
-unfoldable pub displayed : Item → Displayed
-displayed (item x t) = Line (length (written FormLine x))
-displayed (refused r) = Undisplayed r
+unfoldable pub displayed : Item → Result ℕ Refusal
+displayed (item x t) = Ok (length (written FormLine x))
+displayed (refused r) = Err r
 
-unfoldable pub display_number : Displayed → ℕ
-display_number (Line n) = 0
-display_number (Undisplayed r) = r.number
+unfoldable pub display_number : Result ℕ Refusal → ℕ
+display_number (Ok n) = 0
+display_number (Err r) = r.number
 
-unfoldable pub display_values : Displayed → List ℕ
-display_values (Line n) = n ∷ 0 ∷ 0 ∷ 0 ∷ 0 ∷ 0 ∷ []
-display_values (Undisplayed r) = places r
+unfoldable pub display_values : Result ℕ Refusal → List ℕ
+display_values (Ok n) = n ∷ 0 ∷ 0 ∷ 0 ∷ 0 ∷ 0 ∷ []
+display_values (Err r) = places r

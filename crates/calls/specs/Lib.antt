@@ -1,3 +1,4 @@
+pub mod Kind
 pub mod Calls
 pub mod RefusalSets
 pub mod code

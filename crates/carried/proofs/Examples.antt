@@ -13,9 +13,9 @@ use Rattle.words.specs.Quote.{ends_line, quote_from}
 use Rattle.tokens.specs.Token.{typed, digits_len, more_digits, more_hex, decimal_len, decimal, hex_typed, hex_len, hex_number, number_token, string_by, string, opens_string, string_refusal, name, word_token, mark, find_token, placed, behind_gap, scan}
 use Rattle.tokens.specs.Calls.{◌or_else◌, place_fault, unless}
 use Rattle.tokens.specs.Walk.{walk, tokens_from, tokens_at}
-use Rattle.tokens.specs.declared.Fault.TheVariants.{Faultless}
 use Rattle.carried.specs.Carry.{refusal_of, is_start, covers, covering_start, bad_note, carry_fault, carry, answer_of, notes_after, carry_number, carry_values}
 use Rattle.carried.specs.Examples.{given, examples}
+use Rattle.std.specs.Prelude.{Ok}
 
 -- the definitions by which a gap and a word are found; a token; the tokens of a text; and what is carried
 unfoldable scanning : Unit {0}
@@ -31,7 +31,7 @@ unfolding ◌or_else◌ place_fault unless walk tokens_from tokens_at refusal_of
 carrying = tt
 
 -- that edition 2 reads what edition 1 reads has no converse
-pub only-edition-2 : refusal_of (tokens_at 2 (bytes "1_x\"a\"") 0) ≡ Faultless
+pub only-edition-2 : refusal_of (tokens_at 2 (bytes "1_x\"a\"") 0) ≡ Ok tt
 unfolding scanning lexing carrying
 only-edition-2 = refl
 

@@ -12,27 +12,25 @@ use Rattle.tokens.specs.RefusalSets.{among, lex_refusals}
 use Rattle.tokens.specs.Calls.{text_limit, unless, next_token}
 use Rattle.tokens.specs.Walk.{Listed, tokens_at}
 use Rattle.tokens.specs.declared.Refusal.{Refusal}
-use Rattle.tokens.specs.declared.Fault.{Fault}
-use Rattle.tokens.specs.declared.Fault.TheVariants.{Faultless, Faulty}
-use Rattle.tokens.specs.declared.Lexed.TheVariants.{Refused}
 use Rattle.tokens.proofs.Faults.{Each, each-else, too_long}
 use Rattle.tokens.proofs.RefusalSets.{subset, among-subset, token-text-refusals}
 use Rattle.tokens.proofs.Steps.{next-faulty}
 use Rattle.carried.specs.Carry.{refusal_of, is_start, covering_start, bad_note, carry_fault, rejected, moved, carry}
 use Rattle.carried.specs.Promised.{carry_refusals, RefusedWith}
 use Rattle.carried.proofs.Walked.{Walked, over, stopped, going, walked}
+use Rattle.std.specs.Prelude.{Result, Ok, Err, ⊤}
 
 abbrev Known : Refusal → Type 0
 Known r = among carry_refusals r.number ≡ true
 
 -- the token call of a walk
-token-known : (ed : ℕ) (text : List ℕ) (at : ℕ) → at ≤ length text → (r : Refusal) → next_token ed text at ≡ Refused r → Known r
+token-known : (ed : ℕ) (text : List ℕ) (at : ℕ) → at ≤ length text → (r : Refusal) → next_token ed text at ≡ Err r → Known r
 unfolding among subset
 token-known ed text at h r e = go (ltb text_limit (length text)) refl
   where
     go : (b : Bool) → ltb text_limit (length text) ≡ b → Known r
     go true q =
-        let f : Refused (refusal 1 0 0) ≡ Refused r = next-faulty ed text at (refusal 1 0 0) (sym (too_long text at (ltb-true text_limit (length text) q))) ∙ e in
+        let f : Err (refusal 1 0 0) ≡ Err r = next-faulty ed text at (refusal 1 0 0) (sym (too_long text at (ltb-true text_limit (length text) q))) ∙ e in
         let g : refusal 1 0 0 ≡ r = cc in
         ap (λ (x : Refusal). among carry_refusals x.number) (sym g)
     go false q = among-subset lex_refusals carry_refusals refl r.number (token-text-refusals ed text at (ltb-false text_limit (length text) q) h r e)
@@ -48,7 +46,7 @@ unfolding bad_note among
 note-known old i [] = tt
 note-known old i (x ∷ notes) = go (leb 256 i || not (is_start old x)) (note-known old (suc i) notes)
   where
-    go : (b : Bool) → Each Known (bad_note old (suc i) notes) → Each Known (cond b (Faulty (refusal 20 i i)) (bad_note old (suc i) notes))
+    go : (b : Bool) → Each Known (bad_note old (suc i) notes) → Each Known (cond b (Err (refusal 20 i i)) (bad_note old (suc i) notes))
     go true ih = refl
     go false ih = ih
 
@@ -62,6 +60,6 @@ pub refused-with : RefusedWith
 unfolding carry unless
 refused-with text notes r e = go (carry_fault text notes) (fault-known text notes) e
   where
-    go : (f : Fault) → Each Known f → unless rejected f (moved (map (covering_start (tokens_at 2 text 0)) notes)) ≡ rejected r → Known r
-    go Faultless h q = let z : ◌≡◌ {A = ℕ} 0 1 = cc in absurd (omega arith)
-    go (Faulty s) h q = let g : s ≡ r = cc in ap (λ (x : Refusal). among carry_refusals x.number) (sym g) ∙ h
+    go : (f : Result ⊤ Refusal) → Each Known f → unless rejected f (moved (map (covering_start (tokens_at 2 text 0)) notes)) ≡ rejected r → Known r
+    go (Ok tt) h q = let z : ◌≡◌ {A = ℕ} 0 1 = cc in absurd (omega arith)
+    go (Err s) h q = let g : s ≡ r = cc in ap (λ (x : Refusal). among carry_refusals x.number) (sym g) ∙ h

@@ -1,5 +1,5 @@
 -- The passes over the notes, one law for each way through the code.
-use mathlib.Core.Path.{◌≡◌, refl, ap, sym, ◌∙◌}
+use mathlib.Core.Path.{subst, ◌≡◌, refl, ap, sym, ◌∙◌}
 use mathlib.Core.Bool.{Bool, true, false, cond, ◌||◌, not}
 use mathlib.Core.List.{List, [], ◌∷◌, map}
 use mathlib.Core.Logic.{inl, inr}
@@ -13,10 +13,6 @@ use lib.ListN.{length, get_or, take, set, length-take, length-set, length-map}
 use lib.Seq.{get_or-take, get_or-set_same, get_or-set_other, ext_get_or}
 use Rattle.tokens.specs.Answers.{refusal}
 use Rattle.tokens.specs.Walk.{Listed, refused, next, tokens_at}
-use Rattle.tokens.specs.declared.Fault.{Fault}
-use Rattle.tokens.specs.declared.Fault.TheVariants.{Faultless, Faulty}
-use Rattle.tokens.specs.declared.Lexed.{Lexed}
-use Rattle.tokens.specs.declared.Lexed.TheVariants.{Found, Refused}
 use Rattle.tokens.proofs.Again.{found-fits}
 use Rattle.tokens.proofs.Walks.{at_next}
 use Rattle.starts.specs.code.Step.{step, reached, step_to}
@@ -27,15 +23,19 @@ use Rattle.carried.specs.code.Passes.{begins_at, start_of, lesser, LeastOf, lowe
 use Rattle.carried.proofs.Walked.{Walked, over, stopped, going, walked}
 use Rattle.carried.proofs.Together.{covers-in, no-refusal, read-pair}
 use Rattle.carried.proofs.Covering.{or-either, from, start-token, Settled, settled-rest, settled-within, covering-back, start-settled}
+use Rattle.tokens.specs.declared.Refusal.{Refusal}
+use Rattle.tokens.specs.declared.Token.{Token}
+use Rattle.std.specs.Bool.{then_some}
+use Rattle.std.specs.Prelude.{unwrap_or, IfSome, Result, Ok, Err, ⊤}
 
 or-false : (a : Bool) → a || false ≡ a
 or-false true = refl
 or-false false = refl
 
 -- what a walk to the text's end met: EOF, or the refusal
-abbrev fault_by : Lexed → Fault
-fault_by (Found t) = Faultless
-fault_by (Refused r) = Faulty r
+abbrev pub fault_by : Result Token Refusal → Result ⊤ Refusal
+fault_by (Ok t) = Ok tt
+fault_by (Err r) = Err r
 
 module _ {ed : ℕ} {text : List ℕ} where
   reached-fault : {at : ℕ} {l : Listed} → Walked ed text at l → refusal_of l ≡ fault_by (reached (length text) at l).met
@@ -60,7 +60,7 @@ module _ {ed : ℕ} {text : List ℕ} where
   starts_by_lem {at} (going {t = t} {l = l} e a b c d w) x = go (ltb x t.end) refl (starts_by_lem w x)
     where
       go : (v : Bool) → ltb x t.end ≡ v → is_start l x ≡ begins_at (reached x t.end l).met x
-          → eqb t.start x || is_start l x ≡ begins_at (cond v (step at (Found t)) (reached x t.end l)).met x
+          → eqb t.start x || is_start l x ≡ begins_at (cond v (step at (Ok t)) (reached x t.end l)).met x
       go true q ih = rw (none_before w x (ltb-true x t.end q)) (or-false (eqb t.start x))
       go false q ih = rw (ne_eqb t.start x (λ z. absurd (omega (arith, ltb-false x t.end q)))) ih
 
@@ -76,7 +76,7 @@ module _ {ed : ℕ} {text : List ℕ} where
       here q k (inr z) = omega arith
 
       go : (v u : Bool) → ltb x t.end ≡ v → covers t x ≡ u → (Settled text l x → covering_start l x ≡ start_of (reached x t.end l).met)
-          → cond u t.start (covering_start l x) ≡ start_of (cond v (step at (Found t)) (reached x t.end l)).met
+          → cond u t.start (covering_start l x) ≡ start_of (cond v (step at (Ok t)) (reached x t.end l)).met
       go true true q p ih = refl
       go true false q p ih = absurd (here p (ltb-true x t.end q) (settled-rest text t l x p h))
       go false true q p ih = absurd (omega (arith, covers-in t x p, ltb-false x t.end q))
@@ -93,12 +93,12 @@ module _ {ed : ℕ} {text : List ℕ} where
       rest = let n : next t l ≡ next t (tokens_at ed text t.end) = q ∙ (at_next ed text at (found-fits ed text at t e).1 t e d).0 in cc
 
       go : (v : Bool) → ltb x t.end ≡ v → reached y (reached x t.end l).from (tokens_at ed text (reached x t.end l).from) ≡ reached y t.end l
-          → reached y (cond v (step at (Found t)) (reached x t.end l)).from (tokens_at ed text (cond v (step at (Found t)) (reached x t.end l)).from) ≡ reached y at (next t l)
+          → reached y (cond v (step at (Ok t)) (reached x t.end l)).from (tokens_at ed text (cond v (step at (Ok t)) (reached x t.end l)).from) ≡ reached y at (next t l)
       go true p ih = ap (reached y at) (sym q)
       go false p ih = rw (le-ltb y t.end (omega (arith, ltb-false x t.end p))) ih
 
 -- the walk over the whole text
-pub walk-met : (ed : ℕ) (text : List ℕ) (s : Step) → s ≡ step_to ed text 0 (length text) → (m : Lexed) → s.met ≡ m → fault_by m ≡ refusal_of (tokens_at ed text 0)
+pub walk-met : (ed : ℕ) (text : List ℕ) (s : Step) → s ≡ step_to ed text 0 (length text) → (m : Result Token Refusal) → s.met ≡ m → fault_by m ≡ refusal_of (tokens_at ed text 0)
 unfolding step_to
 walk-met ed text s e m q = ap fault_by (sym q ∙ ap (λ (x : Step). x.met) e) ∙ sym (reached-fault (walked ed text 0 (omega arith)))
 
@@ -157,6 +157,15 @@ module _ (p : ℕ) (notes : List ℕ) where
         go false false true a b c = taken (ltb-false x p a) (λ j m n. omega (arith, (l.least j m n).1, ltb-true x (get_or notes k 0) c))
         go false false false a b c = kept (λ n. (leb-false (length notes) k b, ltb-false x (get_or notes k 0) c))
 
+-- what is answered of the index at the end: none where it is the list's length
+pub least-answer : (p : ℕ) (notes : List ℕ) (k : ℕ) → LeastOf p notes (length notes) k
+    → (LeastOf p notes (length notes) (unwrap_or (then_some (ltb k (length notes)) k) (length notes))) × IfSome (then_some (ltb k (length notes)) k) (λ j. j < length notes)
+least-answer p notes k l = go (ltb k (length notes)) refl
+  where
+    go : (b : Bool) → ltb k (length notes) ≡ b → (LeastOf p notes (length notes) (unwrap_or (then_some b k) (length notes))) × IfSome (then_some b k) (λ j. j < length notes)
+    go true q = (l, ltb-true k (length notes) q)
+    go false q = (subst (λ (j : ℕ). LeastOf p notes (length notes) j) (omega (arith, l.within, ltb-false k (length notes) q)) l, tt)
+
 -- the lowest bad index among the entries below p
 pub record BadBelow (old : Listed) (notes : List ℕ) (p bad : ℕ) : Type 0 where
   pub within : bad ≤ length notes
@@ -211,15 +220,15 @@ module _ (old : Listed) (notes : List ℕ) where
 -- refusal 20 by the lowest bad index
 module _ (old : Listed) where
   bad-at : (notes : List ℕ) (j r : ℕ) → ((i : ℕ) → i < r → is_start old (get_or notes i 0) ≡ true) → j + r ≤ 256 → r < length notes
-      → leb 256 (j + r) || not (is_start old (get_or notes r 0)) ≡ true → (n : ℕ) → j + r ≡ n → Faulty (refusal 20 n n) ≡ bad_note old j notes
+      → leb 256 (j + r) || not (is_start old (get_or notes r 0)) ≡ true → (n : ℕ) → j + r ≡ n → Err (refusal 20 n n) ≡ bad_note old j notes
   unfolding bad_note
   bad-at [] j r f h g e n q = absurd (not-suc-le-zero g)
-  bad-at (a ∷ notes) j zero f h g e n q = let d : j ≡ n = omega arith in let k : j + 0 ≡ j = omega arith in rw (rw k at e) (ap (λ (i : ℕ). Faulty (refusal 20 i i)) (sym d))
+  bad-at (a ∷ notes) j zero f h g e n q = let d : j ≡ n = omega arith in let k : j + 0 ≡ j = omega arith in rw (rw k at e) (ap (λ (i : ℕ). Err (refusal 20 i i)) (sym d))
   bad-at (a ∷ notes) j (suc r) f h g e n q =
       let k : j + suc r ≡ suc j + r = omega arith in
       rw (lt-leb 256 j (omega arith), f 0 (omega arith)) (bad-at notes (suc j) r (λ i m. f (suc i) (omega arith)) (omega arith) (omega arith) (rw k at e) n (omega arith))
 
-  pub no-bad-note : (i : ℕ) (notes : List ℕ) → i + length notes ≤ 256 → ((j : ℕ) → j < length notes → is_start old (get_or notes j 0) ≡ true) → bad_note old i notes ≡ Faultless
+  pub no-bad-note : (i : ℕ) (notes : List ℕ) → i + length notes ≤ 256 → ((j : ℕ) → j < length notes → is_start old (get_or notes j 0) ≡ true) → bad_note old i notes ≡ Ok tt
   unfolding bad_note
   no-bad-note i [] h g = refl
   no-bad-note i (x ∷ notes) h g = rw (lt-leb 256 i (omega arith), g 0 (omega arith)) (no-bad-note (suc i) notes (omega arith) (λ j k. g (suc j) (omega arith)))
@@ -231,7 +240,7 @@ module _ (old : Listed) where
     good-before : (i : ℕ) → i < r → is_start old (get_or notes i 0) ≡ true
     good-before i h = ap (is_start old) (sym (get_or-take n notes i 0 (omega (arith, b.within, short)))) ∙ b.good i h
 
-    pub fault-at : r < length notes → Faulty (refusal 20 r r) ≡ bad_note old 0 notes
+    pub fault-at : r < length notes → Err (refusal 20 r r) ≡ bad_note old 0 notes
     fault-at h = bad-at notes 0 r good-before (omega (arith, b.within, short)) h (go (ltb r n) refl) r (omega arith)
       where
         go : (v : Bool) → ltb r n ≡ v → leb 256 (0 + r) || not (is_start old (get_or notes r 0)) ≡ true
@@ -240,7 +249,7 @@ module _ (old : Listed) where
             rw e (or-either (leb 256 (0 + r)) true refl)
         go false q = rw (le-leb 256 (0 + r) (omega (arith, ltb-false r n q)))
 
-    pub fault-none : length notes ≤ r → Faultless ≡ bad_note old 0 notes
+    pub fault-none : length notes ≤ r → (Ok tt) ≡ bad_note old 0 notes
     fault-none h = sym (no-bad-note 0 notes (omega (arith, b.within, short)) (λ j g. good-before j (omega arith)))
 
 -- every x exchanged for v, up to i

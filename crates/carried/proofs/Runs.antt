@@ -25,11 +25,11 @@ use Rattle.tokens.specs.Token.{find_token, number_token, opens_string}
 use Rattle.tokens.specs.Calls.{text_limit, next_token}
 use Rattle.tokens.specs.code.Found.{lexed_at}
 use Rattle.tokens.specs.declared.Token.{Token}
-use Rattle.tokens.specs.declared.Lexed.TheVariants.{Found, Refused}
 use Rattle.tokens.proofs.Editions.{length_of, is_number, is-number}
 use Rattle.tokens.proofs.Faults.{placed}
 use Rattle.tokens.proofs.Steps.{name-at, no-mark, word-name, find-number, find-word, find-mark, next-clear}
 use Rattle.tokens.proofs.Walks.{at_next}
+use Rattle.std.specs.Prelude.{Ok, Err}
 
 -- runs
 module _ (f : ℕ → Bool) where
@@ -110,7 +110,7 @@ number-no-eof k h e = false-true _ (rw e at h)
 pub record NumberHere (ed : ℕ) (text : List ℕ) (at : ℕ) : Type 0 where
   pub kind : ℕ
   pub end : ℕ
-  pub is : next_token ed text at ≡ Found (token kind at end)
+  pub is : next_token ed text at ≡ Ok (token kind at end)
   pub other : (kind ≡ 0 → ⊥)
   pub takes : at < end
   pub named : end ≤ run_end is_name text at
@@ -125,14 +125,14 @@ module _ (ed : ℕ) (text : List ℕ) (at : ℕ) (l : length text ≤ text_limit
 
   -- a name
   pub name-next : is_letter (get_or text at 0) ≡ true → opens_string (get_or text at 0) (get_or text (at + 1) 0) ≡ false
-      → next_token ed text at ≡ Found (token (kind_of (take (run_end is_name text at - at) (drop at text))) at (run_end is_name text at))
+      → next_token ed text at ≡ Ok (token (kind_of (take (run_end is_name text at - at) (drop at text))) at (run_end is_name text at))
   unfolding in_class is_name
   name-next e q =
       sym (here (name-plain (get_or text at 0) (rw e))) ∙ sym (find-word ed text at h e) ∙ sym (word-name text at (get_or text (at + 1) 0) refl q)
       ∙ sym (name-at text at (run_end is_name text at) (kind_of (take (run_end is_name text at - at) (drop at text))) refl refl)
 
   -- a quote
-  pub quote-next : get_or text at 0 ≡ 34 → next_token ed text at ≡ Refused (refusal 5 at at)
+  pub quote-next : get_or text at 0 ≡ 34 → next_token ed text at ≡ Err (refusal 5 at at)
   quote-next e =
       sym (here (quote-plain (get_or text at 0) e)) ∙ sym (find-mark ed text at h (quote-other (get_or text at 0) e).0 (quote-other (get_or text at 0) e).1)
       ∙ sym (no-mark at (mark_of (drop at text)) (mark_of (drop at text)) refl (rw (drop-cons text at 0 h, e) (quote-mark (drop (suc at) text))))
@@ -142,7 +142,7 @@ module _ (ed : ℕ) (text : List ℕ) (at : ℕ) (l : length text ≤ text_limit
   unfolding lexed_at
   number-next e =
       let n = is-number ed (drop at text) in
-      let x : next_token ed text at ≡ Found (token n.kind at (at + length_of (number_token ed (drop at text)))) =
+      let x : next_token ed text at ≡ Ok (token n.kind at (at + length_of (number_token ed (drop at text)))) =
       sym (here (name-plain (get_or text at 0) (digit-name (get_or text at 0) e))) ∙ sym (find-number ed text at h e) ∙ ap (lexed_at at) n.is in
       let m = number-no-eof n.kind n.numeral in
       let b = at_next ed text at (omega arith) (token n.kind at (at + length_of (number_token ed (drop at text)))) x m in
@@ -175,7 +175,7 @@ letter-of x h d = go (is_letter x) refl (rw d at h)
 -- a walk that stands at `at` comes to `to`
 pub data Reaches (ed : ℕ) (text : List ℕ) (to : ℕ) : ℕ → Type 0 where
   there : Reaches ed text to to
-  through : {at : ℕ} (t : Token) → at ≤ length text → next_token ed text at ≡ Found t → (t.kind ≡ 0 → ⊥) → Reaches ed text to t.end → Reaches ed text to at
+  through : {at : ℕ} (t : Token) → at ≤ length text → next_token ed text at ≡ Ok t → (t.kind ≡ 0 → ⊥) → Reaches ed text to t.end → Reaches ed text to at
 
 module _ (ed : ℕ) (text : List ℕ) (l : length text ≤ text_limit) where
   come : (a b : ℕ) → a ≡ b → Reaches ed text b a

@@ -19,10 +19,7 @@ use Rattle.tokens.specs.Token.{Scanned, tok, bad, scan}
 use Rattle.tokens.specs.Calls.{text_limit, place_fault, unless, next_token}
 use Rattle.tokens.specs.Walk.{Listed, eof, refused, next, tokens_from, tokens_at}
 use Rattle.tokens.specs.declared.Refusal.{Refusal}
-use Rattle.tokens.specs.declared.Fault.{Fault}
-use Rattle.tokens.specs.declared.Fault.TheVariants.{Faultless, Faulty}
 use Rattle.tokens.specs.declared.Token.{Token}
-use Rattle.tokens.specs.declared.Lexed.TheVariants.{Found}
 use Rattle.tokens.proofs.Editions.{is_number, Longer, editions-same, editions-number}
 use Rattle.tokens.proofs.Faults.{in_place_lem}
 use Rattle.tokens.proofs.Lexing.{Good, Sound, lex-sound}
@@ -33,6 +30,7 @@ use Rattle.carried.specs.Promised.{ToEOF}
 use Rattle.carried.proofs.Walked.{stands, scan-found, scan-refused}
 use Rattle.carried.proofs.Partings.{Parts, scan-parts}
 use Rattle.carried.proofs.Runs.{run-same, all-inside, name-next, quote-next, Reaches, there, through, reaches}
+use Rattle.std.specs.Prelude.{Result, Ok, Err, ⊤}
 
 pub covers-in : (t : Token) (x : ℕ) → covers t x ≡ true → (t.start ≤ x) × (x < t.end)
 unfolding covers
@@ -45,7 +43,7 @@ covers-is t x h g = rw (le-leb t.start x h, lt-ltb x t.end g)
 -- a list that ends with a refusal does not end at EOF
 pub no-refusal : (l : Listed) (r : Refusal) → l ≡ refused r → ToEOF l → ⊥
 unfolding refusal_of
-no-refusal l r e h = let f : Faulty r ≡ Faultless = sym (ap refusal_of e) ∙ h in let z : ◌≡◌ {A = ℕ} 0 1 = cc in omega arith
+no-refusal l r e h = let f : Err r ≡ (Ok tt) = sym (ap refusal_of e) ∙ h in let z : ◌≡◌ {A = ℕ} 0 1 = cc in omega arith
 
 -- the new list ends at EOF, and each start of the old one lies in a token of it
 pub record Pair (old new : Listed) : Type 0 where
@@ -122,10 +120,10 @@ module _ (text : List ℕ) (l : length text ≤ text_limit) where
       record { name = _; start = refl; next = x.0; whole = f; quote = quote-refused (run_end is_name text b) f; takes = x.1; within = x.2 }
 
   module _ (p : ℕ) (h : p ≤ length text) (k a b : ℕ) (w r : List ℕ) (q : scan 1 p (drop p text) ≡ tok k a b w r) where
-    old : next_token 1 text p ≡ Found (token k a b)
+    old : next_token 1 text p ≡ Ok (token k a b)
     old = scan-found 1 text p l h k a b w r q
 
-    same : is_number k ≡ false → next_token 2 text p ≡ Found (token k a b)
+    same : is_number k ≡ false → next_token 2 text p ≡ Ok (token k a b)
     same n = scan-found 2 text p l h k a b w r (editions-same p (drop p text) k a b w r q n)
 
     eof-pair : k ≡ 0 → From p
@@ -147,7 +145,7 @@ module _ (text : List ℕ) (l : length text ≤ text_limit) where
 
       -- a number
       module _ (g : Longer a b (scan 2 p (drop p text))) where
-        new : next_token 2 text p ≡ Found (token g.kind a g.end)
+        new : next_token 2 text p ≡ Ok (token g.kind a g.end)
         new = scan-found 2 text p l h g.kind a g.end g.word g.rest g.is
 
         no-eof : g.kind ≡ 0 → ⊥
@@ -221,9 +219,9 @@ pub read_short : (ed : ℕ) (text : List ℕ) → ToEOF (tokens_at ed text 0) �
 unfolding tokens_at unless refusal_of
 read_short ed text e = go (place_fault text 0) refl e
   where
-    go : (f : Fault) → place_fault text 0 ≡ f → refusal_of (unless refused f (tokens_from ed 0 (drop 0 text))) ≡ Faultless → length text ≤ text_limit
-    go Faultless q g = (in_place_lem text 0 q).0
-    go (Faulty r) q g = let z : ◌≡◌ {A = ℕ} 0 1 = cc in absurd (omega arith)
+    go : (f : Result ⊤ Refusal) → place_fault text 0 ≡ f → refusal_of (unless refused f (tokens_from ed 0 (drop 0 text))) ≡ Ok tt → length text ≤ text_limit
+    go (Ok tt) q g = (in_place_lem text 0 q).0
+    go (Err r) q g = let z : ◌≡◌ {A = ℕ} 0 1 = cc in absurd (omega arith)
 
 pub read-pair : (text : List ℕ) → ToEOF (tokens_at 1 text 0) → Pair (tokens_at 1 text 0) (tokens_at 2 text 0)
 read-pair text e = together text (read_short 1 text e) (suc (length text)) 0 (omega arith) (omega arith) e

@@ -16,12 +16,11 @@ use Rattle.tokens.specs.Calls.{text_limit, lexed, next_token}
 use Rattle.tokens.specs.Walk.{Listed, eof, refused, next, tokens_at}
 use Rattle.tokens.specs.declared.Refusal.{Refusal}
 use Rattle.tokens.specs.declared.Token.{Token}
-use Rattle.tokens.specs.declared.Lexed.{Lexed}
-use Rattle.tokens.specs.declared.Lexed.TheVariants.{Found, Refused}
 use Rattle.tokens.proofs.Again.{found-fits}
 use Rattle.tokens.proofs.Faults.{admits}
 use Rattle.tokens.proofs.Lexing.{Good, Sound, lex-sound}
 use Rattle.tokens.proofs.Walks.{at_next, at-eof, at-refused}
+use Rattle.std.specs.Prelude.{Result, Ok, Err}
 
 -- the next token is a scanned one
 pub record Stands (ed : ℕ) (text : List ℕ) (at : ℕ) (t : Token) : Type 0 where
@@ -31,7 +30,7 @@ pub record Stands (ed : ℕ) (text : List ℕ) (at : ℕ) (t : Token) : Type 0 w
   pub good : Good text at t.kind t.start t.end word rest
 
 module _ (ed : ℕ) (text : List ℕ) (at : ℕ) where
-  stands_by : (t : Token) (l : Scanned) → scan ed at (drop at text) ≡ l → Sound text at l → lexed l ≡ Found t → Stands ed text at t
+  stands_by : (t : Token) (l : Scanned) → scan ed at (drop at text) ≡ l → Sound text at l → lexed l ≡ Ok t → Stands ed text at t
   unfolding lexed
   stands_by t (tok k s e w r) q m f =
       let v : token k s e ≡ t = cc in
@@ -40,27 +39,27 @@ module _ (ed : ℕ) (text : List ℕ) (at : ℕ) where
 
   scanned : length text ≤ text_limit → at ≤ length text → next_token ed text at ≡ lexed (scan ed at (drop at text))
   unfolding next_token
-  scanned g h = admits text at Refused _ g h
+  scanned g h = admits text at Err _ g h
 
-  pub stands : (t : Token) → next_token ed text at ≡ Found t → Stands ed text at t
+  pub stands : (t : Token) → next_token ed text at ≡ Ok t → Stands ed text at t
   stands t e =
       let f = found-fits ed text at t e in
       stands_by t (scan ed at (drop at text)) refl (lex-sound ed text at f.1) (sym (scanned f.0 f.1) ∙ e)
 
   module _ (g : length text ≤ text_limit) (h : at ≤ length text) where
-    pub scan-found : (k s e : ℕ) (w r : List ℕ) → scan ed at (drop at text) ≡ tok k s e w r → next_token ed text at ≡ Found (token k s e)
+    pub scan-found : (k s e : ℕ) (w r : List ℕ) → scan ed at (drop at text) ≡ tok k s e w r → next_token ed text at ≡ Ok (token k s e)
     unfolding lexed
     scan-found k s e w r q = scanned g h ∙ ap lexed q
 
-    pub scan-refused : (r : Refusal) → scan ed at (drop at text) ≡ bad r → next_token ed text at ≡ Refused r
+    pub scan-refused : (r : Refusal) → scan ed at (drop at text) ≡ bad r → next_token ed text at ≡ Err r
     unfolding lexed
     scan-refused r q = scanned g h ∙ ap lexed q
 
 -- a list from `at` on
 pub data Walked (ed : ℕ) (text : List ℕ) : ℕ → Listed → Type 0 where
   over : {at : ℕ} {t : Token} → at ≤ t.start → t.start ≡ length text → t.end ≡ length text → t.kind ≡ EOF → Walked ed text at (eof t)
-  stopped : {at : ℕ} {r : Refusal} → at ≤ length text → next_token ed text at ≡ Refused r → Walked ed text at (refused r)
-  going : {at : ℕ} {t : Token} {l : Listed} → next_token ed text at ≡ Found t → at ≤ t.start → t.start < t.end → t.end ≤ length text → (t.kind ≡ EOF → ⊥)
+  stopped : {at : ℕ} {r : Refusal} → at ≤ length text → next_token ed text at ≡ Err r → Walked ed text at (refused r)
+  going : {at : ℕ} {t : Token} {l : Listed} → next_token ed text at ≡ Ok t → at ≤ t.start → t.start < t.end → t.end ≤ length text → (t.kind ≡ EOF → ⊥)
       → Walked ed text t.end l → Walked ed text at (next t l)
 
 module _ (ed : ℕ) (text : List ℕ) where
@@ -68,7 +67,7 @@ module _ (ed : ℕ) (text : List ℕ) where
   walked_by zero at h i = absurd (not-suc-le-zero i)
   walked_by (suc n) at h i = go (next_token ed text at) refl (λ e f g. walked_by n e f g)
     where
-      more : (t : Token) (b : Bool) → eqb t.kind 0 ≡ b → next_token ed text at ≡ Found t → ((e : ℕ) → e ≤ length text → length text - e < n → Walked ed text e (tokens_at ed text e)) → Walked ed text at (tokens_at ed text at)
+      more : (t : Token) (b : Bool) → eqb t.kind 0 ≡ b → next_token ed text at ≡ Ok t → ((e : ℕ) → e ≤ length text → length text - e < n → Walked ed text e (tokens_at ed text e)) → Walked ed text at (tokens_at ed text at)
       more t true q e ih =
           let z = eqb-true t.kind 0 q in
           let s = stands ed text at t e in
@@ -79,9 +78,9 @@ module _ (ed : ℕ) (text : List ℕ) where
           let a = at_next ed text at h t e z in
           rw a.0 (going e s.good.from (s.good.takes (omega arith)) a.2 z (ih t.end a.2 (omega arith)))
 
-      go : (x : Lexed) → next_token ed text at ≡ x → ((e : ℕ) → e ≤ length text → length text - e < n → Walked ed text e (tokens_at ed text e)) → Walked ed text at (tokens_at ed text at)
-      go (Refused r) e ih = rw (at-refused ed text at h r e) (stopped h e)
-      go (Found t) e ih = more t (eqb t.kind 0) refl e ih
+      go : (x : Result Token Refusal) → next_token ed text at ≡ x → ((e : ℕ) → e ≤ length text → length text - e < n → Walked ed text e (tokens_at ed text e)) → Walked ed text at (tokens_at ed text at)
+      go (Err r) e ih = rw (at-refused ed text at h r e) (stopped h e)
+      go (Ok t) e ih = more t (eqb t.kind 0) refl e ih
 
   pub walked : (at : ℕ) → at ≤ length text → Walked ed text at (tokens_at ed text at)
   walked at h = walked_by (suc (length text - at)) at h (omega arith)

@@ -1,10 +1,9 @@
 -- What is promised of the carried notes: the statements. The proofs are in proofs/Theorem, that of the last in proofs/Numbers.
-use Rattle.std.specs.Prelude.{ℕ, ◌≤◌, ◌<◌, ◌≡◌, true, List, ◌∷◌, length, get_or}
+use Rattle.std.specs.Prelude.{ℕ, ◌≤◌, ◌<◌, ◌≡◌, true, List, ◌∷◌, length, get_or, Ok}
 use Rattle.words.specs.Kinds.{EOF}
 use Rattle.tokens.specs.Refusals.{TextTooLong, NotATokenStart}
 use Rattle.tokens.specs.RefusalSets.{among, lex_refusals}
 use Rattle.tokens.specs.Walk.{Listed, tokens_at}
-use Rattle.tokens.specs.declared.Fault.TheVariants.{Faultless}
 use Rattle.tokens.specs.declared.Refusal.{Refusal}
 use Rattle.tokens.specs.declared.Token.{Token}
 use Rattle.starts.specs.Allowed.{TokenOf}
@@ -12,7 +11,7 @@ use Rattle.carried.specs.Carry.{refusal_of, is_start, covers, rejected, moved, c
 
 -- the list ends at EOF: the whole text is read
 abbrev pub ToEOF : Listed → Type 0
-ToEOF l = refusal_of l ≡ Faultless
+ToEOF l = refusal_of l ≡ Ok tt
 
 -- the byte at x lies in exactly one token of the list
 pub record InExactlyOne (l : Listed) (x : ℕ) : Type 0 where

@@ -13,7 +13,6 @@ use Rattle.tokens.specs.Refusals.{UnexpectedToken}
 use Rattle.tokens.specs.Calls.{next_token}
 use Rattle.tokens.specs.declared.Refusal.{Refusal}
 use Rattle.tokens.specs.declared.Token.{Token as Answer}
-use Rattle.tokens.specs.declared.Lexed.TheVariants.{Found, Refused as Bad}
 use Rattle.records.specs.Kinds.{RecName, RecAddress, RecOnePart, RecTwoPart, RecThreePart, RecPair, RecUnit}
 use Rattle.records.specs.Tree.{Tree}
 use Rattle.sources.specs.Source.{Source, opened, after}
@@ -27,12 +26,11 @@ use Rattle.forms.proofs.Placing.{placed-long, placed-as, placed-both, placed-hea
 use Rattle.forms.proofs.Constructs.{laid_leaf, laid-two, laid-three, laid-pair}
 use Rattle.parts.specs.declared.Way.{Way}
 use Rattle.parts.specs.declared.Part.{Part}
-use Rattle.parts.specs.declared.Parsed.{Parsed}
-use Rattle.parts.specs.declared.Parsed.TheVariants.{Read, Refused}
 use Rattle.parts.specs.code.Meets.{Fits, held, refused_token, followed_by, Follows, Contract, ReadsBy}
 use Rattle.parts.proofs.Held.{held-end, held_after, held-leaf, next-found, look-found, look-refused}
 use Rattle.parts.proofs.Contracts.{reads-no, reads-token, reads-read, reads-finished, reads_as}
 use Rattle.chains.specs.code.Parts.{leaf_at, first_at, pair_at, three_at, pair_bytes, due_at, begins, Past, ReadsBehind}
+use Rattle.std.specs.Prelude.{Result, Ok, Err}
 
 -- a record over three pieces: two parts and a mark between them
 pub placed-parted : (f k st e : ℕ) (l m₁ m₂ m₃ m xs ys zs : List ℕ) (s i p q r : Spot) → length l ≤ last → i ≡ inside f s → Placed l i xs p m₁ → Placed m₁ p ys q m₂ → Placed m₂ q zs r m₃ → m ≡ sealed f k st e s r m₃
@@ -94,20 +92,20 @@ module _ (ed : ℕ) (text : List ℕ) where
 module _ (f ed : ℕ) (text : List ℕ) (s : Spot) (l m : List ℕ) where
   -- behind the second `::`
   module _ (a b d : Answer) where
-    abbrev Last : Parsed → Type 0
+    abbrev Last : Result Part Refusal → Type 0
     Last r = Contract (laid f) ed text (Fits text a × Fits text b × Fits text d) (last_part (held ed text a) (held ed text b) (held ed text d)) d.end s l r m
 
-    pub last-bad : (r : Refusal) → next_token ed text d.end ≡ Bad r → Last (Refused r)
+    pub last-bad : (r : Refusal) → next_token ed text d.end ≡ Err r → Last (Err r)
     unfolding last_part
     last-bad r h = reads-no r (λ z. look-refused ed text d z.2 _ r h)
 
-    pub last-other : (c : Answer) (r : Parsed) → next_token ed text d.end ≡ Found c → (c.kind ≡ Identifier → ⊥) → r ≡ refused_token UnexpectedToken c → Last r
+    pub last-other : (c : Answer) (r : Result Part Refusal) → next_token ed text d.end ≡ Ok c → (c.kind ≡ Identifier → ⊥) → r ≡ refused_token UnexpectedToken c → Last r
     unfolding last_part
     last-other c r h k e =
         reads-token UnexpectedToken c r (λ _. (next-found ed text d.end c h).fits)
         (λ z. look-found ed text d z.2 _ c h ∙ when_false (eqb c.kind Identifier) _ _ (ne_eqb c.kind Identifier k)) e
 
-    pub last-three : (c : Answer) (to : Spot) (r : Parsed) → next_token ed text d.end ≡ Found c → c.kind ≡ Identifier → Placed l s (laid f (three_at text a b c)) to m → r ≡ followed_by to c.end (next_token ed text c.end) → Last r
+    pub last-three : (c : Answer) (to : Spot) (r : Result Part Refusal) → next_token ed text d.end ≡ Ok c → c.kind ≡ Identifier → Placed l s (laid f (three_at text a b c)) to m → r ≡ followed_by to c.end (next_token ed text c.end) → Last r
     unfolding last_part
     last-three c to r h k w e =
         let n = next-found ed text d.end c h in
@@ -118,21 +116,21 @@ module _ (f ed : ℕ) (text : List ℕ) (s : Spot) (l m : List ℕ) where
 
   -- behind the second part
   module _ (a b : Answer) where
-    abbrev Third : Parsed → Type 0
+    abbrev Third : Result Part Refusal → Type 0
     Third r = Contract (laid f) ed text (Fits text a × Fits text b) (third_part (held ed text a) (held ed text b)) b.end s l r m
 
-    pub third-bad : (r : Refusal) → next_token ed text b.end ≡ Bad r → Third (Refused r)
+    pub third-bad : (r : Refusal) → next_token ed text b.end ≡ Err r → Third (Err r)
     unfolding third_part
     third-bad r h = reads-no r (λ z. look-refused ed text b z.1 _ r h)
 
-    pub third-more : (d : Answer) (r : Parsed) → next_token ed text b.end ≡ Found d → d.kind ≡ ColonColon → Last a b d r → Third r
+    pub third-more : (d : Answer) (r : Result Part Refusal) → next_token ed text b.end ≡ Ok d → d.kind ≡ ColonColon → Last a b d r → Third r
     unfolding third_part
     third-more d r h k w =
         let n = next-found ed text b.end d h in
         reads_as (omega (arith, n.from, n.fits.1)) (λ z. (z.0, z.1, n.fits))
         (λ z. look-found ed text b z.1 _ d h ∙ when_true (eqb d.kind ColonColon) _ _ (eq-eqb d.kind ColonColon k)) w
 
-    pub third-two : (d : Answer) (to : Spot) → next_token ed text b.end ≡ Found d → (d.kind ≡ ColonColon → ⊥) → Placed l s (pair_bytes f RecTwoPart text a b) to m → Third (Read (record { to = to; end = b.end; next = d }))
+    pub third-two : (d : Answer) (to : Spot) → next_token ed text b.end ≡ Ok d → (d.kind ≡ ColonColon → ⊥) → Placed l s (pair_bytes f RecTwoPart text a b) to m → Third (Ok (record { to = to; end = b.end; next = d }))
     unfolding third_part
     third-two d to h k w =
         reads-read (pair_at RecTwoPart text a b) b.end d to (omega arith)
@@ -142,20 +140,20 @@ module _ (f ed : ℕ) (text : List ℕ) (s : Spot) (l m : List ℕ) where
 
   -- behind the first `::`
   module _ (a d : Answer) where
-    abbrev Second : Parsed → Type 0
+    abbrev Second : Result Part Refusal → Type 0
     Second r = Contract (laid f) ed text (Fits text a × Fits text d) (second_part (held ed text a) (held ed text d)) d.end s l r m
 
-    pub second-bad : (r : Refusal) → next_token ed text d.end ≡ Bad r → Second (Refused r)
+    pub second-bad : (r : Refusal) → next_token ed text d.end ≡ Err r → Second (Err r)
     unfolding second_part
     second-bad r h = reads-no r (λ z. look-refused ed text d z.1 _ r h)
 
-    pub second-other : (b : Answer) (r : Parsed) → next_token ed text d.end ≡ Found b → (b.kind ≡ Identifier → ⊥) → r ≡ refused_token UnexpectedToken b → Second r
+    pub second-other : (b : Answer) (r : Result Part Refusal) → next_token ed text d.end ≡ Ok b → (b.kind ≡ Identifier → ⊥) → r ≡ refused_token UnexpectedToken b → Second r
     unfolding second_part
     second-other b r h k e =
         reads-token UnexpectedToken b r (λ _. (next-found ed text d.end b h).fits)
         (λ z. look-found ed text d z.1 _ b h ∙ when_false (eqb b.kind Identifier) _ _ (ne_eqb b.kind Identifier k)) e
 
-    pub second-name : (b : Answer) (r : Parsed) → next_token ed text d.end ≡ Found b → b.kind ≡ Identifier → Third a b r → Second r
+    pub second-name : (b : Answer) (r : Result Part Refusal) → next_token ed text d.end ≡ Ok b → b.kind ≡ Identifier → Third a b r → Second r
     unfolding second_part
     second-name b r h k w =
         let n = next-found ed text d.end b h in
@@ -164,23 +162,23 @@ module _ (f ed : ℕ) (text : List ℕ) (s : Spot) (l m : List ℕ) where
 
   -- the first part
   module _ (a : Answer) where
-    abbrev Chain : Parsed → Type 0
+    abbrev Chain : Result Part Refusal → Type 0
     Chain r = ReadsBy (laid f) ed text chain a s l r m
 
     abbrev first : Bool
     first = eqb a.kind Identifier || eqb a.kind NumValue
 
-    pub chain-other : (c : Bool) (r : Parsed) → c ≡ first → c ≡ false → r ≡ refused_token UnexpectedToken a → Chain r
+    pub chain-other : (c : Bool) (r : Result Part Refusal) → c ≡ first → c ≡ false → r ≡ refused_token UnexpectedToken a → Chain r
     unfolding chain
     chain-other c r h k e = reads-token UnexpectedToken a r (λ z. z) (λ _. when_false first _ _ (sym h ∙ k)) e
 
     module _ (c : Bool) (g : c ≡ first) (k : c ≡ true) where
-      pub chain-bad : (r : Refusal) → next_token ed text a.end ≡ Bad r → Chain (Refused r)
+      pub chain-bad : (r : Refusal) → next_token ed text a.end ≡ Err r → Chain (Err r)
       unfolding chain
       chain-bad r h = reads-no r (λ z. when_true first _ _ (sym g ∙ k) ∙ look-refused ed text a z _ r h)
 
-      module _ (d : Answer) (h : next_token ed text a.end ≡ Found d) where
-        chain_more : (r : Parsed) → d.kind ≡ ColonColon → Second a d r → Chain r
+      module _ (d : Answer) (h : next_token ed text a.end ≡ Ok d) where
+        chain_more : (r : Result Part Refusal) → d.kind ≡ ColonColon → Second a d r → Chain r
         unfolding chain
         chain_more r j w =
             let n = next-found ed text a.end d h in
@@ -188,16 +186,16 @@ module _ (f ed : ℕ) (text : List ℕ) (s : Spot) (l m : List ℕ) where
             (λ z. when_true first _ _ (sym g ∙ k) ∙ look-found ed text a z _ d h ∙ when_true (eqb d.kind ColonColon) _ _ (eq-eqb d.kind ColonColon j)) w
 
         module _ (j : (d.kind ≡ ColonColon → ⊥)) where
-          chain-due : (r : Parsed) → (a.kind ≡ Identifier → ⊥) → r ≡ due_at d a → Chain r
+          chain-due : (r : Result Part Refusal) → (a.kind ≡ Identifier → ⊥) → r ≡ due_at d a → Chain r
           unfolding chain
           chain-due r i e =
               let n = next-found ed text a.end d h in
-              subst (λ (y : Parsed). ReadsBy (laid f) ed text chain a s l y m) (sym e)
+              subst (λ (y : Result Part Refusal). ReadsBy (laid f) ed text chain a s l y m) (sym e)
               (reads-no _
               (λ z. when_true first _ _ (sym g ∙ k) ∙ look-found ed text a z _ d h ∙ when_false (eqb d.kind ColonColon) _ _ (ne_eqb d.kind ColonColon j)
               ∙ when_false (eqb a.kind Identifier) _ _ (ne_eqb a.kind Identifier i) ∙ rw (held-end ed text d n.fits, held-end ed text a z)))
 
-          chain-one : (to : Spot) → a.kind ≡ Identifier → Placed l s (spelt f RecOnePart a.start a.end (word_of text a)) to m → Chain (Read (record { to = to; end = a.end; next = d }))
+          chain-one : (to : Spot) → a.kind ≡ Identifier → Placed l s (spelt f RecOnePart a.start a.end (word_of text a)) to m → Chain (Ok (record { to = to; end = a.end; next = d }))
           unfolding chain
           chain-one to i w =
               reads-read (leaf_at RecOnePart text a) a.end d to (omega arith)
@@ -206,28 +204,28 @@ module _ (f ed : ℕ) (text : List ℕ) (s : Spot) (l m : List ℕ) where
               (placed-as l m (spelt f RecOnePart a.start a.end (word_of text a)) (laid f (leaf_at RecOnePart text a)) s to (sym (leaf-laid f text RecOnePart a refl)) w)
 
 -- reading goes on behind a token
-pub past-from : (ed : ℕ) (text : List ℕ) (e : ℕ) (r : Parsed) → Follows ed text e r → Past e r
+pub past-from : (ed : ℕ) (text : List ℕ) (e : ℕ) (r : Result Part Refusal) → Follows ed text e r → Past e r
 unfolding Follows Past
-past-from ed text e (Read p) z = let n = next-found ed text p.end p.next z.1 in omega (arith, z.0, n.from, n.fits.1)
-past-from ed text e (Refused r) z = tt
+past-from ed text e (Ok p) z = let n = next-found ed text p.end p.next z.1 in omega (arith, z.0, n.from, n.fits.1)
+past-from ed text e (Err r) z = tt
 
-pub past-read : (e : ℕ) (r : Parsed) → Past e r → (p : Part) → r ≡ Read p → e ≤ p.next.end
+pub past-read : (e : ℕ) (r : Result Part Refusal) → Past e r → (p : Part) → r ≡ Ok p → e ≤ p.next.end
 unfolding Past
 past-read e r h p g = subst (Past e) g h
 
 -- a name, by the token behind its first part
 module _ (w : Way) (text : List ℕ) (s : Spot) (l m : List ℕ) (a d : Answer) where
-  abbrev Behind : Parsed → Type 0
+  abbrev Behind : Result Part Refusal → Type 0
   Behind r = ReadsBehind w text chain a d s l r m
 
-  pub behind_more : (r : Parsed) → d.kind ≡ ColonColon → Second w.form w.edition text s l m a d r → Behind r
+  pub behind_more : (r : Result Part Refusal) → d.kind ≡ ColonColon → Second w.form w.edition text s l m a d r → Behind r
   behind_more r j v = record { reads = λ h k. chain_more w.form w.edition text s l m a (begins a) refl k d h r j v; past = past-from w.edition text d.end r v.goes }
 
   module _ (j : (d.kind ≡ ColonColon → ⊥)) where
-    pub behind-due : (r : Parsed) → (a.kind ≡ Identifier → ⊥) → r ≡ due_at d a → Behind r
+    pub behind-due : (r : Result Part Refusal) → (a.kind ≡ Identifier → ⊥) → r ≡ due_at d a → Behind r
     unfolding Past
     behind-due r i e = record { reads = λ h k. chain-due w.form w.edition text s l m a (begins a) refl k d h j r i e; past = subst (Past d.end) (sym e) tt }
 
-    pub behind-one : (to : Spot) → a.kind ≡ Identifier → Placed l s (spelt w.form RecOnePart a.start a.end (word_of text a)) to m → Behind (Read (record { to = to; end = a.end; next = d }))
+    pub behind-one : (to : Spot) → a.kind ≡ Identifier → Placed l s (spelt w.form RecOnePart a.start a.end (word_of text a)) to m → Behind (Ok (record { to = to; end = a.end; next = d }))
     unfolding Past
     behind-one to i v = record { reads = λ h k. chain-one w.form w.edition text s l m a (begins a) refl k d h j to i v; past = omega arith }

@@ -1,13 +1,13 @@
 -- A run ends at its first outsider: proved once, over the class.
-use mathlib.Core.Path.{◌≡◌, refl, ap, sym, ◌∙◌}
+use mathlib.Core.Path.{◌≡◌, refl}
 use mathlib.Core.Bool.{Bool, true, false, cond}
 use mathlib.Core.List.{List, [], ◌∷◌}
-use Prim.Native.Nat.{ℕ, zero, suc, ◌+◌, ◌-◌, ◌<◌, ◌≤◌}
+use Prim.Native.Nat.{ℕ, zero, suc, ◌+◌, ◌<◌, ◌≤◌}
 use native.Mathlib.Omega.{arith}
 use native.Mathlib.Numerals.{add-one}
 use native.Mathlib.Nat.{add-zero, not-suc-le-zero}
-use lib.ListN.{length, get_or, take, drop_of_length-le}
-use lib.Seq.{drop-cons, get_or-take, length-take-le}
+use lib.ListN.{length, get_or, drop_of_length-le}
+use lib.Seq.{drop-cons}
 use Rattle.classes.specs.Run.{run_len, run_end}
 
 -- at a place of a text, in the code's own words
@@ -71,39 +71,3 @@ module _ (f g : ℕ → Bool) (e : (b : ℕ) → f b ≡ g b) where
   unfolding run_len
   len-same [] = refl
   len-same (a ∷ s) = rw (e a, len-same s)
-
--- a run in the bytes before e, step by step; it is the run in the text, or reaches e
-module _ (f : ℕ → Bool) (text : List ℕ) (e : ℕ) (h : e ≤ length text) where
-  pub cut-past : (i : ℕ) → e ≤ i → run_end f (take e text) i ≡ i
-  cut-past i g = run_past f (take e text) i (rw (length-take-le e text h) g)
-
-  pub cut_out : (i : ℕ) → i < e → f (get_or text i 0) ≡ false → run_end f (take e text) i ≡ i
-  cut_out i g t = run_out f (take e text) i (rw (length-take-le e text h) g) (ap f (get_or-take e text i 0 g) ∙ t)
-
-  pub cut_in : (i : ℕ) → i < e → f (get_or text i 0) ≡ true → run_end f (take e text) i ≡ run_end f (take e text) (i + 1)
-  cut_in i g t = run_in f (take e text) i (rw (length-take-le e text h) g) (ap f (get_or-take e text i 0 g) ∙ t)
-
-  abbrev Cut : ℕ → Type 0
-  Cut i = (run_end f (take e text) i < e → run_end f text i ≡ run_end f (take e text) i)
-      × (e ≤ run_end f (take e text) i → run_end f text i ≡ run_end f text (run_end f (take e text) i))
-
-  cut_step : (i : ℕ) (v : Bool) → i < e → f (get_or text i 0) ≡ v → Cut (i + 1) → Cut i
-  cut_step i true g t r =
-      let p = cut_in i g t in
-      let q = run_in f text i (omega (arith, g, h)) t in
-      (λ s. q ∙ r.0 (rw (sym p) s) ∙ sym p, λ s. q ∙ r.1 (rw (sym p) s) ∙ ap (run_end f text) (sym p))
-  cut_step i false g t r =
-      let p = cut_out i g t in
-      (λ s. run_out f text i (omega (arith, g, h)) t ∙ sym p, λ s. absurd (omega (arith, g, s, p)))
-
-  cut : (n i : ℕ) → i + n ≡ e → Cut i
-  cut zero i s =
-      let p = cut-past i (omega (arith, s)) in
-      (λ g. absurd (omega (arith, s, g, p)), λ g. ap (run_end f text) (sym p))
-  cut (suc n) i s = cut_step i (f (get_or text i 0)) (omega (arith, s)) refl (cut n (i + 1) (omega (arith, s)))
-
-  pub run-before : (i : ℕ) → i ≤ e → run_end f (take e text) i < e → run_end f text i ≡ run_end f (take e text) i
-  run-before i g = (cut (e - i) i (omega (arith, g))).0
-
-  pub run-across : (i : ℕ) → i ≤ e → e ≤ run_end f (take e text) i → run_end f text i ≡ run_end f text (run_end f (take e text) i)
-  run-across i g = (cut (e - i) i (omega (arith, g))).1

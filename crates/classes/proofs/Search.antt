@@ -1,23 +1,22 @@
 -- A search through a part of the table, step by step.
 use mathlib.Core.Path.{◌≡◌, refl, ap, sym, ◌∙◌}
-use mathlib.Core.Bool.{Bool, true, false, ◌&&◌, cond}
+use mathlib.Core.Bool.{Bool, true, false, ◌&&◌, not, cond}
 use mathlib.Core.List.{List, [], ◌∷◌}
-use Prim.Native.Nat.{ℕ, zero, suc, ◌+◌, ◌<◌, ◌≤◌, ◌%◌, ◌^◌}
-use borrow.Author.Tests.{leb-true, leb-false, ltb-true, ltb-false, eqb-true, eqb-false, lt-ltb, le-ltb, le-leb, lt-leb}
+use Prim.Native.Nat.{ℕ, zero, suc, ◌+◌, ◌*◌, ◌/◌, ◌<◌, ◌≤◌, ◌%◌, ◌^◌}
+use borrow.Author.Tests.{leb-true, leb-false, ltb-true, ltb-false, eqb-true, eqb-false, lt-ltb, le-ltb, le-leb, lt-leb, ne_eqb}
 use native.Mathlib.Omega.{arith}
-use native.Mathlib.Nat.{zero-div, not-suc-le-zero, le_of_suc-le-suc}
+use native.Mathlib.Nat.{not-suc-le-zero, le_of_suc-le-suc}
 use lib.Dec.{eqb, leb, ltb}
 use lib.ListN.{length, get_or}
-use Rattle.classes.specs.Table.{class_table, bit, entry_of, tells, properties, nth}
-use Rattle.classes.specs.code.Search.{among, told_in, entry_in, known}
+use Rattle.std.specs.Int.Bits.{bit_and}
+use Rattle.std.proofs.lemmas.Nat.{pow_pos, and_mask}
+use Rattle.std.proofs.lemmas.Nat.Bits.{and_pow}
+use Rattle.std.proofs.Math.Pow.{pow_mono}
+use Rattle.classes.specs.Table.{class_table, bit, entry_of, tells, properties, nth, property}
+use Rattle.classes.specs.code.Search.{among, bits_in, known}
 use Rattle.classes.specs.Class.{in_class}
-use Rattle.classes.proofs.Bools.{and_left, and_right, and-false, false-true}
+use Rattle.classes.proofs.Bools.{false-true}
 use Rattle.classes.proofs.Table.{told, class-told}
-
--- 0 has no property
-no-bit : (k : ℕ) → bit k 0 ≡ false
-unfolding bit
-no-bit k = rw (zero-div (2 ^ (k % 16)))
 
 -- what is read past the end does not matter before it
 get_d_any : (xs : List ℕ) (i d e : ℕ) → i < length xs → get_or xs i d ≡ get_or xs i e
@@ -62,54 +61,31 @@ module _ (i hi b : ℕ) where
   unfolding among
   among-from-next e = rw (lt-leb (i + 1) b (omega (arith, e)))
 
--- one step of each search: x is the entry at i
-module _ (i hi b x : ℕ) (s : i < hi) (r : x ≡ entry_of i) where
-  told_here : (k : ℕ) → i ≡ b → told_in i hi k b ≡ bit k x
-  unfolding told_in tells
-  told_here k e = rw (among-is i hi b (omega (arith, e)) (omega (arith, s, e)), sym e, r)
+-- one step of a search: x is the entry at i
+module _ (i hi b x m : ℕ) (s : i < hi) (r : x ≡ entry_of i) where
+  bits_here : i ≡ b → bits_in i hi m b ≡ bit_and x m
+  unfolding bits_in
+  bits_here e = rw (among-is i hi b (omega (arith, e)) (omega (arith, s, e)), sym e, r)
 
-  pub told-hit : (k : ℕ) → bit k (cond (eqb i b) x 0) ≡ true → told_in i hi k b ≡ true
-  told-hit k h = go (eqb i b) refl h
+  pub bits-hit : (bit_and (cond (eqb i b) x 0) m ≡ 0 → ⊥) → bits_in i hi m b ≡ bit_and (cond (eqb i b) x 0) m
+  bits-hit h = go (eqb i b) refl h
     where
-      go : (v : Bool) → eqb i b ≡ v → bit k (cond v x 0) ≡ true → told_in i hi k b ≡ true
-      go true e g = told_here k (eqb-true i b e) ∙ g
-      go false e g = false-true (told_in i hi k b ≡ true) (sym (no-bit k) ∙ g)
-
-  pub told-off : (k : ℕ) → bit k (cond (eqb i b) x 0) ≡ false → told_in i hi k b ≡ told_in (i + 1) hi k b
-  unfolding told_in
-  told-off k h = go (eqb i b) refl h
-    where
-      go : (v : Bool) → eqb i b ≡ v → bit k (cond v x 0) ≡ false → (among i hi b && tells k b) ≡ (among (i + 1) hi b && tells k b)
-      go true e g = told_here k (eqb-true i b e) ∙ g ∙ sym (ap (λ (w : Bool). w && tells k b) (among-from-next i hi b (eqb-true i b e)))
-      go false e g = ap (λ (w : Bool). w && tells k b) (among_next i hi b (eqb-false i b e))
-
-  entry_here : i ≡ b → entry_in i hi b ≡ x
-  unfolding entry_in
-  entry_here e = rw (among-is i hi b (omega (arith, e)) (omega (arith, s, e)), sym e, r)
-
-  pub entry-hit : (cond (eqb i b) x 0 ≡ 0 → ⊥) → entry_in i hi b ≡ cond (eqb i b) x 0
-  entry-hit h = go (eqb i b) refl h
-    where
-      go : (v : Bool) → eqb i b ≡ v → (cond v x 0 ≡ 0 → ⊥) → entry_in i hi b ≡ cond v x 0
-      go true e g = entry_here (eqb-true i b e)
+      go : (v : Bool) → eqb i b ≡ v → (bit_and (cond v x 0) m ≡ 0 → ⊥) → bits_in i hi m b ≡ bit_and (cond v x 0) m
+      go true e g = bits_here (eqb-true i b e)
       go false e g = absurd (g refl)
 
-  pub entry-off : cond (eqb i b) x 0 ≡ 0 → entry_in i hi b ≡ entry_in (i + 1) hi b
-  unfolding entry_in
-  entry-off h = go (eqb i b) refl h
+  pub bits-off : bit_and (cond (eqb i b) x 0) m ≡ 0 → bits_in i hi m b ≡ bits_in (i + 1) hi m b
+  unfolding bits_in
+  bits-off h = go (eqb i b) refl h
     where
-      go : (v : Bool) → eqb i b ≡ v → cond v x 0 ≡ 0 → cond (among i hi b) (entry_of b) 0 ≡ cond (among (i + 1) hi b) (entry_of b) 0
-      go true e g = entry_here (eqb-true i b e) ∙ g ∙ sym (ap (λ (w : Bool). cond w (entry_of b) 0) (among-from-next i hi b (eqb-true i b e)))
-      go false e g = ap (λ (w : Bool). cond w (entry_of b) 0) (among_next i hi b (eqb-false i b e))
+      go : (v : Bool) → eqb i b ≡ v → bit_and (cond v x 0) m ≡ 0 → cond (among i hi b) (bit_and (entry_of b) m) 0 ≡ cond (among (i + 1) hi b) (bit_and (entry_of b) m) 0
+      go true e g = bits_here (eqb-true i b e) ∙ g ∙ sym (ap (λ (w : Bool). cond w (bit_and (entry_of b) m) 0) (among-from-next i hi b (eqb-true i b e)))
+      go false e g = ap (λ (w : Bool). cond w (bit_and (entry_of b) m) 0) (among_next i hi b (eqb-false i b e))
 
 -- a search has no more to look at
-pub told-end : (i hi k b : ℕ) → hi ≤ i → told_in i hi k b ≡ false
-unfolding told_in
-told-end i hi k b h = rw (among-end i hi b h)
-
-pub entry-end : (i hi b : ℕ) → hi ≤ i → entry_in i hi b ≡ 0
-unfolding entry_in
-entry-end i hi b h = rw (among-end i hi b h)
+pub bits-end : (i hi m b : ℕ) → hi ≤ i → bits_in i hi m b ≡ 0
+unfolding bits_in
+bits-end i hi m b h = rw (among-end i hi b h)
 
 -- a search that is cut in two at m
 module _ (lo m hi b : ℕ) (g : lo ≤ m) (h : m ≤ hi) where
@@ -131,63 +107,66 @@ module _ (lo m hi b : ℕ) (g : lo ≤ m) (h : m ≤ hi) where
       go true false p q r = rw (p, le-leb m b (ltb-false b m q))
       go false v p q r = rw (p, lt-leb m b (omega (arith, g, leb-false lo b p)))
 
-  pub told-front : (k : ℕ) → told_in lo m k b ≡ true → told_in lo hi k b ≡ true
-  unfolding told_in
-  told-front k e =
-      rw (among-front (and_left (among lo m b) (tells k b) e), and_right (among lo m b) (tells k b) e)
-
-  pub told-behind : (k : ℕ) → told_in lo m k b ≡ false → told_in lo hi k b ≡ told_in m hi k b
-  unfolding told_in
-  told-behind k e = go (among lo m b) refl e
+  pub bits-front : (k : ℕ) → (bits_in lo m k b ≡ 0 → ⊥) → bits_in lo hi k b ≡ bits_in lo m k b
+  unfolding bits_in
+  bits-front k e = go (among lo m b) refl e
     where
-      go : (v : Bool) → among lo m b ≡ v → (v && tells k b) ≡ false → (among lo hi b && tells k b) ≡ (among m hi b && tells k b)
-      go true p q = rw (q, and-false (among lo hi b), and-false (among m hi b))
-      go false p q = ap (λ (w : Bool). w && tells k b) (among-behind p)
-
-  pub entry-front : (entry_in lo m b ≡ 0 → ⊥) → entry_in lo hi b ≡ entry_in lo m b
-  unfolding entry_in
-  entry-front e = go (among lo m b) refl e
-    where
-      go : (v : Bool) → among lo m b ≡ v → (cond v (entry_of b) 0 ≡ 0 → ⊥) → cond (among lo hi b) (entry_of b) 0 ≡ cond v (entry_of b) 0
+      go : (v : Bool) → among lo m b ≡ v → (cond v (bit_and (entry_of b) k) 0 ≡ 0 → ⊥) → cond (among lo hi b) (bit_and (entry_of b) k) 0 ≡ cond v (bit_and (entry_of b) k) 0
       go true p q = rw (among-front p)
       go false p q = absurd (q refl)
 
-  pub entry-behind : entry_in lo m b ≡ 0 → entry_in lo hi b ≡ entry_in m hi b
-  unfolding entry_in
-  entry-behind e = go (among lo m b) refl e
+  pub bits-behind : (k : ℕ) → bits_in lo m k b ≡ 0 → bits_in lo hi k b ≡ bits_in m hi k b
+  unfolding bits_in
+  bits-behind k e = go (among lo m b) refl e
     where
-      go : (v : Bool) → among lo m b ≡ v → cond v (entry_of b) 0 ≡ 0 → cond (among lo hi b) (entry_of b) 0 ≡ cond (among m hi b) (entry_of b) 0
-      go true p q = each (among lo hi b) (among m hi b)
-        where
-          zeros : (v : Bool) → cond v (entry_of b) 0 ≡ 0
-          zeros true = q
-          zeros false = refl
+      zeros : bit_and (entry_of b) k ≡ 0 → (v : Bool) → cond v (bit_and (entry_of b) k) 0 ≡ 0
+      zeros q true = q
+      zeros q false = refl
 
-          each : (v w : Bool) → cond v (entry_of b) 0 ≡ cond w (entry_of b) 0
-          each v w = zeros v ∙ sym (zeros w)
-      go false p q = ap (λ (w : Bool). cond w (entry_of b) 0) (among-behind p)
+      go : (v : Bool) → among lo m b ≡ v → cond v (bit_and (entry_of b) k) 0 ≡ 0 → cond (among lo hi b) (bit_and (entry_of b) k) 0 ≡ cond (among m hi b) (bit_and (entry_of b) k) 0
+      go true p q = zeros q (among lo hi b) ∙ sym (zeros q (among m hi b))
+      go false p q = ap (λ (w : Bool). cond w (bit_and (entry_of b) k) 0) (among-behind p)
 
 -- the whole table, cut in two
-module _ (b : ℕ) (h : b < 256) where
-  whole : (k : ℕ) → told_in 0 256 k b ≡ tells k b
-  unfolding told_in
-  whole k = rw (among-is 0 256 b (omega arith) h)
+module _ (b : ℕ) (h : b < 256) (m x : ℕ) (r : x ≡ bits_in 0 128 m b) where
+  all-bits : bits_in 0 256 m b ≡ bit_and (entry_of b) m
+  unfolding bits_in
+  all-bits = rw (among-is 0 256 b (omega arith) h)
 
-  pub told-low : (k : ℕ) → k < 14 → told_in 0 128 k b ≡ true → true ≡ nth properties k b
-  told-low k g e = sym (told-front 0 128 256 b (omega arith) (omega arith) k e) ∙ whole k ∙ told k b g
+  pub bits-low : (x ≡ 0 → ⊥) → x ≡ bit_and (entry_of b) m
+  bits-low e = r ∙ sym (bits-front 0 128 256 b (omega arith) (omega arith) m (λ z. e (r ∙ z))) ∙ all-bits
 
-  pub told-high : (k : ℕ) (v : Bool) → k < 14 → told_in 0 128 k b ≡ false → v ≡ told_in 128 256 k b → v ≡ nth properties k b
-  told-high k v g e r = r ∙ sym (told-behind 0 128 256 b (omega arith) (omega arith) k e) ∙ whole k ∙ told k b g
+  pub bits-high : (y : ℕ) → x ≡ 0 → y ≡ bits_in 128 256 m b → y ≡ bit_and (entry_of b) m
+  bits-high y e s = s ∙ sym (bits-behind 0 128 256 b (omega arith) (omega arith) m (sym r ∙ e)) ∙ all-bits
 
-  all-entries : entry_in 0 256 b ≡ entry_of b
-  unfolding entry_in
-  all-entries = rw (among-is 0 256 b (omega arith) h)
+-- one bit of a number, cut out by a mask
+cut : (q p : ℕ) → q < 2 → 0 < p → not (eqb (q * p) 0) ≡ eqb q 1
+cut zero p h g = let z : 0 * p ≡ 0 = omega arith in rw z
+cut (suc zero) p h g = rw (ne_eqb (1 * p) 0 (λ e. absurd (omega arith)))
+cut (suc (suc q)) p h g = absurd (omega arith)
 
-  pub entry-low : (x : ℕ) → x ≡ entry_in 0 128 b → (x ≡ 0 → ⊥) → x ≡ entry_of b
-  entry-low x r e = r ∙ sym (entry-front 0 128 256 b (omega arith) (omega arith) (λ z. e (r ∙ z))) ∙ all-entries
+bit-cut : (k x : ℕ) → k < 16 → not (eqb (bit_and x (2 ^ k)) 0) ≡ bit k x
+unfolding bit
+bit-cut k x h =
+    let e : k % 16 ≡ k = omega arith in
+    rw (and_pow x k, e) (cut (x / 2 ^ k % 2) (2 ^ k) (omega arith) (pow_pos k))
 
-  pub entry-high : (x y : ℕ) → x ≡ entry_in 0 128 b → x ≡ 0 → y ≡ entry_in 128 256 b → y ≡ entry_of b
-  entry-high x y r e s = s ∙ sym (entry-behind 0 128 256 b (omega arith) (omega arith) (sym r ∙ e)) ∙ all-entries
+-- the bit of the property k, or nothing where k is no property's number, tells whether a byte has the property
+pub told-bit : (k b m : ℕ) → k ≤ 13 → m ≡ 1 * 2 ^ k % 65536 → not (eqb (bit_and (entry_of b) m) 0) ≡ property k b
+unfolding tells
+told-bit k b m h e =
+    let p : 2 ^ k ≤ 2 ^ 13 = pow_mono h in
+    let z : m ≡ 2 ^ k = omega arith in rw z (bit-cut k (entry_of b) (omega arith)) ∙ told k b (omega arith)
+
+none-past : (fs : List (ℕ → Bool)) (k b : ℕ) → length fs ≤ k → nth fs k b ≡ false
+none-past [] k b h = refl
+none-past (f ∷ fs) zero b h = absurd (omega arith)
+none-past (f ∷ fs) (suc k) b h = none-past fs k b (le_of_suc-le-suc h)
+
+pub told-none : (k b m : ℕ) → 13 < k → m ≡ 0 → not (eqb (bit_and (entry_of b) m) 0) ≡ property k b
+told-none k b m h e =
+    let z : bit_and (entry_of b) 0 ≡ 0 = and_mask (entry_of b) 0 ∙ omega arith in
+    rw (e, z) (sym (none-past properties k b h))
 
 -- what the class of a byte tells of a class with a number
 pub class-bit : (p k b : ℕ) (x : ℕ) (v : Bool) → p ≡ known k → x ≡ entry_of b → v ≡ bit p x → v ≡ in_class k b

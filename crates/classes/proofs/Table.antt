@@ -3,11 +3,12 @@ use mathlib.Core.Path.{◌≡◌, refl, ap, sym, ◌∙◌}
 use mathlib.Core.Bool.{Bool, true, false, ◌&&◌, not}
 use mathlib.Core.List.{List, [], ◌∷◌}
 use Prim.Native.Nat.{ℕ, zero, suc, ◌+◌, ◌<◌, ◌≤◌}
-use borrow.Author.Tests.{leb-true, leb-false, le-ltb, lt-leb, ne_eqb}
+use borrow.Author.Tests.{leb-true, leb-false, le-ltb, lt-leb, ne_eqb, eqb-true}
 use native.Mathlib.Omega.{arith}
 use native.Mathlib.Nat.{add-zero, zero-add, add-suc, suc-add, le_of_suc-le-suc, not-suc-le-zero}
 use lib.Dec.{eqb, leb}
 use lib.ListN.{length, get_or, get_or-eq_default}
+use Rattle.std.specs.Int.Bits.{bit_and}
 use Rattle.classes.specs.Class.{in_range, is_name, is_digit, is_hex, is_ascii, in_line, shows, is_digit_or_underscore, is_hex_or_underscore, is_letter, is_space, begins_part, mark_or_line_feed, space_or_tab, is_none, in_class}
 use Rattle.classes.specs.Table.{class_table, bit, entry_of, tells, properties, nth}
 use Rattle.classes.specs.code.Search.{known}
@@ -52,15 +53,24 @@ agrees : ℕ → ℕ → Bool
 agrees b x = all x b 0 properties
 
 all-agree : every agrees 0 class_table ≡ true
-unfolding agrees class_table bit properties is_name is_digit is_hex is_ascii in_line shows is_digit_or_underscore is_hex_or_underscore is_letter is_space begins_part mark_or_line_feed space_or_tab is_none in_range
+unfolding agrees class_table bit is_name is_digit is_hex is_ascii in_line shows is_digit_or_underscore is_hex_or_underscore is_letter is_space begins_part mark_or_line_feed space_or_tab is_none in_range
 all-agree = refl
 
 pub rule : (k b : ℕ) → k < 14 → b < 256 → tells k b ≡ nth properties k b
-unfolding agrees class_table properties tells entry_of
+unfolding agrees class_table tells entry_of
 rule k b g h =
     ap (λ (m : ℕ). bit m (get_or class_table b 16)) (sym (zero-add k))
     ∙ all-at (get_or class_table b 16) b properties 0 k
     (ap (λ (m : ℕ). agrees m (get_or class_table b 16)) (sym (zero-add b)) ∙ every-at agrees 16 class_table 0 b all-agree h) g
+
+-- an entry has sixteen bits
+all-fit : every (λ b x. eqb (bit_and x 65535) x) 0 class_table ≡ true
+unfolding class_table
+all-fit = refl
+
+pub entries-fit : (b : ℕ) → b < 256 → bit_and (entry_of b) 65535 ≡ entry_of b
+unfolding class_table entry_of
+entries-fit b h = eqb-true _ _ (every-at (λ b x. eqb (bit_and x 65535) x) 16 class_table 0 b all-fit h)
 
 -- numbers that are no bytes: the same of their entry
 module _ (x : ℕ) (h : 256 ≤ x) where
@@ -72,7 +82,7 @@ module _ (x : ℕ) (h : 256 ≤ x) where
   other n g = ne_eqb x n (λ e. absurd (omega arith))
 
   past : all 16 x 0 properties ≡ true
-  unfolding bit properties is_name is_digit is_hex is_ascii in_line shows is_digit_or_underscore is_hex_or_underscore is_letter is_space begins_part mark_or_line_feed space_or_tab is_none
+  unfolding bit is_name is_digit is_hex is_ascii in_line shows is_digit_or_underscore is_hex_or_underscore is_letter is_space begins_part mark_or_line_feed space_or_tab is_none
   past =
       rw (
         over 97 122 (omega arith),
@@ -92,7 +102,7 @@ module _ (x : ℕ) (h : 256 ≤ x) where
       )
 
   beyond : (k : ℕ) → k < 14 → tells k x ≡ nth properties k x
-  unfolding tells entry_of class_table properties
+  unfolding tells entry_of class_table
   beyond k g =
       rw (get_or-eq_default class_table 16 h)
       (ap (λ (m : ℕ). bit m 16) (sym (zero-add k)) ∙ all-at 16 x properties 0 k past g)
@@ -106,7 +116,7 @@ told k b g = go (leb 256 b) refl
 
 -- the property of a class
 last : (k b : ℕ) → 8 ≤ k → tells (known k) b ≡ in_class k b
-unfolding known in_class properties
+unfolding known in_class
 last k b h =
     rw (
       lt-leb k 7 (omega (arith, h)),
@@ -121,7 +131,7 @@ last k b h =
     ) (told 13 b (omega arith))
 
 pub class-told : (k b : ℕ) → tells (known k) b ≡ in_class k b
-unfolding known in_class properties
+unfolding known in_class
 class-told zero b = told 0 b (omega arith)
 class-told (suc zero) b = told 1 b (omega arith)
 class-told (suc (suc zero)) b = told 2 b (omega arith)

@@ -24,7 +24,7 @@ class_table =
     []
 
 -- the properties by their definitions, in the order of their bits
-unfoldable pub properties : List (ℕ → Bool)
+abbrev pub properties : List (ℕ → Bool)
 properties =
     is_name ∷ is_digit ∷ is_hex ∷ is_ascii ∷ in_line ∷ shows ∷ is_digit_or_underscore ∷ is_hex_or_underscore ∷
     is_letter ∷ is_space ∷ begins_part ∷ mark_or_line_feed ∷ space_or_tab ∷ is_none ∷
@@ -35,6 +35,10 @@ abbrev pub nth : List (ℕ → Bool) → ℕ → ℕ → Bool
 nth [] k b = false
 nth (f ∷ fs) zero b = f b
 nth (f ∷ fs) (suc k) b = nth fs k b
+
+-- any other number is the property of no byte
+abbrev pub property : ℕ → ℕ → Bool
+property k b = nth properties k b
 
 -- the class x has the property k: its bit; a class has sixteen
 unfoldable pub bit : ℕ → ℕ → Bool

@@ -1,18 +1,18 @@
 // Classes of bytes, and runs of bytes of a class.
 #![tactic(auto)]
 
-ghost use Rattle.std.specs.Prelude.{◌≡◌, cond, ◌≤◌, eqb, length, get_or, take};
-ghost use Rattle.classes.specs.Class.{is_digit, is_letter, is_space, begins_part, mark_or_line_feed, space_or_tab, in_class};
+ghost use Rattle.std.specs.Prelude.{◌≡◌, cond, ◌≤◌, eqb, length, get_or};
+ghost use Rattle.classes.specs.Class.{in_class};
 ghost use Rattle.classes.specs.Run.{run_end};
-ghost use Rattle.classes.specs.Table.{class_table, bit, entry_of};
-ghost use Rattle.classes.specs.code.Search.{told_in, entry_in, known};
+ghost use Rattle.classes.specs.Table.{class_table, bit, entry_of, property};
+ghost use Rattle.classes.specs.code.Search.{bits_in, known};
 
 use entries::CLASSES;
 
 mod entries;
-
 // The properties of bytes, each by its bit in an entry of the table. The first eight are the classes of which
 // there are runs.
+// A property is a number: `run_end`, which docs/PROMISES.md names, takes any.
 pub const NAME: u8 = 0;
 
 pub const DIGIT: u8 = 1;
@@ -30,15 +30,18 @@ pub const DIGIT_OR_UNDERSCORE: u8 = 6;
 
 pub const HEX_OR_UNDERSCORE: u8 = 7;
 
-const LETTER: u8 = 8;
+pub const LETTER: u8 = 8;
 
-const SPACE: u8 = 9;
+// a space, a tab or LF
+pub const SPACE: u8 = 9;
 
-const PART_START: u8 = 10;
+// what a comment or CR LF may begin with
+pub const PART_START: u8 = 10;
 
-const MARK_OR_LINE_FEED: u8 = 11;
+// what the scan of a block comment looks at
+pub const MARK_OR_LINE_FEED: u8 = 11;
 
-const SPACE_OR_TAB: u8 = 12;
+pub const SPACE_OR_TAB: u8 = 12;
 
 // what no byte is: any other number is no class's
 const NONE: u8 = 13;
@@ -60,10 +63,7 @@ fn class_table() -> [u16; 256]
 pub fn byte_at(text: &[u8], i: usize) -> u8
     ensures { result ≡ get_or text.now i 0 }
 {
-    if i < text.len() {
-        return text[i];
-    }
-    0
+    text.get(i).copied().unwrap_or(0)
 }
 
 // Whether the class x has the property k.
@@ -77,144 +77,52 @@ fn has(k: u8, x: u16) -> bool
 fn entry_if(i: usize, b: u8, x: u16) -> u16
     ensures { result ≡ cond (eqb i b) x 0 }
 {
-    if i == b as usize {
-        return x;
-    }
-    0
+    if i == usize::from(b) { x } else { 0 }
 }
 
-// Whether b is one of the entries from lo up to hi, and its entry has the property k. With the bounds as
+// The entry of b, its bits that mask has, where b is one of the entries from lo up to hi, else 0. With the bounds as
 // parameters and the table by reference the compiler puts the search into its caller.
-fn told_among(t: &[u16; 256], lo: usize, hi: usize, k: u8, b: u8) -> bool
+fn bits_among(t: &[u16; 256], lo: usize, hi: usize, mask: u16, b: u8) -> u16
     requires { (t.now ≡ class_table) × (hi ≤ 256) }
-    ensures { result ≡ told_in lo hi k b }
+    ensures { result ≡ bits_in lo hi mask b }
 {
-    let mut i = lo;
-    while i < hi {
-        if has(k, entry_if(i, b, t[i])) {
-            return true;
-        }
-        i += 1;
-    }
-    false
-}
-
-// The same, in four searches: one loop of 128 entries is not unrolled.
-fn told(t: &[u16; 256], lo: usize, hi: usize, k: u8, b: u8) -> bool
-    requires { (t.now ≡ class_table) × (lo ≤ hi) × (hi ≤ 256) }
-    ensures { result ≡ told_in lo hi k b }
-{
-    let n = (hi - lo) / 4;
-    if told_among(t, lo, lo + n, k, b) {
-        return true;
-    }
-    if told_among(t, lo + n, lo + 2 * n, k, b) {
-        return true;
-    }
-    if told_among(t, lo + 2 * n, hi - n, k, b) {
-        return true;
-    }
-    told_among(t, hi - n, hi, k, b)
-}
-
-pub fn is_digit(b: u8) -> bool
-    ensures { result ≡ is_digit b }
-{
-    let t = class_table();
-    if told(&t, 0, 128, DIGIT, b) {
-        return true;
-    }
-    told(&t, 128, 256, DIGIT, b)
-}
-
-pub fn is_letter(b: u8) -> bool
-    ensures { result ≡ is_letter b }
-{
-    let t = class_table();
-    if told(&t, 0, 128, LETTER, b) {
-        return true;
-    }
-    told(&t, 128, 256, LETTER, b)
-}
-
-// Whether b is a space, a tab or LF.
-pub fn is_space(b: u8) -> bool
-    ensures { result ≡ is_space b }
-{
-    let t = class_table();
-    if told(&t, 0, 128, SPACE, b) {
-        return true;
-    }
-    told(&t, 128, 256, SPACE, b)
-}
-
-// Whether a comment or CR LF may begin with b.
-pub fn begins_part(b: u8) -> bool
-    ensures { result ≡ begins_part b }
-{
-    let t = class_table();
-    if told(&t, 0, 128, PART_START, b) {
-        return true;
-    }
-    told(&t, 128, 256, PART_START, b)
-}
-
-// Whether the scan of a block comment looks at b.
-pub fn mark_or_line_feed(b: u8) -> bool
-    ensures { result ≡ mark_or_line_feed b }
-{
-    let t = class_table();
-    if told(&t, 0, 128, MARK_OR_LINE_FEED, b) {
-        return true;
-    }
-    told(&t, 128, 256, MARK_OR_LINE_FEED, b)
-}
-
-pub fn space_or_tab(b: u8) -> bool
-    ensures { result ≡ space_or_tab b }
-{
-    let t = class_table();
-    if told(&t, 0, 128, SPACE_OR_TAB, b) {
-        return true;
-    }
-    told(&t, 128, 256, SPACE_OR_TAB, b)
-}
-
-// The entry of b, where b is one of the entries from lo up to hi, else 0.
-fn entry_among(t: &[u16; 256], lo: usize, hi: usize, b: u8) -> u16
-    requires { (t.now ≡ class_table) × (hi ≤ 256) }
-    ensures { result ≡ entry_in lo hi b }
-{
-    let mut i = lo;
-    while i < hi {
-        let x = entry_if(i, b, t[i]);
+    for i in lo..hi {
+        let x = entry_if(i, b, t[i]) & mask;
         if x != 0 {
             return x;
         }
-        i += 1;
     }
     0
 }
 
-// The same, in four searches.
-fn entry(t: &[u16; 256], lo: usize, hi: usize, b: u8) -> u16
+// The same, in four searches: one loop of 128 entries is not unrolled.
+fn bits(t: &[u16; 256], lo: usize, hi: usize, mask: u16, b: u8) -> u16
     requires { (t.now ≡ class_table) × (lo ≤ hi) × (hi ≤ 256) }
-    ensures { result ≡ entry_in lo hi b }
+    ensures { result ≡ bits_in lo hi mask b }
 {
     let n = (hi - lo) / 4;
-    let first = entry_among(t, lo, lo + n, b);
+    let first = bits_among(t, lo, lo + n, mask, b);
     if first != 0 {
         return first;
     }
-    let second = entry_among(t, lo + n, lo + 2 * n, b);
+    let second = bits_among(t, lo + n, lo + 2 * n, mask, b);
     if second != 0 {
         return second;
     }
-    let third = entry_among(t, lo + 2 * n, hi - n, b);
+    let third = bits_among(t, lo + 2 * n, hi - n, mask, b);
     if third != 0 {
         return third;
     }
-    entry_among(t, hi - n, hi, b)
+    bits_among(t, hi - n, hi, mask, b)
+}
+
+// Whether b has the property K, as `is::<LETTER>(b)`. A number that is no property's is that of no byte.
+pub fn is<const K: u8>(b: u8) -> bool
+    ensures { result ≡ property K b }
+{
+    let t = class_table();
+    let mask = if K <= NONE { 1 << K } else { 0 };
+    bits(&t, 0, 128, mask, b) != 0 || bits(&t, 128, 256, mask, b) != 0
 }
 
 // The class of b.
@@ -222,21 +130,18 @@ fn class_of(b: u8) -> u16
     ensures { result ≡ entry_of b }
 {
     let t = class_table();
-    let low = entry(&t, 0, 128, b);
+    let low = bits(&t, 0, 128, u16::MAX, b);
     if low != 0 {
         return low;
     }
-    entry(&t, 128, 256, b)
+    bits(&t, 128, 256, u16::MAX, b)
 }
 
 // The property of the class k; a number that is no class's has that of no byte.
 fn property_of(k: u8) -> u8
     ensures { result ≡ known k }
 {
-    if k <= HEX_OR_UNDERSCORE {
-        return k;
-    }
-    NONE
+    if k <= HEX_OR_UNDERSCORE { k } else { NONE }
 }
 
 // Whether b is of the class k.
@@ -246,27 +151,12 @@ fn in_class(k: u8, b: u8) -> bool
     has(property_of(k), class_of(b))
 }
 
-// Where the run of bytes of the class k from `at` on ends, among the bytes before e.
-fn short_run(k: u8, text: &[u8], at: usize, e: usize) -> usize
-    requires { e ≤ length text.now }
-    ensures { result ≡ run_end (in_class k) (take e text.now) at }
-{
-    let mut i = at;
-    while i < e {
-        if !in_class(k, text[i]) {
-            return i;
-        }
-        i += 1;
-    }
-    i
-}
-
 // The class of b, by a copy of the table.
 fn class_by(t: &[u16; 256], b: u8) -> u16
     requires { t.now ≡ class_table }
     ensures { result ≡ entry_of b }
 {
-    t[b as usize]
+    t[usize::from(b)]
 }
 
 // Where the run of bytes of the class k from `at` on ends, by a copy of the table. Two bytes a turn take fewer
@@ -276,7 +166,7 @@ fn long_run(k: u8, text: &[u8], at: usize) -> usize
 {
     let t = class_table();
     let p = property_of(k);
-    let last = numbers::less(text.len(), 1);
+    let last = text.len().saturating_sub(1);
     let mut i = at;
     while i < last {
         if !has(p, class_by(&t, text[i])) {
@@ -287,26 +177,26 @@ fn long_run(k: u8, text: &[u8], at: usize) -> usize
         }
         i += 2;
     }
-    if i < text.len() {
-        if has(p, class_by(&t, text[i])) {
-            return i + 1;
-        }
+    if i < text.len() && has(p, class_by(&t, text[i])) {
+        return i + 1;
     }
     i
 }
 
 // Where the run of bytes of the class k from `at` on ends (get_name_len, and the digits of
-// get_decimal_number and get_hex_number, of the Rust). Most runs are short.
+// get_decimal_number and get_hex_number, of the Rust). Most runs are short. The search is a loop over places: by
+// `position` over a slice a run took four instructions more, a token of names 2.3 % more.
 pub fn run_end(k: u8, text: &[u8], at: usize) -> usize
     ensures { result ≡ run_end (in_class k) text.now at }
 {
     if text.len() <= at {
         return at;
     }
-    let e = at + numbers::smaller(SHORT_RUN, text.len() - at);
-    let i = short_run(k, text, at, e);
-    if i < e {
-        return i;
+    let e = at + SHORT_RUN.min(text.len() - at);
+    for end in at..e {
+        if !in_class(k, text[end]) {
+            return end;
+        }
     }
-    long_run(k, text, i)
+    long_run(k, text, e)
 }

@@ -12,6 +12,7 @@ ghost use Rattle.forms.specs.code.Spots.{cap, moved_by, size_between, Placed, in
 
 use tokens::Token;
 
+// The forms of a tree. A form is a number: `put_front`, `put_leaf` and `seal`, which docs/PROMISES.md names, take any.
 pub const FORM_NARROW: u8 = 0;
 
 pub const FORM_LINE: u8 = 1;
@@ -84,7 +85,7 @@ pub fn put_front(form: u8, out: &mut [u8], s: Spot) -> Spot
     if form == FORM_LINE {
         return move_by(s, 0);
     }
-    records::put_four(out, s.pos, FRONT);
+    records::put_number::<4>(out, s.pos, FRONT);
     move_by(s, 4)
 }
 

@@ -8,7 +8,6 @@ use native.Mathlib.Nat.{add-zero, add_assoc}
 use lib.ListN.{drop, length-drop}
 use Rattle.tokens.specs.Raise.{raise_refusal}
 use Rattle.tokens.specs.declared.Refusal.{Refusal}
-use Rattle.tokens.specs.declared.Fault.TheVariants.{Faultless}
 use Rattle.tokens.proofs.Faults.{unless_not}
 use Rattle.records.specs.Tree.{Tree, Trees}
 use Rattle.records.specs.Raise.{raise_tree, raise_trees}
@@ -24,6 +23,7 @@ use Rattle.grammar.proofs.Asked.{in_order_lem, of-text}
 use Rattle.frames.specs.code.Related.{Step, Met, toks, bads, Rel, oks, nos, quit}
 use Rattle.frames.specs.code.Shape.{Shape, Alike, leaves, nodes, AllAlike, nones, mores, Refused, framed, Shapely, Strings}
 use Rattle.frames.proofs.Shapes.{Obeys, kind-obeys}
+use Rattle.std.specs.Prelude.{Ok}
 
 module _ (k : ℕ) where
   abbrev frame : Shape
@@ -97,13 +97,13 @@ module _ (k : ℕ) where
 
 -- where nothing is wrong with what is asked: a text that is not too long, an offset in it at which reading may begin, one of the five
 -- kinds and one of the two editions
-pub item_from_lem : (q : Asked) → fault_of q ≡ Faultless → read_item q ≡ raise_item q.at (read_item (of_text (drop q.at q.text) q))
+pub item_from_lem : (q : Asked) → fault_of q ≡ Ok tt → read_item q ≡ raise_item q.at (read_item (of_text (drop q.at q.text) q))
 unfolding read_item
 item_from_lem q e =
     let at : ℕ = q.at in
     let behind : List ℕ = drop at q.text in
     let u : Source = opened q.edition behind 0 in
-    let d : fault_of (of_text behind q) ≡ Faultless = of-text q behind e (omega (arith, length-drop at q.text, (in_order_lem q e).short)) in
+    let d : fault_of (of_text behind q) ≡ (Ok tt) = of-text q behind e (omega (arith, length-drop at q.text, (in_order_lem q e).short)) in
     let l : lex (opened q.edition q.text at) ≡ raise_scanned at (lex u) = ap (λ (p : ℕ). lex (moved (opened q.edition q.text at) p behind)) (sym (add-zero at)) ∙ lex-raised at u in
     unless_not refused (fault_of q) _ e
     ∙ ap (λ (x : LexResult). finished (look x (read_kind q.kind))) l ∙ ap finished (looked-raised at q.kind (lex u)) ∙ finished-raised at (look (lex u) (read_kind q.kind))

@@ -2,8 +2,6 @@
 use mathlib.Core.Path.{◌≡◌, refl, ap, ap₂, ◌∙◌}
 use Prim.Native.Nat.{ℕ, zero, suc}
 use Rattle.tokens.specs.Calls.{unless}
-use Rattle.tokens.specs.declared.Fault.{Fault}
-use Rattle.tokens.specs.declared.Fault.TheVariants.{Faultless, Faulty}
 use Rattle.records.specs.Tree.{Tree, Trees, none, more, behind, joined}
 use Rattle.records.specs.Rust.{in_place, unbracketed, unbracketed_all}
 use Rattle.sources.specs.Source.{Source, opened, Lexeme, LexResult, tok, bad, lex}
@@ -16,6 +14,8 @@ use Rattle.frames.specs.code.Related.{Frame, Step, Met, toks, bads, Rel, oks, no
 use Rattle.frames.proofs.Ways.{near}
 use Rattle.frames.proofs.Readers.{wrapped, type_beside, bind_beside, kind-rel}
 use Rattle.frames.proofs.Shapes.{kind_fits}
+use Rattle.tokens.specs.declared.Refusal.{Refusal}
+use Rattle.std.specs.Prelude.{Result, Ok, Err, ⊤}
 
 -- an answer with what was read changed
 unfoldable pub mapped : {A B : Type 0} → (A → B) → Ans A → Ans B
@@ -125,10 +125,10 @@ unfolding unbracketed_item finished mapped
 finished-is (ok x u) = followed-is x (lex u)
 finished-is (no r) = refl
 
-unless-item : (f : Fault) (i : Item) → unbracketed_item (unless refused f i) ≡ unless refused f (unbracketed_item i)
+unless-item : (f : Result ⊤ Refusal) (i : Item) → unbracketed_item (unless refused f i) ≡ unless refused f (unbracketed_item i)
 unfolding unbracketed_item unless
-unless-item Faultless i = refl
-unless-item (Faulty r) i = refl
+unless-item (Ok tt) i = refl
+unless-item (Err r) i = refl
 
 -- the item is the Rust's once its tree is unbracketed, with the same refusals and the same token behind
 pub rust-item : (q : Asked) → unbracketed_item (read_item q) ≡ rust_item q

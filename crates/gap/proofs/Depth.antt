@@ -12,9 +12,8 @@ use Rattle.classes.specs.Class.{mark_or_line_feed}
 use Rattle.classes.proofs.Bools.{or_left, or_right}
 use Rattle.gap.specs.Marks.{opens, closes}
 use Rattle.gap.specs.code.Blocks.{depth_step, depth_scan, depth_at}
-use Rattle.gap.specs.declared.Close.{Close}
-use Rattle.gap.specs.declared.Close.TheVariants.{At, Missing}
 use Rattle.gap.proofs.Places.{behind, behind-two}
+use Rattle.std.specs.Prelude.{Result, Ok, Err, ℕ}
 
 -- a byte that begins no mark neither opens nor closes
 pub no-mark : (a b : ℕ) → mark_or_line_feed a ≡ false → (opens a b ≡ false) × (closes a b ≡ false)
@@ -29,13 +28,13 @@ unfolding depth_scan
 skipped n i [] = refl
 skipped n i (a ∷ s) = refl
 
-pub depth-end : (text : List ℕ) (i n : ℕ) → length text ≤ i → depth_at text i n ≡ Missing n
+pub depth-end : (text : List ℕ) (i n : ℕ) → length text ≤ i → depth_at text i n ≡ Err n
 unfolding depth_at depth_scan
 depth-end text i n h = rw (drop_of_length-le text h)
 
 -- what is left behind the byte at i
 module _ (text : List ℕ) (i : ℕ) where
-  after : Bool → ℕ → Close
+  after : Bool → ℕ → Result ℕ ℕ
   after c m = depth_scan c m (suc i) (drop (suc i) text)
 
   two-on : (m : ℕ) → after true m ≡ depth_at text (i + 2) m
@@ -55,7 +54,7 @@ module _ (text : List ℕ) (i n b : ℕ) (h : i < length text) (eb : b ≡ get_o
   opened e = rw (step, e, two-on text i (suc n), add-one n)
 
   module _ (e : opens (get_or text i 0) b ≡ false) where
-    pub shut : closes (get_or text i 0) b ≡ true → n ≤ 1 → depth_at text i n ≡ At (i + 2)
+    pub shut : closes (get_or text i 0) b ≡ true → n ≤ 1 → depth_at text i n ≡ Ok (i + 2)
     shut f g = rw (step, e, f, le-leb n 1 g)
 
     pub closed : closes (get_or text i 0) b ≡ true → 1 < n → depth_at text i n ≡ depth_at text (i + 2) (n - 1)

@@ -1,4 +1,8 @@
 -- The gap, one part after the other, at a place of a text; and where its parts end.
+use Rattle.gap.specs.declared.GapPart.{GapPart}
+use Rattle.gap.specs.declared.Unclosed.{Unclosed}
+use Rattle.gap.specs.Marks.{unclosed}
+use Rattle.gap.specs.declared.GapPart.TheVariants.{Pass, Doc}
 use mathlib.Core.Path.{◌≡◌, refl, ap, sym, ◌∙◌, subst}
 use mathlib.Core.Bool.{Bool, true, false, cond}
 use mathlib.Core.List.{List, [], ◌∷◌}
@@ -18,27 +22,23 @@ use Rattle.gap.specs.Comments.{inside, line_text, line_comment, block_comment, p
 use Rattle.gap.specs.code.Ends.{end_of_part}
 use Rattle.gap.specs.Gap.{End, clear, broken, Gap, noted, gap_from, gap}
 use Rattle.gap.specs.declared.Comment.{Comment}
-use Rattle.gap.specs.declared.Block.{Block}
-use Rattle.gap.specs.declared.Block.TheVariants.{Closed, Open}
-use Rattle.gap.specs.declared.GapPart.{GapPart}
-use Rattle.gap.specs.declared.GapPart.TheVariants.{Pass, Doc, Unclosed, Other}
-use Rattle.gap.specs.declared.PartEnd.TheVariants.{Ends, Unended, NoPart}
 use Rattle.gap.proofs.Inside.{Within, inside-within}
 use Rattle.gap.proofs.Parts.{part-blank, part-other}
 use Rattle.gap.proofs.Places.{tail_at, in-text}
+use Rattle.std.specs.Prelude.{Result, Ok, Err, ℕ, Option, Some, None}
 
 -- a part that begins at p takes a byte at least and ends in the text, whose end is `last`; so does a blamed opener
-abbrev pub Held : ℕ → ℕ → GapPart → Type 0
-Held p last (Pass e) = (p < e) × (e ≤ last)
-Held p last (Doc c) = (p < c.end) × (c.end ≤ last)
-Held p last (Unclosed o q) = (o < q) × (q ≤ last)
-Held p last Other = Unit {0}
+abbrev pub Held : ℕ → ℕ → Result (Option GapPart) Unclosed → Type 0
+Held p last (Ok (Some (Pass e))) = (p < e) × (e ≤ last)
+Held p last (Ok (Some (Doc c))) = (p < c.end) × (c.end ≤ last)
+Held p last (Err w) = (w.start < w.end) × (w.end ≤ last)
+Held p last (Ok None) = Unit {0}
 
-held-cond : (p last : ℕ) (b : Bool) (x y : GapPart) → Held p last x → Held p last y → Held p last (cond b x y)
+held-cond : (p last : ℕ) (b : Bool) (x y : Result (Option GapPart) Unclosed) → Held p last x → Held p last y → Held p last (cond b x y)
 held-cond p last true x y f g = f
 held-cond p last false x y f g = g
 
-held-if : (p last : ℕ) (b : Bool) (x y : GapPart) → (b ≡ true → Held p last x) → Held p last y → Held p last (cond b x y)
+held-if : (p last : ℕ) (b : Bool) (x y : Result (Option GapPart) Unclosed) → (b ≡ true → Held p last x) → Held p last y → Held p last (cond b x y)
 held-if p last true x y f g = f refl
 held-if p last false x y f g = g
 
@@ -52,7 +52,7 @@ line-held p a s h =
     let t = line-takes a s (eqb-true a 47 (and_left (eqb a 47) (eqb (get_or s 0 0) 47) h)) in
     let r = run_short in_line (a ∷ s) in
     held-cond p (p + length (a ∷ s)) (doc_line (get_or (a ∷ s) 2 0) (get_or (a ∷ s) 3 0))
-    (Doc (record { start = p; end = p + run_len in_line (a ∷ s); from = p + 3; to = line_text p p (a ∷ s) })) (Pass (p + run_len in_line (a ∷ s)))
+    (Ok (Some (Doc (record { start = p; end = p + run_len in_line (a ∷ s); from = p + 3; to = line_text p p (a ∷ s) })))) (Ok (Some (Pass (p + run_len in_line (a ∷ s)))))
     (omega arith, omega arith) (omega arith, omega arith)
 
 -- a doc opener has three bytes
@@ -60,12 +60,12 @@ opener-held : (p last o : ℕ) (b : Bool) → eqb o p ≡ b → p + 3 ≤ last �
 opener-held p last o true e g h = (omega arith, omega (arith, eqb-true o p e))
 opener-held p last o false e g h = (omega arith, omega arith)
 
-block_held : (p last : ℕ) (d : Bool) (k : Block) → (d ≡ true → p + 3 ≤ last) → Within last (p + 2) k → Held p last (block_comment d p k)
+block_held : (p last : ℕ) (d : Bool) (k : Result ℕ ℕ) → (d ≡ true → p + 3 ≤ last) → Within last (p + 2) k → Held p last (block_comment d p k)
 unfolding block_comment
-block_held p last true (Closed e) g h = (omega arith, h.1)
-block_held p last false (Closed e) g h = (omega arith, h.1)
-block_held p last true (Open o) g h = opener-held p last o (eqb o p) refl (g refl) h
-block_held p last false (Open o) g h = (omega arith, h)
+block_held p last true (Ok e) g h = (omega arith, h.1)
+block_held p last false (Ok e) g h = (omega arith, h.1)
+block_held p last true (Err o) g h = opener-held p last o (eqb o p) refl (g refl) h
+block_held p last false (Err o) g h = (omega arith, h)
 
 third : (p a b : ℕ) (s : List ℕ) → doc_block (get_or s 0 0) (get_or s 1 0) ≡ true → p + 3 ≤ p + length (a ∷ b ∷ s)
 unfolding doc_block
@@ -117,13 +117,13 @@ module _ (text : List ℕ) (i : ℕ) (h : i < length text) where
       let q : suc i + (e - suc i) ≡ e = omega arith in
       skip (e - suc i) (suc i) (drop (suc i) text) (omega (arith, length-drop (suc i) text)) ∙ rw (drop-drop (e - suc i) (suc i) text, q)
 
-  pub gap-pass : (e : ℕ) → part_at i (drop i text) ≡ Pass e → (gap 0 i (drop i text) ≡ gap 0 e (drop e text)) × (i < e)
+  pub gap-pass : (e : ℕ) → part_at i (drop i text) ≡ Ok (Some (Pass e)) → (gap 0 i (drop i text) ≡ gap 0 e (drop e text)) × (i < e)
   gap-pass e q = let r = subst (Held i (length text)) q held in (step ∙ rw q (on e r.0 r.1), r.0)
 
-  pub gap-doc : (c : Comment) → part_at i (drop i text) ≡ Doc c → (gap 0 i (drop i text) ≡ noted c (gap 0 c.end (drop c.end text))) × (i < c.end)
+  pub gap-doc : (c : Comment) → part_at i (drop i text) ≡ Ok (Some (Doc c)) → (gap 0 i (drop i text) ≡ noted c (gap 0 c.end (drop c.end text))) × (i < c.end)
   gap-doc c q = let r = subst (Held i (length text)) q held in (step ∙ rw q (ap (noted c) (on c.end r.0 r.1)), r.0)
 
-  pub gap-clear : part_at i (drop i text) ≡ Other → gap 0 i (drop i text) ≡ record { docs = []; last = clear i (drop i text) }
+  pub gap-clear : part_at i (drop i text) ≡ Ok None → gap 0 i (drop i text) ≡ record { docs = []; last = clear i (drop i text) }
   gap-clear q = step ∙ rw q
 
   -- a blank, whatever follows it; and a byte that begins no part
@@ -139,38 +139,38 @@ module _ (text : List ℕ) (i : ℕ) (h : i < length text) where
       let h : eqb (get_or text i 0) 13 ≡ false = or_right (eqb (get_or text i 0) 47) (eqb (get_or text i 0) 13) f in
       gap-clear (sym (part-other text i (get_or text (i + 1) 0) refl (rw (e, h)) (rw g) (rw g)))
 
-  pub gap-broken : (o e : ℕ) → part_at i (drop i text) ≡ Unclosed o e → gap 0 i (drop i text) ≡ record { docs = []; last = broken o e }
+  pub gap-broken : (o e : ℕ) → part_at i (drop i text) ≡ Err (unclosed o e) → gap 0 i (drop i text) ≡ record { docs = []; last = broken o e }
   gap-broken o e q = step ∙ rw q
 
   -- by its end alone
-  past_by : (x : GapPart) (e : ℕ) → part_at i (drop i text) ≡ x → end_of_part x ≡ Ends e → ((gap 0 i (drop i text)).last ≡ (gap 0 e (drop e text)).last) × (i < e)
+  past_by : (x : Result (Option GapPart) Unclosed) (e : ℕ) → part_at i (drop i text) ≡ x → end_of_part x ≡ Ok (Some e) → ((gap 0 i (drop i text)).last ≡ (gap 0 e (drop e text)).last) × (i < e)
   unfolding end_of_part
-  past_by (Pass d) e q h = let k : d ≡ e = cc in let r = gap-pass d q in (ap (λ (g : Gap). g.last) r.0 ∙ ap (λ (n : ℕ). (gap 0 n (drop n text)).last) k, omega (arith, r.1))
-  past_by (Doc c) e q h = let k : c.end ≡ e = cc in let r = gap-doc c q in (ap (λ (g : Gap). g.last) r.0 ∙ ap (λ (n : ℕ). (gap 0 n (drop n text)).last) k, omega (arith, r.1))
-  past_by (Unclosed o d) e q h = let z : ◌≡◌ {A = ℕ} 0 1 = cc in absurd (omega arith)
-  past_by Other e q h = let z : ◌≡◌ {A = ℕ} 0 1 = cc in absurd (omega arith)
+  past_by (Ok (Some (Pass d))) e q h = let k : d ≡ e = cc in let r = gap-pass d q in (ap (λ (g : Gap). g.last) r.0 ∙ ap (λ (n : ℕ). (gap 0 n (drop n text)).last) k, omega (arith, r.1))
+  past_by (Ok (Some (Doc c))) e q h = let k : c.end ≡ e = cc in let r = gap-doc c q in (ap (λ (g : Gap). g.last) r.0 ∙ ap (λ (n : ℕ). (gap 0 n (drop n text)).last) k, omega (arith, r.1))
+  past_by (Err w) e q h = let z : ◌≡◌ {A = ℕ} 0 1 = cc in absurd (omega arith)
+  past_by (Ok None) e q h = let z : ◌≡◌ {A = ℕ} 0 1 = cc in absurd (omega arith)
 
-  pub gap-past : (e : ℕ) → end_of_part (part_at i (drop i text)) ≡ Ends e → ((gap 0 i (drop i text)).last ≡ (gap 0 e (drop e text)).last) × (i < e)
+  pub gap-past : (e : ℕ) → end_of_part (part_at i (drop i text)) ≡ Ok (Some e) → ((gap 0 i (drop i text)).last ≡ (gap 0 e (drop e text)).last) × (i < e)
   gap-past e h = past_by (part_at i (drop i text)) e refl h
 
-  unended-by : (x : GapPart) (o e : ℕ) → part_at i (drop i text) ≡ x → end_of_part x ≡ Unended o e → (gap 0 i (drop i text)).last ≡ broken o e
+  unended-by : (x : Result (Option GapPart) Unclosed) (o e : ℕ) → part_at i (drop i text) ≡ x → end_of_part x ≡ Err (unclosed o e) → (gap 0 i (drop i text)).last ≡ broken o e
   unfolding end_of_part
-  unended-by (Pass d) o e q h = let z : ◌≡◌ {A = ℕ} 0 1 = cc in absurd (omega arith)
-  unended-by (Doc c) o e q h = let z : ◌≡◌ {A = ℕ} 0 1 = cc in absurd (omega arith)
-  unended-by (Unclosed p d) o e q h = let k : p ≡ o = cc in let l : d ≡ e = cc in ap (λ (g : Gap). g.last) (gap-broken p d q) ∙ rw (k, l)
-  unended-by Other o e q h = let z : ◌≡◌ {A = ℕ} 0 1 = cc in absurd (omega arith)
+  unended-by (Ok (Some (Pass d))) o e q h = let z : ◌≡◌ {A = ℕ} 0 1 = cc in absurd (omega arith)
+  unended-by (Ok (Some (Doc c))) o e q h = let z : ◌≡◌ {A = ℕ} 0 1 = cc in absurd (omega arith)
+  unended-by (Err w) o e q h = let k : w.start ≡ o = cc in let l : w.end ≡ e = cc in ap (λ (g : Gap). g.last) (gap-broken w.start w.end q) ∙ rw (k, l)
+  unended-by (Ok None) o e q h = let z : ◌≡◌ {A = ℕ} 0 1 = cc in absurd (omega arith)
 
-  pub gap-unended : (o e : ℕ) → end_of_part (part_at i (drop i text)) ≡ Unended o e → (gap 0 i (drop i text)).last ≡ broken o e
+  pub gap-unended : (o e : ℕ) → end_of_part (part_at i (drop i text)) ≡ Err (unclosed o e) → (gap 0 i (drop i text)).last ≡ broken o e
   gap-unended o e h = unended-by (part_at i (drop i text)) o e refl h
 
-  none-by : (x : GapPart) → part_at i (drop i text) ≡ x → end_of_part x ≡ NoPart → (gap 0 i (drop i text)).last ≡ clear i (drop i text)
+  none-by : (x : Result (Option GapPart) Unclosed) → part_at i (drop i text) ≡ x → end_of_part x ≡ Ok None → (gap 0 i (drop i text)).last ≡ clear i (drop i text)
   unfolding end_of_part
-  none-by (Pass d) q h = let z : ◌≡◌ {A = ℕ} 0 1 = cc in absurd (omega arith)
-  none-by (Doc c) q h = let z : ◌≡◌ {A = ℕ} 0 1 = cc in absurd (omega arith)
-  none-by (Unclosed p d) q h = let z : ◌≡◌ {A = ℕ} 0 1 = cc in absurd (omega arith)
-  none-by Other q h = ap (λ (g : Gap). g.last) (gap-clear q)
+  none-by (Ok (Some (Pass d))) q h = let z : ◌≡◌ {A = ℕ} 0 1 = cc in absurd (omega arith)
+  none-by (Ok (Some (Doc c))) q h = let z : ◌≡◌ {A = ℕ} 0 1 = cc in absurd (omega arith)
+  none-by (Err w) q h = let z : ◌≡◌ {A = ℕ} 0 1 = cc in absurd (omega arith)
+  none-by (Ok None) q h = ap (λ (g : Gap). g.last) (gap-clear q)
 
-  pub gap-none-at : end_of_part (part_at i (drop i text)) ≡ NoPart → (gap 0 i (drop i text)).last ≡ clear i (drop i text)
+  pub gap-none-at : end_of_part (part_at i (drop i text)) ≡ Ok None → (gap 0 i (drop i text)).last ≡ clear i (drop i text)
   gap-none-at h = none-by (part_at i (drop i text)) refl h
 
 -- a run of blanks
@@ -202,12 +202,12 @@ module _ (text : List ℕ) where
   earlier p (clear q u) g h = (omega arith, λ k. h.1 (omega arith), h.2)
   earlier p (broken o e) g h = h
 
-  from-ended : (p : ℕ) (s : List ℕ) (x : GapPart) (go : ℕ → Gap) → p < length text → s ≡ drop p text → Held p (length text) x
+  from-ended : (p : ℕ) (s : List ℕ) (x : Result (Option GapPart) Unclosed) (go : ℕ → Gap) → p < length text → s ≡ drop p text → Held p (length text) x
       → ((k : ℕ) → Ended text (suc p) (go k).last) → Ended text p (gap_from x p s go).last
-  from-ended p s (Pass e) go g q h ih = earlier p (go (e - suc p)).last g (ih (e - suc p))
-  from-ended p s (Doc c) go g q h ih = earlier p (go (c.end - suc p)).last g (ih (c.end - suc p))
-  from-ended p s (Unclosed o e) go g q h ih = h
-  from-ended p s Other go g q h ih = (omega arith, λ k. k, q)
+  from-ended p s (Ok (Some (Pass e))) go g q h ih = earlier p (go (e - suc p)).last g (ih (e - suc p))
+  from-ended p s (Ok (Some (Doc c))) go g q h ih = earlier p (go (c.end - suc p)).last g (ih (c.end - suc p))
+  from-ended p s (Err w) go g q h ih = h
+  from-ended p s (Ok None) go g q h ih = (omega arith, λ k. k, q)
 
   pub gap-ended : (s : List ℕ) (k p : ℕ) → s ≡ drop p text → Ended text p (gap k p s).last
   unfolding gap

@@ -12,27 +12,25 @@ use Rattle.classes.proofs.Bools.{false-true, and_right}
 use Rattle.gap.specs.Marks.{opens, closes}
 use Rattle.gap.specs.Comments.{innermost, inside_step, inside}
 use Rattle.gap.specs.code.Blocks.{depth_step, depth_scan, depth_at, opener_step, opener_scan, opener_at}
-use Rattle.gap.specs.declared.Close.TheVariants.{At, Missing}
-use Rattle.gap.specs.declared.Block.{Block}
-use Rattle.gap.specs.declared.Block.TheVariants.{Closed, Open}
+use Rattle.std.specs.Prelude.{Result, Ok, Err, ℕ}
 
 -- two answers of the first scan that cannot be the same
-not-both : (A : Type 0) (e n : ℕ) → At e ≡ Missing n → A
+not-both : (A : Type 0) (e n : ℕ) → ◌≡◌ {A = Result ℕ ℕ} (Ok e) (Err n) → A
 not-both A e n h = let z : ◌≡◌ {A = ℕ} 0 1 = cc in absurd (omega arith)
 
-deep_is : (n d : ℕ) → Missing n ≡ Missing d → n ≡ d
+deep_is : (n d : ℕ) → ◌≡◌ {A = Result ℕ ℕ} (Err n) (Err d) → n ≡ d
 deep_is n d e = cc
 
 -- where the first scan ends, the comment ends
 module _ (e : ℕ) where
   abbrev Ends : Bool → List ℕ → ℕ → List ℕ → Type 0
-  Ends b os i s = 0 < length os → depth_scan b (length os) i s ≡ At e → inside b os i s ≡ Closed e
+  Ends b os i s = 0 < length os → depth_scan b (length os) i s ≡ Ok e → inside b os i s ≡ Ok e
 
   ends-step : (i : ℕ) (s : List ℕ) (v w : Bool) (os : List ℕ) → ((b : Bool) (os : List ℕ) → Ends b os (suc i) s) → 0 < length os
-      → depth_step v w (length os) i (λ b n. depth_scan b n (suc i) s) ≡ At e → inside_step v w os i (λ b os. inside b os (suc i) s) ≡ Closed e
+      → depth_step v w (length os) i (λ b n. depth_scan b n (suc i) s) ≡ Ok e → inside_step v w os i (λ b os. inside b os (suc i) s) ≡ Ok e
   ends-step i s true w os ih h q = ih true (i ∷ os) (omega arith) q
   ends-step i s false true [] ih h q = absurd (not-suc-le-zero h)
-  ends-step i s false true (o ∷ []) ih h q = let r : i + 2 ≡ e = cc in ap Closed r
+  ends-step i s false true (o ∷ []) ih h q = let r : i + 2 ≡ e = cc in ap Ok r
   ends-step i s false true (o ∷ p ∷ os) ih h q =
       let g : pred (suc (suc (length os))) ≡ suc (length os) = omega arith in
       ih true (p ∷ os) (omega arith) (rw (lt-leb (suc (suc (length os))) 1 (omega arith), g) at q)
@@ -71,11 +69,11 @@ opener-top d p (o ∷ os) h e m =
 -- where the first scan leaves d comments open, the second finds the innermost opener
 module _ (d : ℕ) where
   abbrev Left : Bool → List ℕ → ℕ → ℕ → List ℕ → Type 0
-  Left b os p i s = 0 < length os → depth_scan b (length os) i s ≡ Missing d → OpenerOfDepth d os p → inside b os i s ≡ Open (opener_scan d b (length os) p i s)
+  Left b os p i s = 0 < length os → depth_scan b (length os) i s ≡ Err d → OpenerOfDepth d os p → inside b os i s ≡ Err (opener_scan d b (length os) p i s)
 
   left_step : (i : ℕ) (s : List ℕ) (v w : Bool) (os : List ℕ) (p : ℕ) → ((b : Bool) (os : List ℕ) (p : ℕ) → Left b os p (suc i) s) → 0 < length os
-      → depth_step v w (length os) i (λ b n. depth_scan b n (suc i) s) ≡ Missing d → OpenerOfDepth d os p
-      → inside_step v w os i (λ b os. inside b os (suc i) s) ≡ Open (opener_step d v w (length os) p i (λ b n p. opener_scan d b n p (suc i) s))
+      → depth_step v w (length os) i (λ b n. depth_scan b n (suc i) s) ≡ Err d → OpenerOfDepth d os p
+      → inside_step v w os i (λ b os. inside b os (suc i) s) ≡ Err (opener_step d v w (length os) p i (λ b n p. opener_scan d b n p (suc i) s))
   left_step i s true w os p ih h e m =
       ih true (i ∷ os) (cond (eqb (suc (length os)) d) i p) (omega arith) e (opener-push d i p os (eqb (suc (length os)) d) refl m)
   left_step i s false true [] p ih h e m = absurd (not-suc-le-zero h)
@@ -87,18 +85,18 @@ module _ (d : ℕ) where
 
   pub left_open : (s : List ℕ) (b : Bool) (os : List ℕ) (p i : ℕ) → Left b os p i s
   unfolding inside depth_scan opener_scan
-  left_open [] b os p i h e m = ap Open (sym (opener-top d p os h (deep_is (length os) d e) m))
+  left_open [] b os p i h e m = ap Err (sym (opener-top d p os h (deep_is (length os) d e) m))
   left_open (a ∷ s) true os p i h e m = left_open s false os p (suc i) h e m
   left_open (a ∷ s) false os p i h e m = left_step i s (opens a (get_or s 0 0)) (closes a (get_or s 0 0)) os p (λ b os p. left_open s b os p (suc i)) h e m
 
 -- the same for the comment whose opener stands at p of a text
 module _ (text : List ℕ) (p : ℕ) where
-  pub block_closed : (e : ℕ) → depth_at text (p + 2) 1 ≡ At e → inside false (p ∷ []) (p + 2) (drop (p + 2) text) ≡ Closed e
+  pub block_closed : (e : ℕ) → depth_at text (p + 2) 1 ≡ Ok e → inside false (p ∷ []) (p + 2) (drop (p + 2) text) ≡ Ok e
   unfolding depth_at
   block_closed e h = ends e (drop (p + 2) text) false (p ∷ []) (p + 2) (omega arith) h
 
-  pub block-open : (d : ℕ) → depth_at text (p + 2) 1 ≡ Missing d
-      → inside false (p ∷ []) (p + 2) (drop (p + 2) text) ≡ Open (opener_at d text (p + 2) 1 p)
+  pub block-open : (d : ℕ) → depth_at text (p + 2) 1 ≡ Err d
+      → inside false (p ∷ []) (p + 2) (drop (p + 2) text) ≡ Err (opener_at d text (p + 2) 1 p)
   unfolding depth_at opener_at
   block-open d h = left_open d (drop (p + 2) text) false (p ∷ []) p (p + 2) (omega arith) h only
     where
@@ -111,13 +109,13 @@ module _ (last : ℕ) where
   Below [] = Unit {0}
   Below (o ∷ os) = (o + 2 ≤ last) × Below os
 
-  abbrev pub Within : ℕ → Block → Type 0
-  Within i (Closed e) = (i + 1 < e) × (e ≤ last)
-  Within i (Open o) = o + 2 ≤ last
+  abbrev pub Within : ℕ → Result ℕ ℕ → Type 0
+  Within i (Ok e) = (i + 1 < e) × (e ≤ last)
+  Within i (Err o) = o + 2 ≤ last
 
-  looser : (i : ℕ) (k : Block) → Within (suc i) k → Within i k
-  looser i (Closed e) h = (omega arith, h.1)
-  looser i (Open o) h = h
+  looser : (i : ℕ) (k : Result ℕ ℕ) → Within (suc i) k → Within i k
+  looser i (Ok e) h = (omega arith, h.1)
+  looser i (Err o) h = h
 
   within_step : (i : ℕ) (s : List ℕ) (v w : Bool) (os : List ℕ) → ((b : Bool) (os : List ℕ) → 0 < length os → Below os → Within (suc i) (inside b os (suc i) s))
       → (v ≡ true → i + 2 ≤ last) → (w ≡ true → i + 2 ≤ last) → 0 < length os → Below os → Within i (inside_step v w os i (λ b os. inside b os (suc i) s))

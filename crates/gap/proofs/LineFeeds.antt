@@ -17,12 +17,10 @@ use Rattle.gap.specs.Comments.{inside, block_comment}
 use Rattle.gap.specs.LineFeed.{holds_line_feed, line_feed}
 use Rattle.gap.specs.code.Blocks.{block_part, depth_at, opener_at}
 use Rattle.gap.specs.code.Ends.{end_of_part}
-use Rattle.gap.specs.declared.Block.TheVariants.{Closed, Open}
-use Rattle.gap.specs.declared.Close.{Close}
-use Rattle.gap.specs.declared.Close.TheVariants.{At, Missing}
-use Rattle.gap.specs.declared.PartEnd.TheVariants.{Ends, NoPart}
 use Rattle.gap.proofs.Inside.{Within, inside-within, block_closed, block-open}
 use Rattle.gap.proofs.Places.{front}
+use Rattle.gap.specs.declared.Unclosed.{Unclosed}
+use Rattle.std.specs.Prelude.{Result, Ok, Err, ℕ, Option, Some, None}
 
 or_assoc : (a b c : Bool) → a || (b || c) ≡ (a || b) || c
 or_assoc true b c = refl
@@ -135,44 +133,44 @@ module _ (text : List ℕ) (i : ℕ) where
   unfolding line_feed run_end
   line-feed-in-line = let e : i + run_len in_line (drop i text) - i ≡ run_len in_line (drop i text) = omega arith in rw e (line-holds (drop i text))
 
-  pub feed-closed : (v : Bool) (s : ℕ) → v ≡ line_feed text i s → (e : ℕ) → At s ≡ At e → v ≡ line_feed text i e
+  pub feed-closed : (v : Bool) (s : ℕ) → v ≡ line_feed text i s → (e : ℕ) → ◌≡◌ {A = Result ℕ ℕ} (Ok s) (Ok e) → v ≡ line_feed text i e
   feed-closed v s h e q = let k : s ≡ e = cc in h ∙ rw k
 
-  pub feed-missing : (v : Bool) (n : ℕ) (e : ℕ) → Missing n ≡ At e → v ≡ line_feed text i e
+  pub feed-missing : (v : Bool) (n : ℕ) (e : ℕ) → ◌≡◌ {A = Result ℕ ℕ} (Err n) (Ok e) → v ≡ line_feed text i e
   feed-missing v n e q = let z : ◌≡◌ {A = ℕ} 0 1 = cc in absurd (omega arith)
 
-  pub feed-ends : (v : Bool) (s : ℕ) → v ≡ line_feed text i s → (e : ℕ) → Ends s ≡ Ends e → v ≡ line_feed text i e
+  pub feed-ends : (v : Bool) (s : ℕ) → v ≡ line_feed text i s → (e : ℕ) → ◌≡◌ {A = Result (Option ℕ) Unclosed} (Ok (Some s)) (Ok (Some e)) → v ≡ line_feed text i e
   feed-ends v s h e q = let k : s ≡ e = cc in h ∙ rw k
 
-  pub feed-line : (s : ℕ) → s ≡ run_end in_line text i → (e : ℕ) → Ends s ≡ Ends e → false ≡ line_feed text i e
+  pub feed-line : (s : ℕ) → s ≡ run_end in_line text i → (e : ℕ) → ◌≡◌ {A = Result (Option ℕ) Unclosed} (Ok (Some s)) (Ok (Some e)) → false ≡ line_feed text i e
   feed-line s h = feed-ends false s (sym line-feed-in-line ∙ rw h)
 
-  pub feed-no-part : (v : Bool) (e : ℕ) → NoPart ≡ Ends e → v ≡ line_feed text i e
+  pub feed-no-part : (v : Bool) (e : ℕ) → ◌≡◌ {A = Result (Option ℕ) Unclosed} (Ok None) (Ok (Some e)) → v ≡ line_feed text i e
   feed-no-part v e q = let z : ◌≡◌ {A = ℕ} 0 1 = cc in absurd (omega arith)
 
 -- where the part ends that a block comment is, the comment closes
-part-closed : (d : Bool) (p s e : ℕ) → end_of_part (block_comment d p (Closed s)) ≡ Ends e → s ≡ e
+part-closed : (d : Bool) (p s e : ℕ) → end_of_part (block_comment d p (Ok s)) ≡ Ok (Some e) → s ≡ e
 unfolding end_of_part block_comment
 part-closed true p s e h = cc
 part-closed false p s e h = cc
 
-part-open : (A : Type 0) (d : Bool) (p o e : ℕ) → end_of_part (block_comment d p (Open o)) ≡ Ends e → A
+part-open : (A : Type 0) (d : Bool) (p o e : ℕ) → end_of_part (block_comment d p (Err o)) ≡ Ok (Some e) → A
 unfolding end_of_part block_comment
 part-open A true p o e h = let z : ◌≡◌ {A = ℕ} 0 1 = cc in absurd (omega arith)
 part-open A false p o e h = let z : ◌≡◌ {A = ℕ} 0 1 = cc in absurd (omega arith)
 
 module _ (text : List ℕ) (i e : ℕ) where
-  closes_by : (k : Close) → depth_at text (i + 2) 1 ≡ k → end_of_part (block_part text i) ≡ Ends e → (depth_at text (i + 2) 1 ≡ At e) × (i + 2 ≤ e)
+  closes_by : (k : Result ℕ ℕ) → depth_at text (i + 2) 1 ≡ k → end_of_part (block_part text i) ≡ Ok (Some e) → (depth_at text (i + 2) 1 ≡ Ok e) × (i + 2 ≤ e)
   unfolding block_part
-  closes_by (At s) q h =
-      let c : inside false (i ∷ []) (i + 2) (drop (i + 2) text) ≡ Closed s = block_closed text i s q in
+  closes_by (Ok s) q h =
+      let c : inside false (i ∷ []) (i + 2) (drop (i + 2) text) ≡ Ok s = block_closed text i s q in
       let k : s ≡ e = part-closed (doc_block (get_or text (i + 2) 0) (get_or text (i + 3) 0)) i s e (rw c at h) in
       let r = subst (Within _ (i + 2)) c (inside-within (drop (i + 2) text) false (i ∷ []) (i + 2) _ refl (omega arith) (omega arith, tt)) in
-      (q ∙ ap At k, omega arith)
-  closes_by (Missing d) q h = part-open _ (doc_block (get_or text (i + 2) 0) (get_or text (i + 3) 0)) i (opener_at d text (i + 2) 1 i) e (rw (block-open text i d q) at h)
+      (q ∙ ap Ok k, omega arith)
+  closes_by (Err d) q h = part-open _ (doc_block (get_or text (i + 2) 0) (get_or text (i + 3) 0)) i (opener_at d text (i + 2) 1 i) e (rw (block-open text i d q) at h)
 
-  pub feed-in-block : (b : ℕ) → b ≡ get_or text (i + 1) 0 → opens (get_or text i 0) b ≡ true → (k : Close) → k ≡ depth_at text (i + 2) 1
-      → (v : Bool) → ((s : ℕ) → k ≡ At s → v ≡ line_feed text (i + 2) s) → end_of_part (block_part text i) ≡ Ends e → v ≡ line_feed text i e
+  pub feed-in-block : (b : ℕ) → b ≡ get_or text (i + 1) 0 → opens (get_or text i 0) b ≡ true → (k : Result ℕ ℕ) → k ≡ depth_at text (i + 2) 1
+      → (v : Bool) → ((s : ℕ) → k ≡ Ok s → v ≡ line_feed text (i + 2) s) → end_of_part (block_part text i) ≡ Ok (Some e) → v ≡ line_feed text i e
   unfolding opens
   feed-in-block b eb o k ek v f h =
       let r = closes_by (depth_at text (i + 2) 1) refl h in

@@ -1,7 +1,6 @@
 -- Whether a line feed stands in a part of a text: inside comments too, whatever the bytes around it are.
-use Rattle.std.specs.Prelude.{ℕ, ◌-◌, Bool, false, ◌||◌, List, [], ◌∷◌, eqb, take, drop}
-use Rattle.gap.specs.declared.GapEnd.{GapEnd}
-use Rattle.gap.specs.declared.GapEnd.TheVariants.{Clear, Broken}
+use Rattle.gap.specs.declared.Unclosed.{Unclosed}
+use Rattle.std.specs.Prelude.{ℕ, ◌-◌, Bool, false, ◌||◌, List, [], ◌∷◌, eqb, take, drop, Result, Ok, Err}
 
 -- one of the bytes is LF
 unfoldable pub holds_line_feed : List ℕ → Bool
@@ -13,6 +12,6 @@ unfoldable pub line_feed : List ℕ → ℕ → ℕ → Bool
 line_feed text at s = holds_line_feed (take (s - at) (drop at text))
 
 -- what a gap from `at` on has that ends so; one that is not closed has none
-unfoldable pub gap_feed : List ℕ → ℕ → GapEnd → Bool
-gap_feed text at (Clear e) = line_feed text at e
-gap_feed text at (Broken o q) = false
+unfoldable pub gap_feed : List ℕ → ℕ → Result ℕ Unclosed → Bool
+gap_feed text at (Ok e) = line_feed text at e
+gap_feed text at (Err w) = false

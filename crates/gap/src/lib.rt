@@ -2,19 +2,16 @@
 // (trim_whitespace_and_comments and trim_start_whitespace of the Rust).
 #![tactic(auto)]
 
-ghost use Rattle.std.specs.Prelude.{◌≡◌, cond, false, ◌&&◌, ◌||◌, List, [], ◌∷◌, ℕ, ◌+◌, ◌-◌, ◌*◌, ◌^◌, ◌<◌, eqb, length, drop};
+ghost use Rattle.std.specs.Prelude.{◌≡◌, cond, false, ◌&&◌, ◌||◌, List, [], ◌∷◌, ℕ, ◌+◌, ◌-◌, ◌*◌, ◌^◌, ◌<◌, eqb, length, drop, Ok, Some};
 ghost use Rattle.gap.specs.Marks.{is_blank, doc_line, doc_block};
 ghost use Rattle.gap.specs.Comments.{inside, line_text, line_comment, part_at};
 ghost use Rattle.gap.specs.Gap.{gap, gap_end_of, doc_of};
 ghost use Rattle.gap.specs.PartsEnd.{parts_end};
 ghost use Rattle.gap.specs.LineFeed.{line_feed, gap_feed};
 ghost use Rattle.gap.specs.code.Blocks.{block_part, depth_at, opener_at};
-ghost use Rattle.gap.specs.code.Ends.{end_of_part, textless, doc_scan};
-ghost use Rattle.gap.specs.declared.Close.TheVariants.{At};
-ghost use Rattle.gap.specs.declared.GapEnd.TheVariants.{Clear};
-ghost use Rattle.gap.specs.declared.PartEnd.TheVariants.{Ends};
+ghost use Rattle.gap.specs.code.Ends.{part_end, end_of_part, textless, doc_scan};
 
-use classes::LINE;
+use classes::{LINE, MARK_OR_LINE_FEED, PART_START, SPACE, SPACE_OR_TAB};
 
 // A doc comment: its span, and its text's, from `from` to `to`.
 #[derive(Drop)]
@@ -25,96 +22,71 @@ pub struct Comment {
     pub to: usize,
 }
 
-// A block comment: where it ends, or its innermost opener that is still open.
-#[derive(Drop)]
-pub enum Block {
-    Closed(usize),
-    Open(usize),
+// The span of the opener of a block comment that is not closed.
+#[derive(Clone, Copy)]
+pub struct Unclosed {
+    pub start: usize,
+    pub end: usize,
 }
 
-// Where a block comment closes, or how many are open at the end of the text.
-#[derive(Drop)]
-pub enum Close {
-    At(usize),
-    Missing(usize),
-}
-
-// Where a block comment closes, and whether LF stands in it.
+// Where a block comment closes, or how many are open at the end of the text; and whether LF stands in it.
 #[derive(Drop)]
 struct Closing {
-    pub close: Close,
+    pub close: Result<usize, usize>,
     pub feed: bool,
 }
 
-// A part of a gap: a blank or a plain comment, by its end; a doc comment; an unclosed block comment,
-// by the span of the opener that is blamed; or no part of a gap.
+// A part of a gap: a blank or a plain comment, by its end; or a doc comment.
 #[derive(Drop)]
 pub enum GapPart {
     Pass(usize),
     Doc(Comment),
-    Unclosed(usize, usize),
-    Other,
 }
 
-// Where a part of a gap ends; the span of the opener that is not closed; or no part of a gap.
-#[derive(Drop)]
-pub enum PartEnd {
-    Ends(usize),
-    Unended(usize, usize),
-    NoPart,
+impl GapPart {
+    // Where the part ends.
+    fn end(&self) -> usize
+        ensures { result ≡ part_end self.now }
+    {
+        match self {
+            GapPart::Pass(e) => *e,
+            GapPart::Doc(c) => c.end,
+        }
+    }
 }
 
-// Where a part of a gap ends, and whether LF stands in it.
+// Where a part of a gap ends, none where there is no part, and whether LF stands in it.
 #[derive(Drop)]
 struct PartScan {
-    pub end: PartEnd,
+    pub end: Result<Option<usize>, Unclosed>,
     pub feed: bool,
 }
 
-// The end of a gap, or the span of the opener that is not closed.
-#[derive(Drop)]
-pub enum GapEnd {
-    Clear(usize),
-    Broken(usize, usize),
-}
-
-// The end of a gap, and whether LF stands in it.
+// The end of a gap, and whether LF stands in it: the flag says nothing of whether the gap ends.
 #[derive(Drop)]
 pub struct GapScan {
-    pub end: GapEnd,
+    pub end: Result<usize, Unclosed>,
     pub feed: bool,
 }
 
-// The end of a gap, and the span of its last doc comment, (0,0) where it has none.
+// The end of a gap, and the span of its last doc comment, (0,0) where it has none. That is no Option: its one caller
+// answers (0,0) too, as `doc_before` of tokens says.
 #[derive(Drop)]
 pub struct DocScan {
-    pub end: GapEnd,
+    pub end: Result<usize, Unclosed>,
     pub from: usize,
     pub to: usize,
-}
-
-// The first doc comment of a gap; none; or the span of an opener that is not closed before any.
-#[derive(Drop)]
-pub enum FirstDoc {
-    Found(Comment),
-    Nothing,
-    BrokenFirst(usize, usize),
 }
 
 // Whether a is a blank, where b follows.
 fn is_blank(a: u8, b: u8) -> bool
     ensures { result ≡ is_blank a b }
 {
-    if classes::is_space(a) {
-        return true;
-    }
-    if a == b'\r' {
-        return b == b'\n';
-    }
-    false
+    classes::is::<SPACE>(a) || a == b'\r' && b == b'\n'
 }
 
-// Two bytes as one number, so that two are compared with two by one test.
+// Two bytes as one number, so that two are compared with two by one test. `u16::from_be_bytes` was tried: up to 0.8 %
+// more instructions a token.
 fn two_bytes(a: u8, b: u8) -> u32
     ensures { result ≡ a * 256 + b }
 {
@@ -132,67 +104,29 @@ fn pair(a: u8, b: u8, x: u8, y: u8) -> bool
 fn doc_block(a: u8, b: u8) -> bool
     ensures { result ≡ doc_block a b }
 {
-    if a != b'*' {
-        return false;
-    }
-    if b == b'*' {
-        return false;
-    }
-    b != b'/'
+    a == b'*' && b != b'*' && b != b'/'
 }
 
 // Whether a line comment that goes on with a and b is a doc comment.
 fn doc_line(a: u8, b: u8) -> bool
     ensures { result ≡ doc_line a b }
 {
-    if a == b'/' {
-        return b != b'/';
-    }
-    false
-}
-
-// a where n is d, else b.
-fn where_equal(n: usize, d: usize, a: usize, b: usize) -> usize
-    ensures { result ≡ cond (eqb n d) a b }
-{
-    if n == d {
-        return a;
-    }
-    b
-}
-
-// Whether one of two is so.
-pub fn either(a: bool, b: bool) -> bool
-    ensures { result ≡ (a || b) }
-{
-    if a {
-        return true;
-    }
-    b
-}
-
-// Whether LF stood before, or a is LF.
-fn feed_with(before: bool, a: u8) -> bool
-    ensures { result ≡ (before || eqb a 10) }
-{
-    if before {
-        return true;
-    }
-    a == b'\n'
+    a == b'/' && b != b'/'
 }
 
 // The first scan of a block comment, from behind its opener: a depth stands for the Rust's
-// stack of openers. LF is looked at where marks are, so that other bytes cost nothing more.
+// stack of openers. LF is looked at where marks are, so that other bytes cost nothing more. The loop steps over marks
+// of two bytes, so it is no `for`; nor is that of the second scan.
 fn close_of(text: &[u8], at: usize) -> Closing
     ensures close { result.close ≡ depth_at text.now at 1 }
-    ensures feed { (e : ℕ) → result.close ≡ At e → result.feed ≡ line_feed text.now at e }
+    ensures feed { (e : ℕ) → result.close ≡ Ok e → result.feed ≡ line_feed text.now at e }
 {
     let mut i = at;
     let mut n: usize = 1;
     let mut feed = false;
     while i < text.len() {
         let a = text[i];
-        if classes::mark_or_line_feed(a) {
+        if classes::is::<MARK_OR_LINE_FEED>(a) {
             let b = classes::byte_at(text, i + 1);
             if pair(a, b, b'/', b'*') {
                 n += 1;
@@ -200,14 +134,14 @@ fn close_of(text: &[u8], at: usize) -> Closing
             } else if pair(a, b, b'*', b'/') {
                 if n <= 1 {
                     return Closing {
-                        close: Close::At(i + 2),
-                        feed: feed,
+                        close: Ok(i + 2),
+                        feed,
                     };
                 }
                 n -= 1;
                 i += 2;
             } else {
-                feed = feed_with(feed, a);
+                feed |= a == b'\n';
                 i += 1;
             }
         } else {
@@ -215,8 +149,8 @@ fn close_of(text: &[u8], at: usize) -> Closing
         }
     }
     Closing {
-        close: Close::Missing(n),
-        feed: feed,
+        close: Err(n),
+        feed,
     }
 }
 
@@ -233,10 +167,12 @@ fn opener_of(text: &[u8], at: usize, d: usize, p: usize) -> usize
         let b = classes::byte_at(text, i + 1);
         if pair(a, b, b'/', b'*') {
             n += 1;
-            last = where_equal(n, d, i, last);
+            if n == d {
+                last = i;
+            }
             i += 2;
         } else if pair(a, b, b'*', b'/') {
-            n = numbers::less(n, 1);
+            n = n.saturating_sub(1);
             i += 2;
         } else {
             i += 1;
@@ -245,41 +181,28 @@ fn opener_of(text: &[u8], at: usize, d: usize, p: usize) -> usize
     last
 }
 
-// The block comment whose opener stands at p, and which closes there.
-fn block_at(text: &[u8], p: usize, w: Close) -> Block
+// Where the block comment ends whose opener stands at p, and which closes there; or its innermost opener that
+// is still open.
+fn block_at(text: &[u8], p: usize, w: Result<usize, usize>) -> Result<usize, usize>
     requires { (p < length text.now) × (w ≡ depth_at text.now (p + 2) 1) }
     ensures { result ≡ inside false (p ∷ []) (p + 2) (drop (p + 2) text.now) }
 {
-    match w {
-        Close::At(e) => Block::Closed(e),
-        Close::Missing(d) => Block::Open(opener_of(text, p + 2, d, p)),
-    }
-}
-
-// Where the text of a line ends that reaches t so far, when a at i follows.
-fn text_with(a: u8, t: usize, i: usize) -> usize
-    requires { i + 1 < 2 ^ 64 }
-    ensures { result ≡ cond (eqb a 13) t (i + 1) }
-{
-    if a == b'\r' {
-        return t;
-    }
-    i + 1
+    w.map_err(|d| opener_of(text, p + 2, d, p))
 }
 
 // Where the text of the line comment at `at` ends, its closing CRs left out.
 fn text_end(text: &[u8], at: usize) -> usize
     ensures { result ≡ line_text at at (drop at text.now) }
 {
-    let mut i = at;
     let mut t = at;
-    while i < text.len() {
+    for i in at..text.len() {
         let a = text[i];
         if a == b'\n' {
             return t;
         }
-        t = text_with(a, t, i);
-        i += 1;
+        if a != b'\r' {
+            t = i + 1;
+        }
     }
     t
 }
@@ -287,7 +210,7 @@ fn text_end(text: &[u8], at: usize) -> usize
 // The line comment at i.
 fn line_comment(text: &[u8], i: usize) -> GapPart
     requires { i < length text.now }
-    ensures { result ≡ line_comment i (drop i text.now) }
+    ensures { Ok (Some result) ≡ line_comment i (drop i text.now) }
 {
     let e = classes::run_end(LINE, text, i);
     let a = classes::byte_at(text, i + 2);
@@ -308,73 +231,64 @@ fn line_comment(text: &[u8], i: usize) -> GapPart
 fn opener_len(doc: bool, p: usize, o: usize) -> usize
     ensures { result ≡ cond (doc && eqb o p) 3 2 }
 {
-    if doc {
-        if o == p {
-            return 3;
-        }
-    }
-    2
+    if doc && o == p { 3 } else { 2 }
 }
 
 // The block comment at i, which closes there.
-fn block_comment(text: &[u8], i: usize, w: Close) -> GapPart
+fn block_comment(
+    text: &[u8],
+    i: usize,
+    w: Result<usize, usize>,
+) -> Result<Option<GapPart>, Unclosed>
     requires { (i < length text.now) × (w ≡ depth_at text.now (i + 2) 1) }
     ensures { result ≡ block_part text.now i }
 {
     let a = classes::byte_at(text, i + 2);
     let b = classes::byte_at(text, i + 3);
     let doc = doc_block(a, b);
-    let k = block_at(text, i, w);
-    match k {
-        Block::Closed(e) => {
+    match block_at(text, i, w) {
+        Ok(e) => {
             if doc {
-                return GapPart::Doc(Comment {
+                return Ok(Some(GapPart::Doc(Comment {
                     start: i,
                     end: e,
                     from: i + 3,
                     to: e - 2,
-                });
+                })));
             }
-            GapPart::Pass(e)
+            Ok(Some(GapPart::Pass(e)))
         }
-        Block::Open(o) => {
-            let n = opener_len(doc, i, o);
-            GapPart::Unclosed(o, o + n)
-        }
+        Err(o) => Err(Unclosed {
+            start: o,
+            end: o + opener_len(doc, i, o),
+        }),
     }
 }
 
-// The part of a gap that stands at i.
-fn part_at(text: &[u8], i: usize) -> GapPart
+// The part of a gap that stands at i; none where there is none.
+fn part_at(text: &[u8], i: usize) -> Result<Option<GapPart>, Unclosed>
     requires { i < length text.now }
     ensures { result ≡ part_at i (drop i text.now) }
 {
     let a = text[i];
     let b = classes::byte_at(text, i + 1);
     if is_blank(a, b) {
-        return GapPart::Pass(i + 1);
+        return Ok(Some(GapPart::Pass(i + 1)));
     }
     if pair(a, b, b'/', b'/') {
-        return line_comment(text, i);
+        return Ok(Some(line_comment(text, i)));
     }
     if pair(a, b, b'/', b'*') {
-        let w = close_of(text, i + 2);
-        let k = w.close;
-        return block_comment(text, i, k);
+        return block_comment(text, i, close_of(text, i + 2).close);
     }
-    GapPart::Other
+    Ok(None)
 }
 
 // Where a part of a gap ends.
-fn end_of_part(p: GapPart) -> PartEnd
+fn end_of_part(p: Result<Option<GapPart>, Unclosed>) -> Result<Option<usize>, Unclosed>
     ensures { result ≡ end_of_part p }
 {
-    match p {
-        GapPart::Pass(e) => PartEnd::Ends(e),
-        GapPart::Doc(c) => PartEnd::Ends(c.end),
-        GapPart::Unclosed(o, q) => PartEnd::Unended(o, q),
-        GapPart::Other => PartEnd::NoPart,
-    }
+    Ok(p?.map(|g| g.end()))
 }
 
 // The part of a gap that stands at i, by its end. Of a line comment no more than its end is looked
@@ -382,50 +296,37 @@ fn end_of_part(p: GapPart) -> PartEnd
 fn part_scan(text: &[u8], i: usize) -> PartScan
     requires { i < length text.now }
     ensures end { result.end ≡ end_of_part (part_at i (drop i text.now)) }
-    ensures feed { (e : ℕ) → result.end ≡ Ends e → result.feed ≡ line_feed text.now i e }
+    ensures feed { (e : ℕ) → result.end ≡ Ok (Some e) → result.feed ≡ line_feed text.now i e }
 {
     let a = text[i];
     let b = classes::byte_at(text, i + 1);
     if pair(a, b, b'/', b'/') {
         return PartScan {
-            end: PartEnd::Ends(classes::run_end(LINE, text, i)),
+            end: Ok(Some(classes::run_end(LINE, text, i))),
             feed: false,
         };
     }
     if pair(a, b, b'/', b'*') {
         let c = close_of(text, i + 2);
-        let k = c.close;
-        let p = block_comment(text, i, k);
         return PartScan {
-            end: end_of_part(p),
+            end: end_of_part(block_comment(text, i, c.close)),
             feed: c.feed,
         };
     }
     if is_blank(a, b) {
         return PartScan {
-            end: PartEnd::Ends(i + 1),
-            feed: feed_with(false, a),
+            end: Ok(Some(i + 1)),
+            feed: a == b'\n',
         };
     }
     PartScan {
-        end: PartEnd::NoPart,
+        end: Ok(None),
         feed: false,
     }
 }
 
-// A gap that ends at i.
-fn clear(i: usize, feed: bool) -> GapScan
-    ensures end { result.end ≡ Clear i }
-    ensures feed { result.feed ≡ feed }
-{
-    GapScan {
-        end: GapEnd::Clear(i),
-        feed: feed,
-    }
-}
-
 // Where the gap from `at` on ends, and whether LF stands in it. Most gaps are blanks or nothing, so
-// these are told first.
+// these are told first. A step is as long as the part that is read, here and in the loops below, so none is a `for`.
 pub fn gap_scan(text: &[u8], at: usize) -> GapScan
     ensures end { result.end ≡ gap_end_of (gap 0 at (drop at text.now)).last }
     ensures feed { result.feed ≡ gap_feed text.now at result.end }
@@ -434,67 +335,54 @@ pub fn gap_scan(text: &[u8], at: usize) -> GapScan
     let mut feed = false;
     while i < text.len() {
         let a = text[i];
-        if classes::space_or_tab(a) {
+        if classes::is::<SPACE_OR_TAB>(a) {
             i += 1;
         } else if a == b'\n' {
             feed = true;
             i += 1;
-        } else if classes::begins_part(a) {
+        } else if classes::is::<PART_START>(a) {
             let p = part_scan(text, i);
-            let k = p.end;
-            match k {
-                PartEnd::Ends(e) => {
-                    feed = either(feed, p.feed);
+            match p.end {
+                Ok(Some(e)) => {
+                    feed |= p.feed;
                     i = e;
                 }
-                PartEnd::Unended(o, q) => {
+                Ok(None) => {
+                    return GapScan { end: Ok(i), feed };
+                }
+                Err(u) => {
                     return GapScan {
-                        end: GapEnd::Broken(o, q),
+                        end: Err(u),
                         feed: false,
                     };
                 }
-                PartEnd::NoPart => {
-                    return clear(i, feed);
-                }
             }
         } else {
-            return clear(i, feed);
+            return GapScan { end: Ok(i), feed };
         }
     }
-    clear(i, feed)
+    GapScan { end: Ok(i), feed }
 }
 
-// Where the gap from `at` on ends.
-pub fn gap_end(text: &[u8], at: usize) -> GapEnd
-    ensures { result ≡ gap_end_of (gap 0 at (drop at text.now)).last }
-{
-    let g = gap_scan(text, at);
-    g.end
-}
-
-// The first doc comment of the gap from `at` on.
-pub fn first_doc(text: &[u8], at: usize) -> FirstDoc
+// The first doc comment of the gap from `at` on; none; or the opener that is not closed before any.
+pub fn first_doc(text: &[u8], at: usize) -> Result<Option<Comment>, Unclosed>
     ensures { result ≡ doc_of (gap 0 at (drop at text.now)) }
 {
     let mut i = at;
     while i < text.len() {
-        let p = part_at(text, i);
-        match p {
-            GapPart::Pass(e) => {
+        match part_at(text, i)? {
+            Some(GapPart::Pass(e)) => {
                 i = e;
             }
-            GapPart::Doc(c) => {
-                return FirstDoc::Found(c);
+            Some(GapPart::Doc(c)) => {
+                return Ok(Some(c));
             }
-            GapPart::Unclosed(o, q) => {
-                return FirstDoc::BrokenFirst(o, q);
-            }
-            GapPart::Other => {
-                return FirstDoc::Nothing;
+            None => {
+                return Ok(None);
             }
         }
     }
-    FirstDoc::Nothing
+    Ok(None)
 }
 
 // Where the closed parts of the gap from `at` on end: at its end, or at the first byte of the comment that
@@ -504,19 +392,10 @@ pub fn parts_end(text: &[u8], at: usize) -> usize
 {
     let mut i = at;
     while i < text.len() {
-        let p = part_at(text, i);
-        let k = end_of_part(p);
-        match k {
-            PartEnd::Ends(e) => {
-                i = e;
-            }
-            PartEnd::Unended(_, _) => {
-                return i;
-            }
-            PartEnd::NoPart => {
-                return i;
-            }
-        }
+        let Ok(Some(e)) = end_of_part(part_at(text, i)) else {
+            return i;
+        };
+        i = e;
     }
     i
 }
@@ -524,7 +403,7 @@ pub fn parts_end(text: &[u8], at: usize) -> usize
 // The line comment at i; of its span alone, so that its bytes are looked over once.
 fn line_span(text: &[u8], i: usize) -> GapPart
     requires { i < length text.now }
-    ensures { textless result ≡ textless (line_comment i (drop i text.now)) }
+    ensures { textless (Ok (Some result)) ≡ textless (line_comment i (drop i text.now)) }
 {
     let e = classes::run_end(LINE, text, i);
     let a = classes::byte_at(text, i + 2);
@@ -541,27 +420,16 @@ fn line_span(text: &[u8], i: usize) -> GapPart
 }
 
 // The part of a gap that stands at i; of a doc comment the span alone.
-fn part_span(text: &[u8], i: usize) -> GapPart
+fn part_span(text: &[u8], i: usize) -> Result<Option<GapPart>, Unclosed>
     requires { i < length text.now }
     ensures { textless result ≡ textless (part_at i (drop i text.now)) }
 {
     let a = text[i];
     let b = classes::byte_at(text, i + 1);
     if pair(a, b, b'/', b'/') {
-        return line_span(text, i);
+        return Ok(Some(line_span(text, i)));
     }
     part_at(text, i)
-}
-
-// A gap that ends so, and its last doc comment.
-fn documented(end: GapEnd, from: usize, to: usize) -> DocScan
-    ensures { result ≡ record { end = end; from = from; to = to } }
-{
-    DocScan {
-        end: end,
-        from: from,
-        to: to,
-    }
 }
 
 // Where the gap from `at` on ends, and its last doc comment. This is no answer of `gap_scan`: the token call, in
@@ -574,29 +442,44 @@ pub fn doc_scan(text: &[u8], at: usize) -> DocScan
     let mut to: usize = 0;
     while i < text.len() {
         let a = text[i];
-        if classes::is_space(a) {
+        if classes::is::<SPACE>(a) {
             i += 1;
-        } else if classes::begins_part(a) {
-            let p = part_span(text, i);
-            match p {
-                GapPart::Pass(e) => {
+        } else if classes::is::<PART_START>(a) {
+            match part_span(text, i) {
+                Ok(Some(GapPart::Pass(e))) => {
                     i = e;
                 }
-                GapPart::Doc(c) => {
+                Ok(Some(GapPart::Doc(c))) => {
                     from = c.start;
                     to = c.end;
                     i = c.end;
                 }
-                GapPart::Unclosed(o, q) => {
-                    return documented(GapEnd::Broken(o, q), from, to);
+                Ok(None) => {
+                    return DocScan {
+                        end: Ok(i),
+                        from,
+                        to,
+                    };
                 }
-                GapPart::Other => {
-                    return documented(GapEnd::Clear(i), from, to);
+                Err(u) => {
+                    return DocScan {
+                        end: Err(u),
+                        from,
+                        to,
+                    };
                 }
             }
         } else {
-            return documented(GapEnd::Clear(i), from, to);
+            return DocScan {
+                end: Ok(i),
+                from,
+                to,
+            };
         }
     }
-    documented(GapEnd::Clear(i), from, to)
+    DocScan {
+        end: Ok(i),
+        from,
+        to,
+    }
 }

@@ -1,8 +1,7 @@
 -- The five kinds of items, read at an offset of a text in an edition.
-use Rattle.std.specs.Prelude.{ℕ, Bool, ◌||◌, List, eqb, ltb}
+use Rattle.std.specs.Prelude.{ℕ, Bool, ◌||◌, List, eqb, ltb, Result, ⊤}
 use Rattle.tokens.specs.Refusals.{NoSuchKind}
 use Rattle.tokens.specs.Calls.{fault_if, ◌or_else◌, place_fault, edition_fault, unless}
-use Rattle.tokens.specs.declared.Fault.{Fault}
 use Rattle.tokens.specs.declared.Refusal.{Refusal}
 use Rattle.starts.specs.Beginning.{start_fault}
 use Rattle.records.specs.Tree.{Tree}
@@ -53,11 +52,11 @@ abbrev pub no_kind : ℕ → Bool
 no_kind kind = eqb kind 0 || ltb 5 kind
 
 -- what is wrong with it before the text is looked at: refusals 1, 2, 3 and 19, in this order
-unfoldable pub number_fault : Asked → Fault
+unfoldable pub number_fault : Asked → Result ⊤ Refusal
 number_fault q = place_fault q.text q.at or_else fault_if (no_kind q.kind) NoSuchKind or_else edition_fault q.edition
 
 -- and before the item is: then, where reading may not begin at the offset, 21 or the refusal of what starts before it
-unfoldable pub fault_of : Asked → Fault
+unfoldable pub fault_of : Asked → Result ⊤ Refusal
 fault_of q = number_fault q or_else start_fault q.edition q.text q.at
 
 -- what is read from the offset on, by a reader for each kind

@@ -16,8 +16,6 @@ use Rattle.tokens.specs.Refusals.{CommaForItem, ListNotClosed}
 use Rattle.tokens.specs.Calls.{text_limit, next_token}
 use Rattle.tokens.specs.declared.Refusal.{Refusal}
 use Rattle.tokens.specs.declared.Token.{Token as Answer}
-use Rattle.tokens.specs.declared.Lexed.{Lexed}
-use Rattle.tokens.specs.declared.Lexed.TheVariants.{Found, Refused as Bad}
 use Rattle.records.specs.Tree.{Tree, Trees, none, more, joined, behind}
 use Rattle.sources.specs.Source.{Source, opened, split, after, lex}
 use Rattle.answers.specs.Reading.{Ans, ok, no, then, look, when, closed, refused_before, unexpected, Reader, list, list_behind}
@@ -28,20 +26,16 @@ use Rattle.forms.specs.declared.Spot.{Spot}
 use Rattle.forms.proofs.Placing.{capped, moved_twice, placed-long, placed-as, placed-both}
 use Rattle.parts.specs.code.Meets.{Fits, held, followed_by, Contract, ReadsBy}
 use Rattle.parts.specs.declared.Part.{Part}
-use Rattle.parts.specs.declared.Parsed.{Parsed}
-use Rattle.parts.specs.declared.Parsed.TheVariants.{Read, Refused as Wrong}
 use Rattle.parts.proofs.Held.{past-opened, held_after, Next, next-found, next-refused}
 use Rattle.parts.proofs.Contracts.{reads-no, reads-finished, reads-had, reads-goes, reads-not, refuses-look}
 use Rattle.lists.specs.code.Lists.{ending_at, before_item, next_item, behind_item, after_item, Itemed, Steps, count_of, one_more, closed_at, part_of, Counts, ListContract}
-use Rattle.lists.specs.declared.Listed.{Listed}
-use Rattle.lists.specs.declared.Listed.TheVariants.{Refused as Broken}
-use Rattle.lists.specs.declared.Ending.{Ending}
-use Rattle.lists.specs.declared.Ending.TheVariants.{At, Not}
 use Rattle.lists.specs.declared.Turn.{Turn}
-use Rattle.lists.specs.declared.Turn.TheVariants.{Item, Closes, Refused as Faulty}
+use Rattle.lists.specs.declared.Turn.TheVariants.{Item, Closes}
 use Rattle.lists.specs.declared.Step.{Step}
-use Rattle.lists.specs.declared.Step.TheVariants.{Goes, Last, Closes as Shut, Refused as Stopped}
+use Rattle.lists.specs.declared.Step.TheVariants.{Goes, Last, Closes as Shut}
 use Rattle.lists.proofs.Laying.{joined-behind, joined-none, joined-one, listed-behind, count-behind}
+use Rattle.lists.specs.declared.Items.{Items}
+use Rattle.std.specs.Prelude.{Result, Ok, Err, Option, Some, None, ℕ}
 
 -- a token of a text that closes a list, and one that does not
 module _ (ed : ℕ) (text : List ℕ) (close : ℕ) (t : Answer) (fit : Fits text t) where
@@ -54,32 +48,32 @@ module _ (ed : ℕ) (text : List ℕ) (close : ℕ) (t : Answer) (fit : Fits tex
       past-opened ed text 1 t.start (min (t.start + 1) t.end) (omega (arith, k, fit.1))
 
   module _ {B : Type 0} (f : Source → Ans B) (g : Unit {0} → Ans B) where
-    Closed : Ending → Type 0
-    Closed (At q) = closed close (held ed text t) f g ≡ f (opened ed text q)
-    Closed Not = closed close (held ed text t) f g ≡ g tt
+    Closed : Option ℕ → Type 0
+    Closed (Some q) = closed close (held ed text t) f g ≡ f (opened ed text q)
+    Closed None = closed close (held ed text t) f g ≡ g tt
 
-    closed-by : (b d : Bool) → eqb t.kind close ≡ b → double ≡ d → Closed (cond b (At t.end) (cond d (At (min (t.start + 1) t.end)) Not))
+    closed-by : (b d : Bool) → eqb t.kind close ≡ b → double ≡ d → Closed (cond b (Some t.end) (cond d (Some (min (t.start + 1) t.end)) None))
     unfolding closed when Closed
     closed-by true d h i = rw h (ap f (held_after ed text t fit))
     closed-by false true h i = rw (h, i) (ap f (split_at i))
     closed-by false false h i = rw (h, i)
 
-    closed-as : (e : Ending) → ending_at close t ≡ e → Closed e
+    closed-as : (e : Option ℕ) → ending_at close t ≡ e → Closed e
     unfolding ending_at
     closed-as e h = subst Closed h (closed-by (eqb t.kind close) double refl refl)
 
   -- reading goes on in the token or behind it
-  Ends : Ending → Type 0
-  Ends (At q) = (t.start ≤ q) × (q ≤ t.end)
-  Ends Not = Unit {0}
+  Ends : Option ℕ → Type 0
+  Ends (Some q) = (t.start ≤ q) × (q ≤ t.end)
+  Ends None = Unit {0}
 
-  ends_by : (b d : Bool) → Ends (cond b (At t.end) (cond d (At (min (t.start + 1) t.end)) Not))
+  ends_by : (b d : Bool) → Ends (cond b (Some t.end) (cond d (Some (min (t.start + 1) t.end)) None))
   unfolding Ends
   ends_by true d = (omega (arith, fit.1), omega arith)
   ends_by false true = (omega (arith, fit.1), omega arith)
   ends_by false false = tt
 
-  ending-in : (q : ℕ) → ending_at close t ≡ At q → (t.start ≤ q) × (q ≤ t.end)
+  ending-in : (q : ℕ) → ending_at close t ≡ Some q → (t.start ≤ q) × (q ≤ t.end)
   unfolding ending_at Ends
   ending-in q h = subst Ends h (ends_by (eqb t.kind close) double)
 
@@ -97,12 +91,12 @@ module _ (ed : ℕ) (text : List ℕ) (item : Reader) (close : ℕ) (o : Answer)
       no (refused_before ListNotClosed t (held ed text o))
 
   -- what the token before an item says
-  Turned : ℕ → Turn → Type 0
-  Turned at (Item a) = Next ed text at a × ((f : ℕ) → onward f at ≡ rest f (item (held ed text a)))
-  Turned at (Closes q) = (at ≤ q) × (q ≤ length text) × ((f : ℕ) → onward f at ≡ ok none (opened ed text q))
-  Turned at (Faulty r) = (length text ≤ text_limit → at ≤ length text → (f : ℕ) → onward f at ≡ no r)
+  Turned : ℕ → Result Turn Refusal → Type 0
+  Turned at (Ok (Item a)) = Next ed text at a × ((f : ℕ) → onward f at ≡ rest f (item (held ed text a)))
+  Turned at (Ok (Closes q)) = (at ≤ q) × (q ≤ length text) × ((f : ℕ) → onward f at ≡ ok none (opened ed text q))
+  Turned at (Err r) = (length text ≤ text_limit → at ≤ length text → (f : ℕ) → onward f at ≡ no r)
 
-  module _ (at : ℕ) (t : Answer) (h : next_token ed text at ≡ Found t) where
+  module _ (at : ℕ) (t : Answer) (h : next_token ed text at ≡ Ok t) where
     abbrev found : Next ed text at t
     found = next-found ed text at t h
 
@@ -110,21 +104,21 @@ module _ (ed : ℕ) (text : List ℕ) (item : Reader) (close : ℕ) (o : Answer)
     unfolding list look
     onward-found f = rw found.is
 
-    turned_by : (e : Ending) (b : Bool) → ending_at close t ≡ e → eqb t.kind Comma ≡ b → Turned at (before_item t e)
+    turned_by : (e : Option ℕ) (b : Bool) → ending_at close t ≡ e → eqb t.kind Comma ≡ b → Turned at (before_item t e)
     unfolding before_item Turned when Closed
-    turned_by (At q) b g i =
+    turned_by (Some q) b g i =
         let z = ending-in ed text close t found.fits q g in
-        (omega (arith, found.from, z.0), omega (arith, found.fits.2, z.1), λ f. onward-found f ∙ closed-as ed text close t found.fits _ _ (At q) g)
-    turned_by Not true g i = rw i (λ _ _ f. onward-found f ∙ closed-as ed text close t found.fits _ _ Not g ∙ rw i)
-    turned_by Not false g i = rw i (found, λ f. onward-found f ∙ closed-as ed text close t found.fits _ _ Not g ∙ rw i)
+        (omega (arith, found.from, z.0), omega (arith, found.fits.2, z.1), λ f. onward-found f ∙ closed-as ed text close t found.fits _ _ (Some q) g)
+    turned_by None true g i = rw i (λ _ _ f. onward-found f ∙ closed-as ed text close t found.fits _ _ None g ∙ rw i)
+    turned_by None false g i = rw i (found, λ f. onward-found f ∙ closed-as ed text close t found.fits _ _ None g ∙ rw i)
 
   turned : (at : ℕ) → Turned at (next_item close (next_token ed text at))
   unfolding next_item Turned list look
   turned at = go (next_token ed text at) refl
     where
-      go : (y : Lexed) → next_token ed text at ≡ y → Turned at (next_item close y)
-      go (Found t) h = turned_by at t h (ending_at close t) (eqb t.kind Comma) refl refl
-      go (Bad r) h = λ i j f. rw (next-refused ed text at i j r h)
+      go : (y : Result Answer Refusal) → next_token ed text at ≡ y → Turned at (next_item close y)
+      go (Ok t) h = turned_by at t h (ending_at close t) (eqb t.kind Comma) refl refl
+      go (Err r) h = λ i j f. rw (next-refused ed text at i j r h)
 
   -- what the token behind an item says; the item x was laid down from s on
   record Passed (form : ℕ) (x : Ans Tree) (by : ℕ → Tree → Ans Trees) (from : ℕ) (s : Spot) (l : List ℕ) (e : Spot) (q : ℕ) (m : List ℕ) : Type 0 where
@@ -141,13 +135,13 @@ module _ (ed : ℕ) (text : List ℕ) (item : Reader) (close : ℕ) (o : Answer)
   goes_on q f x = then (list item close (held ed text o) f (lex (opened ed text q))) (λ xs v. ok (more x xs) v)
 
   module _ (form : ℕ) (x : Ans Tree) (from : ℕ) (s : Spot) (l m : List ℕ) where
-    Stepped : Step → Type 0
-    Stepped (Goes e q) = Passed form x (goes_on q) from s l e q m × (from < q)
-    Stepped (Last e q) = Passed form x (ended q) from s l e q m
-    Stepped (Shut q) = ⊥
-    Stepped (Stopped r) = (f : ℕ) → rest f x ≡ no r
+    Stepped : Result Step Refusal → Type 0
+    Stepped (Ok (Goes e q)) = Passed form x (goes_on q) from s l e q m × (from < q)
+    Stepped (Ok (Last e q)) = Passed form x (ended q) from s l e q m
+    Stepped (Ok (Shut q)) = ⊥
+    Stepped (Err r) = (f : ℕ) → rest f x ≡ no r
 
-    module _ (what : Tree) (p : Part) (y : x ≡ ok what (opened ed text p.end)) (z : Placed l s (laid form what) p.to m) (i : from ≤ p.end) (h : next_token ed text p.end ≡ Found p.next) where
+    module _ (what : Tree) (p : Part) (y : x ≡ ok what (opened ed text p.end)) (z : Placed l s (laid form what) p.to m) (i : from ≤ p.end) (h : next_token ed text p.end ≡ Ok p.next) where
       abbrev behind-it : Next ed text p.end p.next
       behind-it = next-found ed text p.end p.next h
 
@@ -156,41 +150,41 @@ module _ (ed : ℕ) (text : List ℕ) (item : Reader) (close : ℕ) (o : Answer)
       unfolding then look
       rest-found f = rw (y, behind-it.is)
 
-      stepped_by : (e : Ending) (b : Bool) → ending_at close p.next ≡ e → eqb p.next.kind Comma ≡ b → Stepped (behind_item o p.to p.next e)
+      stepped_by : (e : Option ℕ) (b : Bool) → ending_at close p.next ≡ e → eqb p.next.kind Comma ≡ b → Stepped (behind_item o p.to p.next e)
       unfolding behind_item Stepped when Closed
-      stepped_by (At q) b g j =
+      stepped_by (Some q) b g j =
           let w = ending-in ed text close p.next behind-it.fits q g in
           record {
             what = what;
-            is = λ f. rest-found f ∙ closed-as ed text close p.next behind-it.fits _ _ (At q) g;
+            is = λ f. rest-found f ∙ closed-as ed text close p.next behind-it.fits _ _ (Some q) g;
             bytes = z;
             after = omega (arith, i, behind-it.from, w.0);
             within = omega (arith, behind-it.fits.2, w.1);
           }
-      stepped_by Not true g j =
+      stepped_by None true g j =
           let k = eqb-true p.next.kind Comma j in
           rw j (
             record {
               what = what;
-              is = λ f. rest-found f ∙ closed-as ed text close p.next behind-it.fits _ _ Not g ∙ rw (j, held_after ed text p.next behind-it.fits);
+              is = λ f. rest-found f ∙ closed-as ed text close p.next behind-it.fits _ _ None g ∙ rw (j, held_after ed text p.next behind-it.fits);
               bytes = z;
               after = omega (arith, i, behind-it.from, behind-it.fits.1);
               within = behind-it.fits.2;
             },
             omega (arith, i, k, behind-it.from, behind-it.fits.1),
           )
-      stepped_by Not false g j = rw j (λ f. rest-found f ∙ closed-as ed text close p.next behind-it.fits _ _ Not g ∙ rw j)
+      stepped_by None false g j = rw j (λ f. rest-found f ∙ closed-as ed text close p.next behind-it.fits _ _ None g ∙ rw j)
 
-    stepped : (fits : Type 0) → fits → (r : Parsed) → Contract (laid form) ed text fits x from s l r m → Stepped (after_item close o r)
+    stepped : (fits : Type 0) → fits → (r : Result Part Refusal) → Contract (laid form) ed text fits x from s l r m → Stepped (after_item close o r)
     unfolding after_item Stepped
-    stepped fits fit (Read p) d =
+    stepped fits fit (Ok p) d =
         let w = reads-had d p refl fit in
         let v = reads-goes d p refl in
         stepped_by w.what p w.is w.bytes v.0 v.1 (ending_at close p.next) (eqb p.next.kind Comma) refl refl
-    stepped fits fit (Wrong r) d = λ f. refuses-look x r _ (reads-not d r refl fit)
+    stepped fits fit (Err r) d = λ f. refuses-look x r _ (reads-not d r refl fit)
 
 -- the first token of an item
-pub item-there : (ed : ℕ) (text : List ℕ) (close at : ℕ) (a : Answer) → next_item close (next_token ed text at) ≡ Item a → Next ed text at a
+pub item-there : (ed : ℕ) (text : List ℕ) (close at : ℕ) (a : Answer) → next_item close (next_token ed text at) ≡ Ok (Item a) → Next ed text at a
 unfolding Turned
 item-there ed text close at a e = (subst (Turned ed text (λ t. unexpected t) close a at) e (turned ed text (λ t. unexpected t) close a at)).0
 
@@ -217,25 +211,25 @@ start-placed l m xs s s₀ r h e w =
     }
 
 -- a step, by what stands before the item
-module _ (form ed : ℕ) (text : List ℕ) (item : Reader) (close : ℕ) (o : Answer) (first : Bool) (s : Spot) (l : List ℕ) (b : Turn) where
-  pub steps-refused : (x : Refusal) → b ≡ Faulty x → Steps form ed text item close o first s l b (Stopped x) l
+module _ (form ed : ℕ) (text : List ℕ) (item : Reader) (close : ℕ) (o : Answer) (first : Bool) (s : Spot) (l : List ℕ) (b : Result Turn Refusal) where
+  pub steps-refused : (x : Refusal) (r : Result Step Refusal) → b ≡ Err x → r ≡ Err x → Steps form ed text item close o first s l b r l
   unfolding Steps
-  steps-refused x e = rw e (refl, refl)
+  steps-refused x r e d = rw e (d, refl)
 
-  pub steps-closes : (q : ℕ) → b ≡ Closes q → Steps form ed text item close o first s l b (Shut q) l
+  pub steps-closes : (q : ℕ) → b ≡ Ok (Closes q) → Steps form ed text item close o first s l b (Ok (Shut q)) l
   unfolding Steps
   steps-closes q e = rw e (refl, refl)
 
-  pub steps-item : (a : Answer) (r : Step) (m : List ℕ) → b ≡ Item a → Itemed form ed text item close o first s l a r m → Steps form ed text item close o first s l b r m
+  pub steps-item : (a : Answer) (r : Result Step Refusal) (m : List ℕ) → b ≡ Ok (Item a) → Itemed form ed text item close o first s l a r m → Steps form ed text item close o first s l b r m
   unfolding Steps
   steps-item a r m e d = rw e d
 
 -- whether a step took an item
-Took : Step → Type 0
-Took (Goes e q) = Unit {0}
-Took (Last e q) = Unit {0}
-Took (Shut q) = ⊥
-Took (Stopped r) = ⊥
+Took : Result Step Refusal → Type 0
+Took (Ok (Goes e q)) = Unit {0}
+Took (Ok (Last e q)) = Unit {0}
+Took (Ok (Shut q)) = ⊥
+Took (Err r) = ⊥
 
 module _ (form ed : ℕ) (text : List ℕ) (item : Reader) (close : ℕ) (o : Answer) where
   abbrev whole : Ans Trees
@@ -270,21 +264,21 @@ module _ (form ed : ℕ) (text : List ℕ) (item : Reader) (close : ℕ) (o : An
           within = λ fit. fit.2;
         }
 
-    abbrev Answers : Listed → List ℕ → Type 0
+    abbrev Answers : Result Items Refusal → List ℕ → Type 0
     Answers r m = ListContract form ed text item close o s l₀ r m
 
     -- the list closes before q
-    closed-part : (q n : ℕ) (w : Spot) (y : Lexed) → part_of (closed_at q n w y) ≡ followed_by w q y
+    closed-part : (q n : ℕ) (w : Spot) (y : Result Answer Refusal) → part_of (closed_at q n w y) ≡ followed_by w q y
     unfolding closed_at part_of followed_by
-    closed-part q n w (Found t) = refl
-    closed-part q n w (Bad r) = refl
+    closed-part q n w (Ok t) = refl
+    closed-part q n w (Err r) = refl
 
-    closed-counts : (x : Ans Trees) (ts : Trees) (v : Source) (q n : ℕ) (w : Spot) (y : Lexed) → x ≡ ok ts v → n ≡ count_of ts → Counts x (closed_at q n w y)
+    closed-counts : (x : Ans Trees) (ts : Trees) (v : Source) (q n : ℕ) (w : Spot) (y : Result Answer Refusal) → x ≡ ok ts v → n ≡ count_of ts → Counts x (closed_at q n w y)
     unfolding closed_at Counts
-    closed-counts x ts v q n w (Found t) e c = λ us u d. (let same : ts ≡ us = cc in c ∙ ap count_of same)
-    closed-counts x ts v q n w (Bad r) e c = tt
+    closed-counts x ts v q n w (Ok t) e c = λ us u d. (let same : ts ≡ us = cc in c ∙ ap count_of same)
+    closed-counts x ts v q n w (Err r) e c = tt
 
-    closes_by : (ts : Trees) (q n : ℕ) (w : Spot) (m : List ℕ) (r : Listed) → (Fits text o → whole ≡ ok ts (opened ed text q)) → n ≡ count_of ts → Placed l₀ s₀ (laid_items form ts) w m → o.end ≤ q → q ≤ length text
+    closes_by : (ts : Trees) (q n : ℕ) (w : Spot) (m : List ℕ) (r : Result Items Refusal) → (Fits text o → whole ≡ ok ts (opened ed text q)) → n ≡ count_of ts → Placed l₀ s₀ (laid_items form ts) w m → o.end ≤ q → q ≤ length text
         → r ≡ closed_at q n w (next_token ed text q) → Answers r m
     closes_by ts q n w m r e c b g i x =
         record {
@@ -293,21 +287,21 @@ module _ (form ed : ℕ) (text : List ℕ) (item : Reader) (close : ℕ) (o : An
         }
 
     -- the list is refused
-    stops-by : (m : List ℕ) (r : Refusal) → (Fits text o → whole ≡ no r) → Answers (Broken r) m
+    stops-by : (m : List ℕ) (r : Refusal) → (Fits text o → whole ≡ no r) → Answers (Err r) m
     unfolding part_of Counts
     stops-by m r e = record { reads = reads-no r e; counts = λ fit. tt }
 
     module _ (i n : ℕ) (to : Spot) (l : List ℕ) (g : Going s₀ l₀ i to n l) where
-      abbrev turn : Turn
+      abbrev turn : Result Turn Refusal
       turn = next_item close (next_token ed text i)
 
-      list-refused : (r : Refusal) → turn ≡ Faulty r → Answers (Broken r) l
+      list-refused : (r : Refusal) → turn ≡ Err r → Answers (Err r) l
       unfolding Turned then
       list-refused r e =
           let d = subst (Turned ed text item close o i) e (turned ed text item close o i) in
           stops-by l r (λ fit. g.is fit ∙ rw (d fit.0 (g.within fit) g.fuel))
 
-      list-closes : (q : ℕ) (r : Listed) → turn ≡ Closes q → r ≡ closed_at q n to (next_token ed text q) → Answers r l
+      list-closes : (q : ℕ) (r : Result Items Refusal) → turn ≡ Ok (Closes q) → r ≡ closed_at q n to (next_token ed text q) → Answers r l
       unfolding Turned then
       list-closes q r e x =
           let d = subst (Turned ed text item close o i) e (turned ed text item close o i) in
@@ -316,7 +310,7 @@ module _ (form ed : ℕ) (text : List ℕ) (item : Reader) (close : ℕ) (o : An
           g.counts g.bytes (omega (arith, g.after, d.0)) d.1 x
 
       -- an item, which was laid down behind what parts it from the one before it
-      module _ (a : Answer) (e : turn ≡ Item a) (p : Spot) (k : List ℕ) (y : Placed l to (cond (eqb n 0) [] (mark_in form (bytes ", "))) p k) (t : Parsed) (m : List ℕ)
+      module _ (a : Answer) (e : turn ≡ Ok (Item a)) (p : Spot) (k : List ℕ) (y : Placed l to (cond (eqb n 0) [] (mark_in form (bytes ", "))) p k) (t : Result Part Refusal) (m : List ℕ)
           (w : ReadsBy (laid form) ed text item a p k t m) where
         abbrev item-here : Next ed text i a
         item-here = item-there ed text close i a e
@@ -325,7 +319,7 @@ module _ (form ed : ℕ) (text : List ℕ) (item : Reader) (close : ℕ) (o : An
         unfolding Turned
         item-is = (subst (Turned ed text item close o i) e (turned ed text item close o i)).1
 
-        abbrev Done : Step → Type 0
+        abbrev Done : Result Step Refusal → Type 0
         Done = Stepped ed text item close o form (item (held ed text a)) a.end p k m
 
         done : Done (after_item close o t)
@@ -344,14 +338,14 @@ module _ (form ed : ℕ) (text : List ℕ) (item : Reader) (close : ℕ) (o : An
         one-count : (x : Tree) (j : ℕ) → j ≡ one_more n → j ≡ count_of (behind g.seen x)
         one-count x j c = c ∙ ap one_more g.counts ∙ sym (count-behind g.seen x)
 
-        list-stopped : (r : Refusal) → after_item close o t ≡ Stopped r → Answers (Broken r) m
+        list-stopped : (r : Refusal) → after_item close o t ≡ Err r → Answers (Err r) m
         unfolding Stepped then
         list-stopped r c =
             let d = subst Done c done in
             stops-by m r (λ fit. g.is fit ∙ rw (item-is g.fuel ∙ d g.fuel))
 
         module _ (v : Spot) (q j : ℕ) (b : j ≡ one_more n) where
-          list-last : (r : Listed) → after_item close o t ≡ Last v q → r ≡ closed_at q j v (next_token ed text q) → Answers r m
+          list-last : (r : Result Items Refusal) → after_item close o t ≡ Ok (Last v q) → r ≡ closed_at q j v (next_token ed text q) → Answers r m
           unfolding Stepped then
           list-last r c x =
               let d = subst Done c done in
@@ -359,11 +353,11 @@ module _ (form ed : ℕ) (text : List ℕ) (item : Reader) (close : ℕ) (o : An
               (λ fit. g.is fit ∙ rw (item-is g.fuel ∙ d.is g.fuel) (ap (λ (ts : Trees). ok ts (opened ed text q)) (joined-one g.seen d.what)))
               (one-count d.what j b) (one_more_lem d.what v d.bytes) (omega (arith, g.after, item-here.from, item-here.fits.1, d.after)) d.within x
 
-          list_on : after_item close o t ≡ Goes v q → (i < q) × (q ≤ length text)
+          list_on : after_item close o t ≡ Ok (Goes v q) → (i < q) × (q ≤ length text)
           unfolding Stepped
           list_on c = let d = subst Done c done in (omega (arith, item-here.from, item-here.fits.1, d.1), d.0.within)
 
-          list-goes : after_item close o t ≡ Goes v q → Going s₀ l₀ q v j m
+          list-goes : after_item close o t ≡ Ok (Goes v q) → Going s₀ l₀ q v j m
           unfolding Stepped
           list-goes c =
               let d = subst Done c done in
@@ -381,68 +375,68 @@ module _ (form ed : ℕ) (text : List ℕ) (item : Reader) (close : ℕ) (o : An
               }
 
       -- a step, by what it gives
-      module _ (c : Step) (m : List ℕ) where
-        abbrev Is : Turn → Type 0
+      module _ (c : Result Step Refusal) (m : List ℕ) where
+        abbrev Is : Result Turn Refusal → Type 0
         Is b = Steps form ed text item close o (eqb n 0) to l b c m
 
-        pub step-stopped : (r : Refusal) → Is turn → c ≡ Stopped r → Answers (Broken r) m
+        pub step-stopped : (r : Refusal) → Is turn → c ≡ Err r → Answers (Err r) m
         unfolding Steps
         step-stopped r d e = go turn refl d
           where
-            go : (b : Turn) → turn ≡ b → Is b → Answers (Broken r) m
-            go (Item a) k w = list-stopped a k w.from w.parted w.between w.part m w.reads r (sym w.is ∙ e)
-            go (Closes q) k w = let x : Shut q ≡ Stopped r = sym w.0 ∙ e in let y : ◌≡◌ {A = ℕ} 0 1 = cc in absurd (omega arith)
-            go (Faulty x) k w =
-                let y : Stopped x ≡ Stopped r = sym w.0 ∙ e in
+            go : (b : Result Turn Refusal) → turn ≡ b → Is b → Answers (Err r) m
+            go (Ok (Item a)) k w = list-stopped a k w.from w.parted w.between w.part m w.reads r (sym w.is ∙ e)
+            go (Ok (Closes q)) k w = let x : ◌≡◌ {A = Result Step Refusal} (Ok (Shut q)) (Err r) = sym w.0 ∙ e in let y : ◌≡◌ {A = ℕ} 0 1 = cc in absurd (omega arith)
+            go (Err x) k w =
+                let y : ◌≡◌ {A = Result Step Refusal} (Err x) (Err r) = sym w.0 ∙ e in
                 let u : x ≡ r = cc in
-                subst (λ (v : List ℕ). Answers (Broken r) v) (sym w.1) (list-refused r (k ∙ ap Faulty u))
+                subst (λ (v : List ℕ). Answers (Err r) v) (sym w.1) (list-refused r (k ∙ ap Err u))
 
-        pub step-closes : (q : ℕ) (r : Listed) → Is turn → c ≡ Shut q → r ≡ closed_at q n to (next_token ed text q) → Answers r m
+        pub step-closes : (q : ℕ) (r : Result Items Refusal) → Is turn → c ≡ Ok (Shut q) → r ≡ closed_at q n to (next_token ed text q) → Answers r m
         unfolding Steps Stepped
         step-closes q r d e x = go turn refl d
           where
-            go : (b : Turn) → turn ≡ b → Is b → Answers r m
-            go (Item a) k w = absurd (subst (Done a k w.from w.parted w.between w.part m w.reads) (sym w.is ∙ e) (done a k w.from w.parted w.between w.part m w.reads))
-            go (Closes q₂) k w =
-                let y : Shut q₂ ≡ Shut q = sym w.0 ∙ e in
+            go : (b : Result Turn Refusal) → turn ≡ b → Is b → Answers r m
+            go (Ok (Item a)) k w = absurd (subst (Done a k w.from w.parted w.between w.part m w.reads) (sym w.is ∙ e) (done a k w.from w.parted w.between w.part m w.reads))
+            go (Ok (Closes q₂)) k w =
+                let y : ◌≡◌ {A = Result Step Refusal} (Ok (Shut q₂)) (Ok (Shut q)) = sym w.0 ∙ e in
                 let u : q₂ ≡ q = cc in
-                subst (λ (v : List ℕ). Answers r v) (sym w.1) (list-closes q r (k ∙ ap Closes u) x)
-            go (Faulty y) k w = let u : Stopped y ≡ Shut q = sym w.0 ∙ e in let v : ◌≡◌ {A = ℕ} 0 1 = cc in absurd (omega arith)
+                subst (λ (v : List ℕ). Answers r v) (sym w.1) (list-closes q r (k ∙ ap (λ (v : ℕ). Ok (Closes v)) u) x)
+            go (Err y) k w = let u : ◌≡◌ {A = Result Step Refusal} (Err y) (Ok (Shut q)) = sym w.0 ∙ e in let v : ◌≡◌ {A = ℕ} 0 1 = cc in absurd (omega arith)
 
         -- an item was read
-        record Had (v : Step) : Type 0 where
+        record Had (v : Result Step Refusal) : Type 0 where
           a : Answer
-          there : turn ≡ Item a
+          there : turn ≡ Ok (Item a)
           itemed : Itemed form ed text item close o (eqb n 0) to l a c m
           same : after_item close o itemed.part ≡ v
 
-        had : (v : Step) → Took v → Is turn → c ≡ v → Had v
+        had : (v : Result Step Refusal) → Took v → Is turn → c ≡ v → Had v
         unfolding Steps Took
         had v t d e = go turn refl d
           where
-            go : (b : Turn) → turn ≡ b → Is b → Had v
-            go (Item a) k w = record { a = a; there = k; itemed = w; same = sym w.is ∙ e }
-            go (Closes q) k w = absurd (subst Took (sym e ∙ w.0) t)
-            go (Faulty x) k w = absurd (subst Took (sym e ∙ w.0) t)
+            go : (b : Result Turn Refusal) → turn ≡ b → Is b → Had v
+            go (Ok (Item a)) k w = record { a = a; there = k; itemed = w; same = sym w.is ∙ e }
+            go (Ok (Closes q)) k w = absurd (subst Took (sym e ∙ w.0) t)
+            go (Err x) k w = absurd (subst Took (sym e ∙ w.0) t)
 
         module _ (v : Spot) (q j : ℕ) (b : j ≡ one_more n) (d : Is turn) where
-          pub step-last : (r : Listed) → c ≡ Last v q → r ≡ closed_at q j v (next_token ed text q) → Answers r m
+          pub step-last : (r : Result Items Refusal) → c ≡ Ok (Last v q) → r ≡ closed_at q j v (next_token ed text q) → Answers r m
           unfolding Took
           step-last r e x =
-              let y = had (Last v q) tt d e in
+              let y = had (Ok (Last v q)) tt d e in
               let w = y.itemed in
               list-last y.a y.there w.from w.parted w.between w.part m w.reads v q j b r y.same x
 
-          pub step-on : c ≡ Goes v q → (i < q) × (q ≤ length text)
+          pub step-on : c ≡ Ok (Goes v q) → (i < q) × (q ≤ length text)
           unfolding Took
           step-on e =
-              let y = had (Goes v q) tt d e in
+              let y = had (Ok (Goes v q)) tt d e in
               let w = y.itemed in
               list_on y.a y.there w.from w.parted w.between w.part m w.reads v q j b y.same
 
-          pub step-goes : c ≡ Goes v q → Going s₀ l₀ q v j m
+          pub step-goes : c ≡ Ok (Goes v q) → Going s₀ l₀ q v j m
           unfolding Took
           step-goes e =
-              let y = had (Goes v q) tt d e in
+              let y = had (Ok (Goes v q)) tt d e in
               let w = y.itemed in
               list-goes y.a y.there w.from w.parted w.between w.part m w.reads v q j b y.same

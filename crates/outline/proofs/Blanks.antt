@@ -8,11 +8,8 @@ use lib.ListN.{length, drop, length-append}
 use Rattle.gap.specs.Marks.{is_space, is_blank}
 use Rattle.gap.specs.Comments.{part_at}
 use Rattle.gap.specs.Gap.{Gap, gap, gap_end_of}
-use Rattle.gap.specs.declared.GapEnd.TheVariants.{Clear}
 use Rattle.tokens.specs.Calls.{call_fault, next_token}
 use Rattle.tokens.specs.Walk.{Listed, next, tokens_at}
-use Rattle.tokens.specs.declared.Fault.TheVariants.{Faultless}
-use Rattle.tokens.specs.declared.Lexed.TheVariants.{Found}
 use Rattle.tokens.specs.declared.Place.{Place}
 use Rattle.tokens.specs.declared.Token.{Token}
 use Rattle.tokens.proofs.Documents.{next-same}
@@ -23,6 +20,7 @@ use Rattle.outline.specs.Examples.{repeated}
 use Rattle.outline.specs.declared.Pending.{Pending}
 use Rattle.outline.proofs.Steps.{step-pass}
 use Rattle.outline.proofs.Asked.{fault-from, asks}
+use Rattle.std.specs.Prelude.{Ok}
 
 -- a gap from its first blank on, and from behind n of them
 one-blank : (p : ℕ) (s : List ℕ) → gap 0 p (32 ∷ s) ≡ gap 0 (suc p) s
@@ -67,7 +65,7 @@ module _ (ed n : ℕ) (s : List ℕ) where
   same_gap : gap 0 0 text ≡ gap 0 n (drop n text)
   same_gap = let z : 0 + n ≡ n = omega arith in gap-blanks n 0 s ∙ ap (λ (q : ℕ). gap 0 q s) z ∙ ap (gap 0 n) (sym (drop-blanks n s))
 
-  pub behind-blanks : call_fault ed text 0 ≡ Faultless → gap_end_of (gap 0 n (drop n text)).last ≡ Clear n → (t : Token) → next_token ed text n ≡ Found t → (t.kind ≡ 0 → ⊥)
+  pub behind-blanks : call_fault ed text 0 ≡ Ok tt → gap_end_of (gap 0 n (drop n text)).last ≡ Ok n → (t : Token) → next_token ed text n ≡ Ok t → (t.kind ≡ 0 → ⊥)
       → (p : Pending) → names (handed text p).keyword t.kind ≡ false → (m room : ℕ) → outlined ed text 0 (suc m) p room ≡ outlined ed text n (suc m) p room
   behind-blanks f g t e z p h m room =
       let i : n ≤ length text = omega (arith, length-append (repeated n 32) s, length-blanks n) in

@@ -12,10 +12,6 @@ use Rattle.classes.proofs.Bools.{false-true, and_left, and_right}
 use Rattle.tokens.specs.Calls.{text_limit, call_fault, unless, next_token}
 use Rattle.tokens.specs.RefusalSets.{among, lex_refusals, token_refusals}
 use Rattle.tokens.specs.Walk.{Listed, eof, refused, next, tokens_at, entries}
-use Rattle.tokens.specs.declared.Fault.{Fault}
-use Rattle.tokens.specs.declared.Fault.TheVariants.{Faultless, Faulty}
-use Rattle.tokens.specs.declared.Lexed.{Lexed}
-use Rattle.tokens.specs.declared.Lexed.TheVariants.{Found, Refused}
 use Rattle.tokens.specs.declared.Refusal.{Refusal}
 use Rattle.tokens.specs.declared.Token.{Token}
 use Rattle.tokens.proofs.Faults.{Each, call-each}
@@ -29,6 +25,7 @@ use Rattle.outline.proofs.Listing.{Walks, walks}
 use Rattle.outline.proofs.Steps.{nothing, both, Closed, step-pass, step-full, step-entry}
 use Rattle.outline.proofs.Asked.{fault-place, asks, outlined-each}
 use Rattle.outline.proofs.Kept.{keyword-declares}
+use Rattle.std.specs.Prelude.{Result, Ok, Err, ⊤}
 
 -- the tokens of a list
 pub left-eof : (t : Token) → tokens_left (eof t) ≡ 0
@@ -191,16 +188,16 @@ module _ (ed : ℕ) (text : List ℕ) (r : Refusal) (g : length text ≤ text_li
   unfolding among subset
   refusal-at at h e = by (next_token ed text at) refl
     where
-      kind : (t : Token) (b : Bool) → eqb t.kind 0 ≡ b → next_token ed text at ≡ Found t → among token_refusals r.number ≡ true
+      kind : (t : Token) (b : Bool) → eqb t.kind 0 ≡ b → next_token ed text at ≡ Ok t → among token_refusals r.number ≡ true
       kind t true z f = let y : refused r ≡ eof t = e ∙ at-eof ed text at h t f (eqb-true t.kind 0 z) in let o : ◌≡◌ {A = ℕ} 0 1 = cc in absurd (omega arith)
       kind t false z f =
           let y : refused r ≡ next t (tokens_at ed text t.end) = e ∙ (at_next ed text at h t f (eqb-false t.kind 0 z)).0 in
           let o : ◌≡◌ {A = ℕ} 0 1 = cc in
           absurd (omega arith)
 
-      by : (x : Lexed) → next_token ed text at ≡ x → among token_refusals r.number ≡ true
-      by (Found t) f = kind t (eqb t.kind 0) refl f
-      by (Refused q) f =
+      by : (x : Result Token Refusal) → next_token ed text at ≡ x → among token_refusals r.number ≡ true
+      by (Ok t) f = kind t (eqb t.kind 0) refl f
+      by (Err q) f =
           let y : refused r ≡ refused q = e ∙ at-refused ed text at h q f in
           let z : q ≡ r = cc in
           subst (λ (u : Refusal). among token_refusals u.number ≡ true) z
@@ -216,11 +213,11 @@ pub outline-refusals : OutlineRefusals
 unfolding among outlined unless
 outline-refusals ed text at limit p room r e = go (call_fault ed text at) refl e
   where
-    go : (f : Fault) → call_fault ed text at ≡ f → unless rejected f (portion text at (handed text p) (fitting text room) limit (tokens_at ed text at)) ≡ rejected r → among token_refusals r.number ≡ true
-    go (Faulty q) i h =
+    go : (f : Result ⊤ Refusal) → call_fault ed text at ≡ f → unless rejected f (portion text at (handed text p) (fitting text room) limit (tokens_at ed text at)) ≡ rejected r → among token_refusals r.number ≡ true
+    go (Err q) i h =
         let z : q ≡ r = cc in
         subst (λ (u : Refusal). among token_refusals u.number ≡ true) z
         (subst (Each (λ (u : Refusal). among token_refusals u.number ≡ true)) i (call-each (λ (u : Refusal). among token_refusals u.number ≡ true) ed text at refl refl refl))
-    go Faultless i h =
+    go (Ok tt) i h =
         let n = fault-place ed text at i in
         list-refusals ed text r n.0 (tokens_at ed text at) at (walks ed text at n.0 n.1) ((refuses text r limit (tokens_at ed text at) at (handed text p) (fitting text room)).0 h).0

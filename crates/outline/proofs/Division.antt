@@ -7,7 +7,6 @@ use native.Mathlib.Omega.{arith}
 use lib.ListN.{length, length-append}
 use Rattle.tokens.specs.Calls.{call_fault}
 use Rattle.tokens.specs.Walk.{Listed, eof, refused, next, tokens_at}
-use Rattle.tokens.specs.declared.Fault.TheVariants.{Faultless}
 use Rattle.tokens.specs.declared.Token.{Token}
 use Rattle.outline.specs.Entry.{records_of, all_bytes, fitting}
 use Rattle.outline.specs.Outline.{handed, pending_behind, Portion, Outlined, accepted, stopped, joined, names, entry_at, stepped, portion, outlined}
@@ -19,15 +18,16 @@ use Rattle.outline.proofs.Asked.{fault-from, asks, accepted-fine, outlined-each}
 use Rattle.outline.proofs.Counting.{left-next, count}
 use Rattle.outline.proofs.Sizes.{joined_bytes}
 use Rattle.outline.proofs.Resumed.{EndsInText, ends-in-text, going_on}
+use Rattle.std.specs.Prelude.{Ok}
 
 module _ (ed : ℕ) (text : List ℕ) where
   -- the next call of a division is as fine as the one before
-  next-fine : (at limit : ℕ) (p : Pending) (room : ℕ) (a : Portion) → outlined ed text at limit p room ≡ accepted a → call_fault ed text a.end ≡ Faultless
+  next-fine : (at limit : ℕ) (p : Pending) (room : ℕ) (a : Portion) → outlined ed text at limit p room ≡ accepted a → call_fault ed text a.end ≡ Ok tt
   next-fine at limit p room a e =
       fault-from ed text at a.end (accepted-fine ed text at limit p room a e) (outlined-each ed text at limit p room (EndsInText text) (ends-in-text ed text) a e)
 
   -- no call at all, and a call in front of one
-  none-at : (at : ℕ) (p : Pending) (room : ℕ) → call_fault ed text at ≡ Faultless → OneCall ed text at 0 p room []
+  none-at : (at : ℕ) (p : Pending) (room : ℕ) → call_fault ed text at ≡ Ok tt → OneCall ed text at 0 p room []
   unfolding portion stopped records_of all_bytes
   none-at at p room f = (nothing false at (handed text p), asks ed text at 0 p room f, refl, refl)
 
@@ -43,7 +43,7 @@ module _ (ed : ℕ) (text : List ℕ) where
         joined_bytes text a.entries o.0.entries ∙ ap (λ (l : List ℕ). written text a ++ l) o.3,
       )
 
-  anyhow : {at : ℕ} {p : Pending} {ss : List Share} {n : ℕ} {bytes : List ℕ} → Divided ed text at p ss n bytes → call_fault ed text at ≡ Faultless → (room : ℕ) → length bytes ≤ room → OneCall ed text at n p room bytes
+  anyhow : {at : ℕ} {p : Pending} {ss : List Share} {n : ℕ} {bytes : List ℕ} → Divided ed text at p ss n bytes → call_fault ed text at ≡ Ok tt → (room : ℕ) → length bytes ≤ room → OneCall ed text at n p room bytes
   anyhow {at} {p} over f room h = none-at at p room f
   anyhow {at} {p} (call {s = s} {count = n} {bytes = bytes} a e g d) f room h =
       let l = length-append (written text a) bytes in
@@ -91,7 +91,7 @@ enough text (next t l) at p k (suc n) (suc m) r h g =
     (λ j. enough text l t.end q j n m r (omega (arith, left-next t l)) (omega (arith, left-next t l))) (names p.keyword t.kind) refl k
 
 -- where a first call was accepted, text, offset and edition are fine
-fine : (ed : ℕ) (text : List ℕ) {at : ℕ} {p : Pending} {ss : List Share} {n : ℕ} {bytes : List ℕ} → Divided ed text at p ss n bytes → (ss ≡ [] → call_fault ed text at ≡ Faultless) → call_fault ed text at ≡ Faultless
+fine : (ed : ℕ) (text : List ℕ) {at : ℕ} {p : Pending} {ss : List Share} {n : ℕ} {bytes : List ℕ} → Divided ed text at p ss n bytes → (ss ≡ [] → call_fault ed text at ≡ (Ok tt)) → call_fault ed text at ≡ Ok tt
 fine ed text over f = f refl
 fine ed text {at} {p} (call {s = s} a e g d) f = accepted-fine ed text at s.limit p s.room a e
 

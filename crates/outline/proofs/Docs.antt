@@ -1,4 +1,7 @@
 -- The doc comments of a gap stand in the text.
+use Rattle.gap.specs.declared.GapPart.{GapPart}
+use Rattle.gap.specs.declared.Unclosed.{Unclosed}
+use Rattle.gap.specs.declared.GapPart.TheVariants.{Pass, Doc}
 use mathlib.Core.Path.{◌≡◌, refl, ap, subst}
 use mathlib.Core.Bool.{Bool, true, false, cond}
 use mathlib.Core.List.{List, [], ◌∷◌, ◌++◌}
@@ -8,13 +11,10 @@ use lib.ListN.{length, get_or, drop, length-drop}
 use Rattle.gap.specs.Marks.{is_blank, slashes, opens, doc_line, doc_block}
 use Rattle.gap.specs.Comments.{inside, line_comment, block_comment, part_at}
 use Rattle.gap.specs.Gap.{Gap, gap_from, gap}
-use Rattle.gap.specs.declared.Block.{Block}
-use Rattle.gap.specs.declared.Block.TheVariants.{Closed, Open}
 use Rattle.gap.specs.declared.Comment.{Comment}
-use Rattle.gap.specs.declared.GapPart.{GapPart}
-use Rattle.gap.specs.declared.GapPart.TheVariants.{Pass, Doc, Unclosed, Other}
 use Rattle.gap.proofs.Gaps.{Held, part_held}
 use Rattle.gap.proofs.Places.{tail_at, in-text}
+use Rattle.std.specs.Prelude.{Result, Ok, Err, ℕ, Option, Some, None}
 
 -- what holds of each
 abbrev pub EachDoc : (Comment → Type 0) → List Comment → Type 0
@@ -34,13 +34,13 @@ docs-each P Q f [] h = tt
 docs-each P Q f (c ∷ cs) h = (f c h.0, docs-each P Q f cs h.1)
 
 -- a doc comment starts where its part of the gap does
-abbrev Starts : ℕ → GapPart → Type 0
-Starts p (Pass e) = Unit {0}
-Starts p (Doc c) = c.start ≡ p
-Starts p (Unclosed o q) = Unit {0}
-Starts p Other = Unit {0}
+abbrev Starts : ℕ → Result (Option GapPart) Unclosed → Type 0
+Starts p (Ok (Some (Pass e))) = Unit {0}
+Starts p (Ok (Some (Doc c))) = c.start ≡ p
+Starts p (Err w) = Unit {0}
+Starts p (Ok None) = Unit {0}
 
-starts-cond : (p : ℕ) (b : Bool) (x y : GapPart) → Starts p x → Starts p y → Starts p (cond b x y)
+starts-cond : (p : ℕ) (b : Bool) (x y : Result (Option GapPart) Unclosed) → Starts p x → Starts p y → Starts p (cond b x y)
 starts-cond p true x y h g = h
 starts-cond p false x y h g = g
 
@@ -48,12 +48,12 @@ line-starts : (p : ℕ) (s : List ℕ) → Starts p (line_comment p s)
 unfolding line_comment
 line-starts p s = starts-cond p (doc_line (get_or s 2 0) (get_or s 3 0)) _ _ refl tt
 
-block-starts : (p : ℕ) (d : Bool) (k : Block) → Starts p (block_comment d p k)
+block-starts : (p : ℕ) (d : Bool) (k : Result ℕ ℕ) → Starts p (block_comment d p k)
 unfolding block_comment
-block-starts p true (Closed e) = refl
-block-starts p false (Closed e) = tt
-block-starts p true (Open o) = tt
-block-starts p false (Open o) = tt
+block-starts p true (Ok e) = refl
+block-starts p false (Ok e) = tt
+block-starts p true (Err o) = tt
+block-starts p false (Err o) = tt
 
 part-starts : (p : ℕ) (s : List ℕ) → Starts p (part_at p s)
 unfolding part_at
@@ -66,12 +66,12 @@ abbrev pub DocInText : List ℕ → Comment → Type 0
 DocInText text c = (c.start < c.end) × (c.end ≤ length text)
 
 module _ (text : List ℕ) where
-  from-docs : (p : ℕ) (s : List ℕ) (x : GapPart) (go : ℕ → Gap) → p < length text → Held p (length text) x → Starts p x
+  from-docs : (p : ℕ) (s : List ℕ) (x : Result (Option GapPart) Unclosed) (go : ℕ → Gap) → p < length text → Held p (length text) x → Starts p x
       → ((k : ℕ) → EachDoc (DocInText text) (go k).docs) → EachDoc (DocInText text) (gap_from x p s go).docs
-  from-docs p s (Pass e) go g h q ih = ih (e - suc p)
-  from-docs p s (Doc c) go g h q ih = ((omega (arith, q), h.1), ih (c.end - suc p))
-  from-docs p s (Unclosed o e) go g h q ih = tt
-  from-docs p s Other go g h q ih = tt
+  from-docs p s (Ok (Some (Pass e))) go g h q ih = ih (e - suc p)
+  from-docs p s (Ok (Some (Doc c))) go g h q ih = ((omega (arith, q), h.1), ih (c.end - suc p))
+  from-docs p s (Err w) go g h q ih = tt
+  from-docs p s (Ok None) go g h q ih = tt
 
   docs-from : (s : List ℕ) (k p : ℕ) → s ≡ drop p text → EachDoc (DocInText text) (gap k p s).docs
   unfolding gap

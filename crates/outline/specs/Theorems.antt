@@ -1,6 +1,6 @@
 -- What is shown of the outline call, for every edition number, text, offset, limit, room and whatever is handed in. Each statement is a
 -- type; its proof has the same name in small letters and stands in proofs/.
-use Rattle.std.specs.Prelude.{ℕ, zero, suc, ◌+◌, ◌-◌, ◌^◌, ◌<◌, ◌≤◌, min, ◌≡◌, true, false, cond, ◌↔◌, length, drop}
+use Rattle.std.specs.Prelude.{ℕ, zero, suc, ◌+◌, ◌-◌, ◌^◌, ◌<◌, ◌≤◌, min, ◌≡◌, true, false, cond, ◌↔◌, length, drop, Ok}
 use mathlib.Core.List.{List, [], ◌∷◌, ◌++◌, Memᴰ, map}
 use Rattle.words.specs.Kinds.{Identifier, Struct, Fun, Const}
 use Rattle.gap.specs.Gap.{gap}
@@ -9,7 +9,6 @@ use Rattle.tokens.specs.Answers.{place, token}
 use Rattle.tokens.specs.RefusalSets.{among, token_refusals}
 use Rattle.tokens.specs.Calls.{call_fault}
 use Rattle.tokens.specs.Walk.{Listed, eof, refused, next, tokens_at, entries}
-use Rattle.tokens.specs.declared.Fault.TheVariants.{Faultless}
 use Rattle.tokens.specs.declared.Place.{Place}
 use Rattle.tokens.specs.declared.Refusal.{Refusal}
 use Rattle.tokens.specs.declared.Token.{Token}
@@ -86,7 +85,7 @@ Count =
 -- entry before it lacks room
 abbrev pub RefusedExactly : Type 0
 RefusedExactly =
-    (ed : ℕ) (text : List ℕ) (at limit : ℕ) (p : Pending) (room : ℕ) (r : Refusal) → call_fault ed text at ≡ Faultless
+    (ed : ℕ) (text : List ℕ) (at limit : ℕ) (p : Pending) (room : ℕ) (r : Refusal) → call_fault ed text at ≡ Ok tt
     → (outlined ed text at limit p room ≡ rejected r)
     ↔ (EndsRefused r (tokens_at ed text at) × (tokens_left (tokens_at ed text at) < limit) × (length (entries_from text at (handed text p) (tokens_at ed text at)) ≤ fitting text room))
 
@@ -132,13 +131,13 @@ OneCall ed text at limit p room bytes = (a : Portion) × (outlined ed text at li
 -- and there alone, nothing says that text, offset and edition are fine
 abbrev pub DividedAnyhow : Type 0
 DividedAnyhow =
-    (ed : ℕ) (text : List ℕ) (at : ℕ) (p : Pending) (ss : List Share) (count : ℕ) (bytes : List ℕ) → (ss ≡ [] → call_fault ed text at ≡ Faultless)
+    (ed : ℕ) (text : List ℕ) (at : ℕ) (p : Pending) (ss : List Share) (count : ℕ) (bytes : List ℕ) → (ss ≡ [] → call_fault ed text at ≡ (Ok tt))
     → Divided ed text at p ss count bytes → (room : ℕ) → length bytes ≤ room → OneCall ed text at count p room bytes
 
 -- and where the text from `at` on is readable to EOF and the limits add up to the tokens left or more, of one call with any such limit
 abbrev pub DividedToEOF : Type 0
 DividedToEOF =
-    (ed : ℕ) (text : List ℕ) (at : ℕ) (p : Pending) (ss : List Share) (count : ℕ) (bytes : List ℕ) → (ss ≡ [] → call_fault ed text at ≡ Faultless)
+    (ed : ℕ) (text : List ℕ) (at : ℕ) (p : Pending) (ss : List Share) (count : ℕ) (bytes : List ℕ) → (ss ≡ [] → call_fault ed text at ≡ (Ok tt))
     → ReachesEOF (tokens_at ed text at) → Divided ed text at p ss count bytes → tokens_left (tokens_at ed text at) ≤ limits ss
     → (limit room : ℕ) → tokens_left (tokens_at ed text at) ≤ limit → length bytes ≤ room → OneCall ed text at limit p room bytes
 

@@ -9,7 +9,6 @@ use Rattle.tokens.specs.Answers.{refusal}
 use Rattle.tokens.specs.Calls.{text_limit, next_token}
 use Rattle.tokens.specs.declared.Refusal.{Refusal}
 use Rattle.tokens.specs.declared.Token.{Token as Answer}
-use Rattle.tokens.specs.declared.Lexed.TheVariants.{Found, Refused as Bad}
 use Rattle.tokens.proofs.Faults.{admits}
 use Rattle.tokens.proofs.Again.{found-fits}
 use Rattle.records.specs.Tree.{leaf}
@@ -19,6 +18,7 @@ use Rattle.sources.proofs.Standing.{Standing, Sound, lex-sound, next-token-same}
 use Rattle.answers.specs.Reading.{Ans, no, look, leaf_of, refused_at}
 use Rattle.forms.specs.code.Spots.{word_of}
 use Rattle.parts.specs.code.Meets.{Fits, held}
+use Rattle.std.specs.Prelude.{Ok, Err}
 
 module _ (ed : ℕ) (text : List ℕ) where
   -- n bytes on
@@ -64,33 +64,33 @@ module _ (ed : ℕ) (text : List ℕ) where
           is = l ∙ ap tok (λ i. record { kind = t.kind; here = y i; len = z i });
         }
 
-    scanned-next : (l : LexResult) → lex (opened ed text at) ≡ l → Sound (opened ed text at) l → (b : Answer) → answer_of l ≡ Found b → Next at b
+    scanned-next : (l : LexResult) → lex (opened ed text at) ≡ l → Sound (opened ed text at) l → (b : Answer) → answer_of l ≡ Ok b → Next at b
     unfolding answer_of
     scanned-next (tok t) l d b h = let y : token_of t ≡ b = cc in subst (Next at) y (token-next t d l)
     scanned-next (bad r) l d b h = let z : ◌≡◌ {A = ℕ} 0 1 = cc in absurd (omega arith)
 
-    scanned-bad : (l : LexResult) → (r : Refusal) → answer_of l ≡ Bad r → l ≡ bad r
+    scanned-bad : (l : LexResult) → (r : Refusal) → answer_of l ≡ Err r → l ≡ bad r
     unfolding answer_of
     scanned-bad (tok t) r h = let z : ◌≡◌ {A = ℕ} 0 1 = cc in absurd (omega arith)
     scanned-bad (bad r₂) r h = let y : r₂ ≡ r = cc in ap bad y
 
     answer : answer_of (lex (opened ed text at)) ≡ next_token ed text at
-    answer = sym (next-token-same ed text at ∙ admits text at Bad (answer_of (lex (opened ed text at))) short inside)
+    answer = sym (next-token-same ed text at ∙ admits text at Err (answer_of (lex (opened ed text at))) short inside)
 
-    pub next-refused : (r : Refusal) → next_token ed text at ≡ Bad r → lex (opened ed text at) ≡ bad r
+    pub next-refused : (r : Refusal) → next_token ed text at ≡ Err r → lex (opened ed text at) ≡ bad r
     next-refused r h = scanned-bad (lex (opened ed text at)) r (answer ∙ h)
 
-  pub next-found : (at : ℕ) (b : Answer) → next_token ed text at ≡ Found b → Next at b
+  pub next-found : (at : ℕ) (b : Answer) → next_token ed text at ≡ Ok b → Next at b
   next-found at b h =
       let f = found-fits ed text at b h in
       scanned-next at f.0 f.1 (lex (opened ed text at)) refl (lex-sound (opened ed text at)) b (answer at f.0 f.1 ∙ h)
 
   -- looking behind a token
   module _ {A : Type 0} (d : Answer) (f : Fits text d) (g : Lexeme → Ans A) where
-    pub look-found : (b : Answer) → next_token ed text d.end ≡ Found b → look (lex (after (held ed text d))) g ≡ g (held ed text b)
+    pub look-found : (b : Answer) → next_token ed text d.end ≡ Ok b → look (lex (after (held ed text d))) g ≡ g (held ed text b)
     unfolding look
     look-found b h = rw (held_after d f, (next-found d.end b h).is)
 
-    pub look-refused : (r : Refusal) → next_token ed text d.end ≡ Bad r → look (lex (after (held ed text d))) g ≡ no r
+    pub look-refused : (r : Refusal) → next_token ed text d.end ≡ Err r → look (lex (after (held ed text d))) g ≡ no r
     unfolding look
     look-refused r h = rw (held_after d f, next-refused d.end f.0 f.2 r h)

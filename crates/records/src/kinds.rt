@@ -1,4 +1,6 @@
 // The kinds of the records of a stored tree, by the specification's numbers.
+// A kind is a number: `seal` and `put_leaf` of the forms, which docs/PROMISES.md names, take any, and a saved tree that
+// is read has whatever bytes it was given.
 
 // Names and addresses, chains of one, two and three parts, pairs.
 pub const REC_NAME: usize = 1;

@@ -4,68 +4,71 @@
 ghost use Rattle.std.specs.Prelude.{◌≡◌, ◌+◌, ◌≤◌, length};
 ghost use Rattle.std.proofs.lemmas.List.Edits.{sets};
 ghost use Rattle.records.specs.Stored.{little_endian, head_of};
-ghost use Rattle.records.specs.code.Narrow.{two, header};
+ghost use Rattle.records.specs.code.Narrow.{header};
 
 pub mod kinds;
 
-// Writes a number in two bytes, the low one first.
-pub fn put_two(out: &mut [u8], pos: usize, v: usize)
-    ensures { out.new ≡ sets out.old pos (two v) }
+// Writes a number in W bytes, the low one first, as far as the buffer reaches.
+pub fn put_number<const W: u8>(out: &mut [u8], pos: usize, v: usize)
+    ensures { out.new ≡ sets out.old pos (little_endian W v) }
 {
     if pos < out.len() {
-        buffer::put(out, pos, (v % 256) as u8);
-        buffer::put(out, pos + 1, (v / 256 % 256) as u8);
+        let mut rest = v;
+        for i in 0..usize::from(W) {
+            buffer::put(out, pos + i, (rest % 256) as u8);
+            rest /= 256;
+        }
     }
 }
 
-// Writes a number in four bytes, the low one first.
-pub fn put_four(out: &mut [u8], pos: usize, v: usize)
-    ensures { out.new ≡ sets out.old pos (little_endian 4 v) }
+// Writes a number in W bytes that the buffer has.
+fn set_number<const W: u8>(out: &mut [u8], pos: usize, v: usize)
+    requires { pos + W ≤ length out.old }
+    ensures { out.new ≡ sets out.old pos (little_endian W v) }
 {
-    if pos < out.len() {
-        put_two(out, pos, v);
-        put_two(out, pos + 2, v / 65536);
+    let mut rest = v;
+    for i in 0..usize::from(W) {
+        out[pos + i] = (rest % 256) as u8;
+        rest /= 256;
     }
 }
 
-// Writes a number in two bytes that the buffer has.
-fn set_two(out: &mut [u8], pos: usize, v: usize)
-    requires { pos + 2 ≤ length out.old }
-    ensures { out.new ≡ sets out.old pos (two v) }
+// Writes the head of a record, its kind in two bytes and the other numbers in W each. Where the buffer has all its
+// bytes they are written without a further test.
+fn put_head<const W: u8>(
+    out: &mut [u8],
+    pos: usize,
+    len: usize,
+    kind: usize,
+    start: usize,
+    end: usize,
+)
+    ensures { out.new ≡ sets out.old pos (head_of W len kind start end) }
 {
-    out[pos] = (v % 256) as u8;
-    out[pos + 1] = (v / 256 % 256) as u8;
+    let w = usize::from(W);
+    if pos < out.len() {
+        if 2 + 3 * w <= out.len() - pos {
+            set_number::<W>(out, pos, len);
+            set_number::<2>(out, pos + w, kind);
+            set_number::<W>(out, pos + w + 2, start);
+            set_number::<W>(out, pos + 2 * w + 2, end);
+        } else {
+            put_number::<W>(out, pos, len);
+            put_number::<2>(out, pos + w, kind);
+            put_number::<W>(out, pos + w + 2, start);
+            put_number::<W>(out, pos + 2 * w + 2, end);
+        }
+    }
 }
 
-// Writes a number in four bytes that the buffer has.
-fn set_four(out: &mut [u8], pos: usize, v: usize)
-    requires { pos + 4 ≤ length out.old }
-    ensures { out.new ≡ sets out.old pos (little_endian 4 v) }
-{
-    set_two(out, pos, v);
-    set_two(out, pos + 2, v / 65536);
-}
-
-// Writes the head of a record. Where the buffer has all its bytes they are written without a further test.
+// Writes the head of a record.
 pub fn put_header(out: &mut [u8], pos: usize, len: usize, kind: usize, start: usize, end: usize)
     ensures { out.new ≡ sets out.old pos (header len kind start end) }
 {
-    if pos < out.len() {
-        if 8 <= out.len() - pos {
-            set_two(out, pos, len);
-            set_two(out, pos + 2, kind);
-            set_two(out, pos + 4, start);
-            set_two(out, pos + 6, end);
-            return;
-        }
-        put_two(out, pos, len);
-        put_two(out, pos + 2, kind);
-        put_two(out, pos + 4, start);
-        put_two(out, pos + 6, end);
-    }
+    put_head::<2>(out, pos, len, kind, start, end);
 }
 
-// Writes the head of a wide record, in the same way.
+// Writes the head of a wide record.
 pub fn put_wide_header(
     out: &mut [u8],
     pos: usize,
@@ -76,17 +79,5 @@ pub fn put_wide_header(
 )
     ensures { out.new ≡ sets out.old pos (head_of 4 len kind start end) }
 {
-    if pos < out.len() {
-        if 14 <= out.len() - pos {
-            set_four(out, pos, len);
-            set_two(out, pos + 4, kind);
-            set_four(out, pos + 6, start);
-            set_four(out, pos + 10, end);
-            return;
-        }
-        put_four(out, pos, len);
-        put_two(out, pos + 4, kind);
-        put_four(out, pos + 6, start);
-        put_four(out, pos + 10, end);
-    }
+    put_head::<4>(out, pos, len, kind, start, end);
 }

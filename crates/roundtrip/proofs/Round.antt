@@ -12,7 +12,6 @@ use lib.ListN.{length}
 use Rattle.classes.proofs.Bools.{or_left, or_right}
 use Rattle.words.specs.Kinds.{EOF}
 use Rattle.tokens.specs.Calls.{text_limit, no_edition}
-use Rattle.tokens.specs.declared.Fault.TheVariants.{Faultless}
 use Rattle.tokens.proofs.Faults.{each-any, unless-sure, unless_not}
 use Rattle.records.specs.Tree.{Tree, build}
 use Rattle.records.specs.Stored.{counted, records}
@@ -39,6 +38,7 @@ use Rattle.roundtrip.proofs.Names.{is_colons, Chain, ValueBack}
 use Rattle.roundtrip.proofs.Types.{Typed}
 use Rattle.roundtrip.proofs.Binds.{ListBack, LambdaBack}
 use Rattle.roundtrip.proofs.Backs.{chain-sure, value-sure, type-sure, list-sure, lambda-sure}
+use Rattle.std.specs.Prelude.{Ok}
 
 -- the line of x alone, read as what was asked but in the edition of reading back, gives the build of x and leaves nothing
 abbrev pub Alone : Editions → Asked → Tree → Type 0
@@ -82,7 +82,7 @@ finished-of es P (no r) h = tt
 
 -- nothing is wrong with what is asked, and P
 abbrev pub Called : Asked → (Tree → Type 0) → Tree → Type 0
-Called q P x = (fault_of q ≡ Faultless) × P x
+Called q P x = (fault_of q ≡ (Ok tt)) × P x
 
 module _ (es : Editions) (q : Asked) (in-edition : q.edition ≡ es.read) where
   item_of : (P : Tree → Type 0) → ((a : Lexeme) → Good es a → Every es P (read_kind q.kind a)) → Of (Called q P) (read_item q)

@@ -21,9 +21,8 @@ use Rattle.gap.specs.Comments.{part_at}
 use Rattle.gap.specs.Gap.{End, clear, broken, gap}
 use Rattle.words.specs.Tables.{Entry, marks, long_marks, double_marks, single_marks}
 use Rattle.words.specs.Search.{mark_of, first_fit, front_len, suffixes1, suffixes2, suffixes_of, suffix_len}
-use Rattle.words.specs.Quote.{quote_from}
-use Rattle.words.specs.declared.Quote.{Quote}
-use Rattle.words.specs.declared.Quote.TheVariants.{Found, Missing}
+use Rattle.words.specs.Quote.{Quote, quote_from}
+use Rattle.std.proofs.Common.{Ok as Found, Err as Missing}
 use Rattle.words.proofs.Quotes.{Within, within, quote-local}
 use Rattle.words.proofs.Marks.{mark-first}
 use Rattle.words.proofs.Suffix.{both-lists}

@@ -1,7 +1,7 @@
 -- What is proved of the definitions that the contracts of the calls cite, as statements: each is a type, and proofs/Theorems has a proof of
 -- each under the same name in small letters. Demand 3; reading from an offset; the Rust's trees; which refusals a call can meet; the
 -- bytes of a line; where reading may begin; the two editions; the flag of a line feed; sizes.
-use Rattle.std.specs.Prelude.{◌≡◌, Bool, true, false, cond, ◌||◌, ◌↔◌, List, [], ◌∷◌, ℕ, suc, ◌+◌, ◌-◌, ◌<◌, ◌≤◌, eqb, length, drop, get_or}
+use Rattle.std.specs.Prelude.{◌≡◌, Bool, true, false, cond, ◌||◌, ◌↔◌, List, [], ◌∷◌, ℕ, suc, ◌+◌, ◌-◌, ◌<◌, ◌≤◌, eqb, length, drop, get_or, Ok, Err}
 use Rattle.classes.specs.Class.{is_name, shows}
 use Rattle.classes.specs.Run.{all_of}
 use Rattle.gap.specs.LineFeed.{line_feed}
@@ -14,13 +14,9 @@ use Rattle.tokens.specs.Calls.{text_limit, no_edition, next_token, advanced, tok
 use Rattle.tokens.specs.Walk.{tokens_at, entries, Ends}
 use Rattle.tokens.specs.Raise.{raise_lexed, raise_doc}
 use Rattle.tokens.specs.declared.Refusal.{Refusal}
-use Rattle.tokens.specs.declared.Fault.TheVariants.{Faultless}
 use Rattle.tokens.specs.declared.Token.{Token}
-use Rattle.tokens.specs.declared.Lexed.TheVariants.{Found, Refused}
-use Rattle.tokens.specs.declared.DocComment.TheVariants.{Broken}
 use Rattle.starts.specs.Beginning.{beginning}
 use Rattle.starts.specs.Allowed.{MayBegin, RefusedBefore}
-use Rattle.starts.specs.declared.Beginning.TheVariants.{Allowed, Nowhere, Refused as StartRefused}
 use Rattle.records.specs.Tree.{Tree, build}
 use Rattle.records.specs.Spans.{unspelled, start_of, end_of, Nested}
 use Rattle.sources.specs.Source.{Lexeme, start, end}
@@ -79,7 +75,7 @@ CommentFrom =
 -- an item, of a call that has no fault: its tree or its refusal, and the token that follows. (In which form a tree is stored, the whole
 -- text tells)
 abbrev pub ItemFrom : Type 0
-ItemFrom = (q : Asked) → fault_of q ≡ Faultless → read_item q ≡ raise_item q.at (read_item (of_text (drop q.at q.text) q))
+ItemFrom = (q : Asked) → fault_of q ≡ Ok tt → read_item q ≡ raise_item q.at (read_item (of_text (drop q.at q.text) q))
 
 -- a display: the same line in the same room, or the same refusal, its places raised; refusal 4 has no place in the text
 unfoldable pub raise_shown : ℕ → Item → Item
@@ -88,7 +84,7 @@ raise_shown k (refused r) = cond (eqb r.number NoRoom) (refused r) (raise_item k
 
 abbrev pub DisplayFrom : Type 0
 DisplayFrom =
-    (q : Asked) (out : List ℕ) → fault_of q ≡ Faultless
+    (q : Asked) (out : List ℕ) → fault_of q ≡ Ok tt
     → (display q (length out) ≡ raise_shown q.at (display (of_text (drop q.at q.text) q) (length out)))
     × (display_buffer q out ≡ display_buffer (of_text (drop q.at q.text) q) out)
 
@@ -103,10 +99,10 @@ ItemBracketed = (q : Asked) (x : Tree) (n : Lexeme) → read_item q ≡ item x n
 
 -- The refusals that each call can meet
 abbrev pub TokenRefusals : Type 0
-TokenRefusals = (ed : ℕ) (text : List ℕ) (at : ℕ) (r : Refusal) → (token_call ed text at).lexed ≡ Refused r → among token_refusals r.number ≡ true
+TokenRefusals = (ed : ℕ) (text : List ℕ) (at : ℕ) (r : Refusal) → (token_call ed text at).lexed ≡ Err r → among token_refusals r.number ≡ true
 
 abbrev pub CommentRefusals : Type 0
-CommentRefusals = (ed : ℕ) (text : List ℕ) (at : ℕ) (r : Refusal) → next_comment ed text at ≡ Broken r → among comment_refusals r.number ≡ true
+CommentRefusals = (ed : ℕ) (text : List ℕ) (at : ℕ) (r : Refusal) → next_comment ed text at ≡ Err r → among comment_refusals r.number ≡ true
 
 abbrev pub ReadRefusals : Type 0
 ReadRefusals = (q : Asked) (room : ℕ) (r : Refusal) → read q room ≡ refused r → among item_refusals r.number ≡ true
@@ -141,9 +137,9 @@ UnprintableExactly =
 abbrev pub BeginsExactly : Type 0
 BeginsExactly =
     (ed : ℕ) (text : List ℕ) (offset : ℕ)
-    → ((beginning ed text offset ≡ Allowed) ↔ MayBegin ed text offset)
-    × ((r : Refusal) → (beginning ed text offset ≡ StartRefused r) ↔ RefusedBefore ed text offset r)
-    × ((beginning ed text offset ≡ Nowhere) ↔ ((MayBegin ed text offset → ⊥) × ((r : Refusal) → RefusedBefore ed text offset r → ⊥)))
+    → ((beginning ed text offset ≡ (Ok true)) ↔ MayBegin ed text offset)
+    × ((r : Refusal) → (beginning ed text offset ≡ Err r) ↔ RefusedBefore ed text offset r)
+    × ((beginning ed text offset ≡ (Ok false)) ↔ ((MayBegin ed text offset → ⊥) × ((r : Refusal) → RefusedBefore ed text offset r → ⊥)))
 
 -- The editions. A token of edition 1 that is no number is the same in edition 2
 abbrev pub is_number : ℕ → Bool
@@ -174,14 +170,14 @@ LineFeedThere =
 -- no token holds a line feed
 abbrev pub NoTokenHoldsLineFeed : Type 0
 NoTokenHoldsLineFeed =
-    (ed : ℕ) (text : List ℕ) (at : ℕ) (t : Token) → next_token ed text at ≡ Found t
+    (ed : ℕ) (text : List ℕ) (at : ℕ) (t : Token) → next_token ed text at ≡ Ok t
     → (at ≤ t.start) × (t.start ≤ t.end) × (line_feed text t.start t.end ≡ false)
 
 -- tokens one after the other, each asked for from the end of the one before; where the last of them starts; and whether one of their
 -- flags is set
 abbrev pub Walk : ℕ → List ℕ → ℕ → Token → List Token → Type 0
-Walk ed text at t [] = next_token ed text at ≡ Found t
-Walk ed text at t (u ∷ us) = (next_token ed text at ≡ Found t) × Walk ed text t.end u us
+Walk ed text at t [] = next_token ed text at ≡ Ok t
+Walk ed text at t (u ∷ us) = (next_token ed text at ≡ Ok t) × Walk ed text t.end u us
 
 abbrev pub last_start : Token → List Token → ℕ
 last_start t [] = t.start

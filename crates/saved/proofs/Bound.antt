@@ -12,7 +12,7 @@ use Rattle.saved.specs.Open.{Opened, whole, damaged, onward, tested, Parent, par
 use Rattle.saved.specs.Theorems.{BoundEnough}
 use Rattle.saved.specs.declared.Head.{Head}
 use Rattle.saved.proofs.Heads.{unfit-false}
-use Rattle.saved.proofs.Equals.{fault-fits}
+use Rattle.saved.proofs.Scan.{fault-fits}
 
 tested-same : {A : Type 0} (n o : ℕ) (f g : Unit {0} → Opened A) → (n ≡ 0 → f tt ≡ g tt) → tested n o f ≡ tested n o g
 unfolding tested

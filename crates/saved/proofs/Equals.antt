@@ -6,7 +6,7 @@ use mathlib.Core.List.{List}
 use Prim.Native.Nat.{ℕ, zero, suc, ◌+◌, ◌-◌, ◌<◌, ◌≤◌}
 use native.Mathlib.Omega.{arith}
 use borrow.Author.Tests.{lt-ltb, le-ltb, ltb-true, ltb-false, eqb-true, eqb-false}
-use lib.Dec.{eqb, ltb, eqb-suc-zero}
+use lib.Dec.{eqb, ltb}
 use lib.ListN.{length, get_or, set, replicate, length-set, length-replicate, get_or-replicate}
 use lib.Seq.{get_or-set_same, get_or-set_other}
 use Rattle.tokens.specs.Answers.{refusal}
@@ -17,43 +17,33 @@ use Rattle.records.specs.Spans.{start_of, end_of}
 use Rattle.forms.specs.Forms.{head_size}
 use Rattle.saved.specs.Children.{least, deepens}
 use Rattle.saved.specs.Heads.{head_at}
-use Rattle.saved.specs.Open.{Opened, whole, damaged, onward, tested, levels, unfit, head_fault, Parent, parent, child_fault, level_of, level_fault, ended, children_at, first_at}
-use Rattle.saved.specs.Answers.{outermost}
+use Rattle.saved.specs.Open.{Opened, whole, damaged, onward, tested, levels, unfit, Parent, parent, child_fault, level_of, level_fault, ended, children_at, first_at}
+use Rattle.saved.specs.Answers.{with_record, outermost}
 use Rattle.saved.specs.Child.{saved_head, kind_of}
-use Rattle.saved.specs.code.Scan.{answer_by, fault, earlier, missing, stopped, run_from, run_over, still_open, deepening, Walks}
+use Rattle.saved.specs.code.Scan.{answer_by, fault, earlier, stop, missing, stopped, run_from, run_over, still_open, deepening, Walks}
 use Rattle.saved.specs.declared.Head.{Head}
-use Rattle.saved.specs.declared.FirstFault.{FirstFault}
-use Rattle.saved.specs.declared.Handed.TheVariants.{Record, Refused}
+use Rattle.saved.specs.declared.Fault.{Fault}
+use Rattle.std.specs.Prelude.{Option, Some, None, Ok, Err}
 use Rattle.saved.proofs.Heads.{unfit-false}
-use Rattle.saved.proofs.Scan.{walks-end, walks-deep, walks-on, deepening-few}
+use Rattle.saved.proofs.Scan.{walks-end, walks-deep, walks-on, deepening-few, Inside, inside-wider, run_in, fault-fits}
 
 -- the found fault, where there is one
-unfoldable over : FirstFault → FirstFault → FirstFault
-over found kept = cond (eqb found.number 0) kept found
+abbrev over : Option Fault → Option Fault → Option Fault
+over None kept = kept
+over (Some k) kept = Some k
 
-earlier-over : (kept found : FirstFault) → found.place ≤ kept.place → earlier kept found ≡ over found kept
-unfolding earlier over
-earlier-over kept found h = rw (le-ltb kept.place found.place h)
+earlier-over : (n lo hi : ℕ) (kept found : Option Fault) → hi ≤ stop n kept → Inside lo hi found → earlier kept found ≡ over found kept
+earlier-over n lo hi kept None h g = refl
+earlier-over n lo hi None (Some f) h g = refl
+earlier-over n lo hi (Some k) (Some f) h g = rw (le-ltb k.place f.place (omega (arith, g.1, h)))
 
-over-some : (p j o : ℕ) (kept : FirstFault) → over (fault p (suc j) o) kept ≡ fault p (suc j) o
-unfolding over
-over-some p j o kept = rw (eqb-suc-zero j)
+over-from : (n lo hi : ℕ) (kept found : Option Fault) → lo ≤ stop n kept → Inside lo hi found → lo ≤ stop n (over found kept)
+over-from n lo hi kept None h g = h
+over-from n lo hi kept (Some f) h g = g.0
 
-over-from : (n : ℕ) (kept found : FirstFault) → n ≤ kept.place → n ≤ found.place → n ≤ (over found kept).place
-unfolding over
-over-from n kept found h g = go (eqb found.number 0)
-  where
-    go : (b : Bool) → n ≤ (cond b kept found).place
-    go true = h
-    go false = g
-
-over-to : (n : ℕ) (kept found : FirstFault) → kept.place ≤ n → found.place ≤ n → (over found kept).place ≤ n
-unfolding over
-over-to n kept found h g = go (eqb found.number 0)
-  where
-    go : (b : Bool) → (cond b kept found).place ≤ n
-    go true = h
-    go false = g
+over-to : (n lo hi : ℕ) (kept found : Option Fault) → stop n kept ≤ n → hi ≤ n → Inside lo hi found → stop n (over found kept) ≤ n
+over-to n lo hi kept None h i g = h
+over-to n lo hi kept (Some f) h i g = omega (arith, g.1, i)
 
 -- the ends that are open: those of the first d reach to e or behind it, the others are not behind p
 record Stack (ends : List ℕ) (depth d p e : ℕ) : Type 0 where
@@ -114,14 +104,6 @@ pub fit_is : (f room : ℕ) (k : Head) → head_size f ≤ room → head_size f 
 unfolding unfit
 fit_is f room k a b c = rw (le-ltb room (head_size f) a, le-ltb k.len (head_size f) b, le-ltb room k.len c)
 
-pub fault-fits : (f : ℕ) (P : Parent) (index : ℕ) (field : Bool) (room : ℕ) (k : Head) → child_fault f P index field room k ≡ 0 → unfit f room k ≡ false
-unfolding child_fault head_fault
-fault-fits f P index field room k e = go (unfit f room k) refl
-  where
-    go : (b : Bool) → unfit f room k ≡ b → b ≡ false
-    go true z = let y : ◌≡◌ {A = ℕ} 15 0 = (rw z at e) in absurd (omega arith)
-    go false z = refl
-
 level-is : (at n : ℕ) (h k : Head) → level_of (parent at h n) k ≡ n + deepening k.kind
 unfolding level_of deepens
 level-is at n h k = go (deepens 0 k.kind)
@@ -136,62 +118,33 @@ module _ (f : ℕ) (bytes : List ℕ) (positive : 0 < head_size f) where
   run_none zero P index field c = refl
   run_none (suc m) P index field c = refl
 
-  missing_at : (P : Parent) (index c : ℕ) → (missing P index c).place ≡ c
-  missing_at P index c = go (ltb index (least P.head.kind))
-    where
-      go : (b : Bool) → (cond b (fault c 17 P.at) (fault c 0 0)).place ≡ c
-      go true = refl
-      go false = refl
-
-  -- what a run finds stands among the bytes that it runs along
-  run_in : (m : ℕ) (P : Parent) (index : ℕ) (field : Bool) (c room : ℕ) → room ≤ m → (c ≤ (run_from f bytes m P index field c room).place) × ((run_from f bytes m P index field c room).place ≤ c + room)
-  unfolding run_from stopped
-  run_in zero P index field c zero h = (omega (arith, missing_at P index c), omega (arith, missing_at P index c))
-  run_in zero P index field c (suc room) h = absurd (omega arith)
-  run_in (suc m) P index field c zero h = (omega (arith, missing_at P index c), omega (arith, missing_at P index c))
-  run_in (suc m) P index field c (suc room) h =
-      go (child_fault f P index field (suc room) (head_at f bytes c)) refl
-      (λ g. run_in m P (suc index) (field || eqb (head_at f bytes c).kind RecField) (c + (head_at f bytes c).len) (suc room - (head_at f bytes c).len) g)
-    where
-      next : FirstFault
-      next = run_from f bytes m P (suc index) (field || eqb (head_at f bytes c).kind RecField) (c + (head_at f bytes c).len) (suc room - (head_at f bytes c).len)
-
-      go : (n : ℕ) → child_fault f P index field (suc room) (head_at f bytes c) ≡ n
-          → (suc room - (head_at f bytes c).len ≤ m → (c + (head_at f bytes c).len ≤ next.place) × (next.place ≤ c + (head_at f bytes c).len + (suc room - (head_at f bytes c).len)))
-          → (c ≤ (stopped n c next).place) × ((stopped n c next).place ≤ c + suc room)
-      go zero e i =
-          let u = unfit-false f (suc room) (head_at f bytes c) (fault-fits f P index field (suc room) (head_at f bytes c) e) in
-          let j = i (omega (arith, u.1, positive)) in
-          (omega (arith, j.0), omega (arith, j.1, u.2))
-      go (suc n) e i = (omega arith, omega arith)
-
   -- what is claimed: the scan arrives at e with the ends below d as they were and nothing found; or it ends with this refusal
-  record Through (R kept : FirstFault) (ends : List ℕ) (depth d c e : ℕ) : Type 0 where
+  record Through (R kept : Option Fault) (ends : List ℕ) (depth d c e : ℕ) : Type 0 where
     ends₂ : List ℕ
     depth₂ : ℕ
     stack : Stack ends₂ depth₂ d e e
     same : (j : ℕ) → j < d → get_or ends₂ j 0 ≡ get_or ends j 0
-    goes : (r : FirstFault) → Walks f bytes ends₂ depth₂ e kept r → Walks f bytes ends depth c (over R kept) r
+    goes : (r : Option Fault) → Walks f bytes ends₂ depth₂ e kept r → Walks f bytes ends depth c (over R kept) r
 
-  record Blamed (x : Refusal) (R kept : FirstFault) (ends : List ℕ) (depth c : ℕ) : Type 0 where
+  record Blamed (x : Refusal) (R kept : Option Fault) (ends : List ℕ) (depth c : ℕ) : Type 0 where
     place : ℕ
     number : ℕ
     offset : ℕ
     is : x ≡ refusal (suc number) offset offset
-    walks : Walks f bytes ends depth c (over R kept) (fault place (suc number) offset)
+    walks : Walks f bytes ends depth c (over R kept) (Some (fault place (suc number) offset))
 
-  abbrev Claim : (R kept : FirstFault) (ends : List ℕ) (depth d c e : ℕ) → Opened Trees → Type 0
+  abbrev Claim : (R kept : Option Fault) (ends : List ℕ) (depth d c e : ℕ) → Opened Trees → Type 0
   Claim R kept ends depth d c e (whole ts) = Through R kept ends depth d c e
   Claim R kept ends depth d c e (damaged x) = Blamed x R kept ends depth c
 
   -- behind the last child
-  ended-claim : (at n : ℕ) (h : Head) (index c e : ℕ) (kept : FirstFault) (ends : List ℕ) (depth d : ℕ) → c ≡ e → Stack ends depth d c e
+  ended-claim : (at n : ℕ) (h : Head) (index c e : ℕ) (kept : Option Fault) (ends : List ℕ) (depth d : ℕ) → c ≡ e → Stack ends depth d c e
       → Claim (missing (parent at h 0) index c) kept ends depth d c e (ended (parent at h n) index)
-  unfolding ended tested over
+  unfolding ended tested
   ended-claim at n h index c e kept ends depth d z S = go (ltb index (least h.kind))
     where
-      go : (b : Bool) → Claim (cond b (fault c 17 at) (fault c 0 0)) kept ends depth d c e (tested (cond b 17 0) at (λ _. whole none))
-      go true = record { place = c; number = 16; offset = at; is = refl; walks = walks-end f bytes ends depth c (fault c 17 at) (omega arith) }
+      go : (b : Bool) → Claim (cond b (Some (fault c 17 at)) None) kept ends depth d c e (tested (cond b 17 0) at (λ _. whole none))
+      go true = record { place = c; number = 16; offset = at; is = refl; walks = walks-end f bytes ends depth c (Some (fault c 17 at)) (omega arith) }
       go false =
           record {
             ends₂ = ends;
@@ -202,21 +155,21 @@ module _ (f : ℕ) (bytes : List ℕ) (positive : 0 < head_size f) where
           }
 
   -- a child that fails a test of its own; one that is too deep
-  fault-claim : (j : ℕ) (R kept : FirstFault) (ends : List ℕ) (depth d c e : ℕ) (rest : Unit {0} → Opened Trees)
+  fault-claim : (j : ℕ) (R kept : Option Fault) (ends : List ℕ) (depth d c e : ℕ) (rest : Unit {0} → Opened Trees)
       → (j ≡ 0 → Claim R kept ends depth d c e (rest tt)) → Claim (stopped j c R) kept ends depth d c e (tested j c rest)
-  unfolding stopped tested over
+  unfolding stopped tested
   fault-claim zero R kept ends depth d c e rest g = g refl
-  fault-claim (suc j) R kept ends depth d c e rest g = record { place = c; number = j; offset = c; is = refl; walks = subst (λ (K : FirstFault). Walks f bytes ends depth c K (fault c (suc j) c)) (sym (over-some c j c kept)) (walks-end f bytes ends depth c (fault c (suc j) c) (omega arith)) }
+  fault-claim (suc j) R kept ends depth d c e rest g = record { place = c; number = j; offset = c; is = refl; walks = walks-end f bytes ends depth c (Some (fault c (suc j) c)) (omega arith) }
 
-  deep-claim : (b : Bool) (R kept : FirstFault) (ends : List ℕ) (depth d c e : ℕ) (rest : Unit {0} → Opened Trees)
-      → (b ≡ true → Walks f bytes ends depth c (over R kept) (fault c 14 c)) → (b ≡ false → Claim R kept ends depth d c e (rest tt)) → Claim R kept ends depth d c e (tested (cond b 14 0) c rest)
+  deep-claim : (b : Bool) (R kept : Option Fault) (ends : List ℕ) (depth d c e : ℕ) (rest : Unit {0} → Opened Trees)
+      → (b ≡ true → Walks f bytes ends depth c (over R kept) (Some (fault c 14 c))) → (b ≡ false → Claim R kept ends depth d c e (rest tt)) → Claim R kept ends depth d c e (tested (cond b 14 0) c rest)
   unfolding tested
   deep-claim true R kept ends depth d c e rest h g = record { place = c; number = 13; offset = c; is = refl; walks = h refl }
   deep-claim false R kept ends depth d c e rest h g = g refl
 
   -- what is in a child, and the children behind it
-  module _ (R R₁ kept : FirstFault) (ends ends₁ : List ℕ) (depth depth₁ d d₁ c p q e : ℕ) (more : d ≤ d₁) (below : (j : ℕ) → j < d → get_or ends₁ j 0 ≡ get_or ends j 0)
-      (step : (r : FirstFault) → Walks f bytes ends₁ depth₁ p (over R₁ (over R kept)) r → Walks f bytes ends depth c (over R kept) r) where
+  module _ (R R₁ kept : Option Fault) (ends ends₁ : List ℕ) (depth depth₁ d d₁ c p q e : ℕ) (more : d ≤ d₁) (below : (j : ℕ) → j < d → get_or ends₁ j 0 ≡ get_or ends j 0)
+      (step : (r : Option Fault) → Walks f bytes ends₁ depth₁ p (over R₁ (over R kept)) r → Walks f bytes ends depth c (over R kept) r) where
     behind-claim : (T : Through R₁ (over R kept) ends₁ depth₁ d₁ p q) (Y : Opened Trees) (g : Trees → Trees) → Claim R kept T.ends₂ T.depth₂ d q e Y → Claim R kept ends depth d c e (onward Y (λ us. whole (g us)))
     unfolding onward
     behind-claim T (whole us) g U =
@@ -236,8 +189,8 @@ module _ (f : ℕ) (bytes : List ℕ) (positive : 0 < head_size f) where
     inside-claim (damaged x) B Y g rest = record { place = B.place; number = B.number; offset = B.offset; is = B.is; walks = step _ B.walks }
 
   -- a child that passed its own tests
-  module _ (at n : ℕ) (h : Head) (c room e : ℕ) (z : c + suc room ≡ e) (i : e ≤ length bytes) (kept : FirstFault) (a : e ≤ kept.place) (b : kept.place ≤ length bytes) (ends : List ℕ) (depth : ℕ)
-      (S : Stack ends depth n c e) (y : n ≤ levels) (R : FirstFault) (u : unfit f (suc room) (head_at f bytes c) ≡ false) (above : c + (head_at f bytes c).len ≤ R.place) (under : R.place ≤ e) where
+  module _ (at n : ℕ) (h : Head) (c room e : ℕ) (z : c + suc room ≡ e) (i : e ≤ length bytes) (kept : Option Fault) (a : e ≤ stop (length bytes) kept) (b : stop (length bytes) kept ≤ length bytes) (ends : List ℕ) (depth : ℕ)
+      (S : Stack ends depth n c e) (y : n ≤ levels) (R : Option Fault) (u : unfit f (suc room) (head_at f bytes c) ≡ false) (around : Inside (c + (head_at f bytes c).len) e R) where
     abbrev k : Head
     k = head_at f bytes c
 
@@ -247,19 +200,19 @@ module _ (f : ℕ) (bytes : List ℕ) (positive : 0 < head_size f) where
     abbrev x : ℕ
     x = deepening k.kind
 
-    abbrev R₁ : FirstFault
+    abbrev R₁ : Option Fault
     R₁ = run_over f bytes c k
 
     size : (head_size f ≤ suc room) × (head_size f ≤ k.len) × (k.len ≤ suc room)
     size = unfit-false f (suc room) k u
 
-    from : q ≤ (over R kept).place
-    from = over-from q kept R (omega (arith, size.2)) above
+    from : q ≤ stop (length bytes) (over R kept)
+    from = over-from (length bytes) q e kept R (omega (arith, size.2)) around
 
-    inside : (over R kept).place ≤ length bytes
-    inside = over-to (length bytes) kept R b (omega arith)
+    inside : stop (length bytes) (over R kept) ≤ length bytes
+    inside = over-to (length bytes) q e kept R b i around
 
-    here : c < (over R kept).place
+    here : c < stop (length bytes) (over R kept)
     here = omega (arith, from, size.1, positive)
 
     level : level_of (parent at h n) k ≡ n + x
@@ -272,16 +225,16 @@ module _ (f : ℕ) (bytes : List ℕ) (positive : 0 < head_size f) where
     fit = fit_is f (length bytes - c) k (omega (arith, size.0)) size.1 (omega (arith, size.2))
 
     found : earlier (over R kept) R₁ ≡ over R₁ (over R kept)
-    found = let w = run_in k.len (parent c k 0) 0 false (c + head_size f) (k.len - head_size f) (omega arith) in earlier-over (over R kept) R₁ (omega (arith, w.1, from, size.1))
+    found = earlier-over (length bytes) (c + head_size f) (c + head_size f + (k.len - head_size f)) (over R kept) R₁ (omega (arith, from, size.1)) (run_in f bytes positive k.len (parent c k 0) 0 false (c + head_size f) (k.len - head_size f) (omega arith))
 
-    moved_as : (s s₂ : ℕ) (K K₂ : FirstFault) (r : FirstFault) → s ≡ s₂ → K ≡ K₂ → Walks f bytes (set ends s₂ q) (s₂ + x) (c + head_size f) K₂ r → Walks f bytes (set ends s q) (s + x) (c + head_size f) K r
+    moved_as : (s s₂ : ℕ) (K K₂ : Option Fault) (r : Option Fault) → s ≡ s₂ → K ≡ K₂ → Walks f bytes (set ends s₂ q) (s₂ + x) (c + head_size f) K₂ r → Walks f bytes (set ends s q) (s + x) (c + head_size f) K r
     moved_as s s₂ K K₂ r v w t = rw (v, w) t
 
-    step : n + x ≤ levels → (r : FirstFault) → Walks f bytes (set ends n q) (n + x) (c + head_size f) (over R₁ (over R kept)) r → Walks f bytes ends depth c (over R kept) r
+    step : n + x ≤ levels → (r : Option Fault) → Walks f bytes (set ends n q) (n + x) (c + head_size f) (over R₁ (over R kept)) r → Walks f bytes ends depth c (over R kept) r
     step l r w = walks-on f bytes ends depth c (over R kept) here inside fit (omega (arith, opens)) positive r (moved_as (still_open ends depth c) n (earlier (over R kept) R₁) (over R₁ (over R kept)) r opens found w)
 
     passed : (X Y : Opened Trees) (g : Trees → Trees → Trees)
-        → ((kept₁ : FirstFault) → q ≤ kept₁.place → kept₁.place ≤ length bytes → (ends₁ : List ℕ) (depth₁ : ℕ) → Stack ends₁ depth₁ (level_of (parent at h n) k) (c + head_size f) q → level_of (parent at h n) k ≤ levels
+        → ((kept₁ : Option Fault) → q ≤ stop (length bytes) kept₁ → stop (length bytes) kept₁ ≤ length bytes → (ends₁ : List ℕ) (depth₁ : ℕ) → Stack ends₁ depth₁ (level_of (parent at h n) k) (c + head_size f) q → level_of (parent at h n) k ≤ levels
         → Claim R₁ kept₁ ends₁ depth₁ (level_of (parent at h n) k) (c + head_size f) q X)
         → ((ends₂ : List ℕ) (depth₂ : ℕ) → Stack ends₂ depth₂ n q e → Claim R kept ends₂ depth₂ n q e Y)
         → Claim R kept ends depth n c e (tested (cond (ltb levels (level_of (parent at h n) k)) 14 0) c (λ _. onward X (λ ts. onward Y (λ us. whole (g ts us)))))
@@ -297,20 +250,20 @@ module _ (f : ℕ) (bytes : List ℕ) (positive : 0 < head_size f) where
         (λ T. rest T.ends₂ T.depth₂ (popped ends depth n c e q S y (omega (arith, size.2)) x few T.ends₂ T.depth₂ (rw level at T.stack) (λ j v. T.same j (omega (arith, level))))))
 
   scan-claim : (m m₂ at n : ℕ) (h : Head) (index : ℕ) (field : Bool) (c room e : ℕ) → c + room ≡ e → room ≤ m → room ≤ m₂ → e ≤ length bytes
-      → (kept : FirstFault) → e ≤ kept.place → kept.place ≤ length bytes → (ends : List ℕ) (depth : ℕ) → Stack ends depth n c e → n ≤ levels
+      → (kept : Option Fault) → e ≤ stop (length bytes) kept → stop (length bytes) kept ≤ length bytes → (ends : List ℕ) (depth : ℕ) → Stack ends depth n c e → n ≤ levels
       → Claim (run_from f bytes m₂ (parent at h 0) index field c room) kept ends depth n c e (children_at f bytes m (parent at h n) index field c room)
   unfolding children_at run_from level_fault child_fault
   scan-claim zero m₂ at n h index field c zero e z l l₂ i kept a b ends depth S y =
-      subst (λ (x : FirstFault). Claim x kept ends depth n c e (ended (parent at h n) index)) (sym (run_none m₂ (parent at h 0) index field c))
+      subst (λ (x : Option Fault). Claim x kept ends depth n c e (ended (parent at h n) index)) (sym (run_none m₂ (parent at h 0) index field c))
       (ended-claim at n h index c e kept ends depth n (omega arith) S)
   scan-claim zero m₂ at n h index field c (suc room) e z l l₂ i kept a b ends depth S y = absurd (omega arith)
   scan-claim (suc m) m₂ at n h index field c zero e z l l₂ i kept a b ends depth S y =
-      subst (λ (x : FirstFault). Claim x kept ends depth n c e (ended (parent at h n) index)) (sym (run_none m₂ (parent at h 0) index field c))
+      subst (λ (x : Option Fault). Claim x kept ends depth n c e (ended (parent at h n) index)) (sym (run_none m₂ (parent at h 0) index field c))
       (ended-claim at n h index c e kept ends depth n (omega arith) S)
   scan-claim (suc m) zero at n h index field c (suc room) e z l l₂ i kept a b ends depth S y = absurd (omega arith)
   scan-claim (suc m) (suc m₂) at n h index field c (suc room) e z l l₂ i kept a b ends depth S y =
       let k : Head = head_at f bytes c in
-      let R : FirstFault = run_from f bytes m₂ (parent at h 0) (suc index) (field || eqb k.kind RecField) (c + k.len) (suc room - k.len) in
+      let R : Option Fault = run_from f bytes m₂ (parent at h 0) (suc index) (field || eqb k.kind RecField) (c + k.len) (suc room - k.len) in
       let lvl : ℕ = level_of (parent at h n) k in
       fault-claim (child_fault f (parent at h 0) index field (suc room) k) R kept ends depth n c e
       (λ _.
@@ -321,8 +274,8 @@ module _ (f : ℕ) (bytes : List ℕ) (positive : 0 < head_size f) where
       (λ ok.
       let u = fault-fits f (parent at h 0) index field (suc room) k ok in
       let w = unfit-false f (suc room) k u in
-      let v = run_in m₂ (parent at h 0) (suc index) (field || eqb k.kind RecField) (c + k.len) (suc room - k.len) (omega (arith, w.1, positive)) in
-      passed at n h c room e z i kept a b ends depth S y R u v.0 (omega (arith, v.1, w.2))
+      let v = run_in f bytes positive m₂ (parent at h 0) (suc index) (field || eqb k.kind RecField) (c + k.len) (suc room - k.len) (omega (arith, w.1, positive)) in
+      passed at n h c room e z i kept a b ends depth S y R u (inside-wider (c + k.len) (c + k.len) (c + k.len + (suc room - k.len)) e R (omega arith) (omega (arith, w.2)) v)
       (children_at f bytes m (parent c k lvl) 0 false (c + head_size f) (k.len - head_size f))
       (children_at f bytes m (parent at h n) (suc index) (field || eqb k.kind RecField) (c + k.len) (suc room - k.len))
       (λ ts us. more (node k.kind k.start k.end ts) us)
@@ -337,8 +290,8 @@ module _ (f : ℕ) (bytes : List ℕ) (positive : 0 < head_size f) where
     abbrev n : ℕ
     n = length bytes
 
-    abbrev clean : FirstFault
-    clean = fault n 0 0
+    abbrev clean : Option Fault
+    clean = None
 
     abbrev ends₀ : List ℕ
     ends₀ = replicate 65 n
@@ -379,33 +332,33 @@ module _ (f : ℕ) (bytes : List ℕ) (positive : 0 < head_size f) where
           inner = λ j g i. absurd (omega (arith, few));
         }
 
-    abbrev R₀ : FirstFault
+    abbrev R₀ : Option Fault
     R₀ = run_over f bytes first top
 
     over-clean : earlier clean R₀ ≡ over R₀ clean
-    over-clean = let w = run_in top.len (parent first top 0) 0 false (first + head_size f) (top.len - head_size f) (omega arith) in earlier-over clean R₀ (omega (arith, w.1, to_end, fitted.1))
+    over-clean = earlier-over n (first + head_size f) (first + head_size f + (top.len - head_size f)) clean R₀ (omega (arith, to_end, fitted.1)) (run_in f bytes positive top.len (parent first top 0) 0 false (first + head_size f) (top.len - head_size f) (omega arith))
 
-    entered-as : (s s₂ : ℕ) (K K₂ : FirstFault) (r : FirstFault) → s ≡ s₂ → K ≡ K₂ → Walks f bytes (set ends₀ s₂ (first + top.len)) (s₂ + deepening top.kind) (first + head_size f) K₂ r
+    entered-as : (s s₂ : ℕ) (K K₂ : Option Fault) (r : Option Fault) → s ≡ s₂ → K ≡ K₂ → Walks f bytes (set ends₀ s₂ (first + top.len)) (s₂ + deepening top.kind) (first + head_size f) K₂ r
         → Walks f bytes (set ends₀ s (first + top.len)) (s + deepening top.kind) (first + head_size f) K r
     entered-as s s₂ K K₂ r v w t = rw (v, w) t
 
-    entered : (r : FirstFault) → Walks f bytes ends₁ (d₀ + deepening top.kind) (first + head_size f) (over R₀ clean) r → Walks f bytes ends₀ d₀ first clean r
+    entered : (r : Option Fault) → Walks f bytes ends₁ (d₀ + deepening top.kind) (first + head_size f) (over R₀ clean) r → Walks f bytes ends₀ d₀ first clean r
     entered r w =
         walks-on f bytes ends₀ d₀ first clean (omega (arith, fitted.0, positive)) (omega arith) u (omega (arith, all-open, few)) positive r
         (entered-as (still_open ends₀ d₀ first) d₀ (earlier clean R₀) (over R₀ clean) r all-open over-clean w)
 
-    answered : (X : Opened Trees) → Claim R₀ clean ends₁ (d₀ + deepening top.kind) 1 (first + head_size f) n X → (found : FirstFault) → Walks f bytes ends₀ d₀ first clean found → first_at f ≡ first
-        → answer_by found first top ≡ outermost f (onward X (λ ts. whole (node top.kind top.start top.end ts)))
+    answered : (X : Opened Trees) → Claim R₀ clean ends₁ (d₀ + deepening top.kind) 1 (first + head_size f) n X → (found : Option Fault) → Walks f bytes ends₀ d₀ first clean found → first_at f ≡ first
+        → with_record (answer_by found first top) ≡ outermost f (onward X (λ ts. whole (node top.kind top.start top.end ts)))
     unfolding onward outermost kind_of start_of end_of
     answered (whole ts) T found w z =
         let v : clean ≡ found = sym (entered clean (T.goes clean (walks-end f bytes T.ends₂ T.depth₂ n clean (omega arith))) n (omega arith)) ∙ w n (omega arith) in
-        ap (λ (K : FirstFault). answer_by K first top) (sym v) ∙ ap (λ (o : ℕ). Record (saved_head o top)) (sym z)
+        ap (λ (K : Option Fault). with_record (answer_by K first top)) (sym v) ∙ ap (λ (o : ℕ). Ok (Some (saved_head o top))) (sym z)
     answered (damaged x) B found w z =
-        let v : fault B.place (suc B.number) B.offset ≡ found = sym (entered _ B.walks n (omega arith)) ∙ w n (omega arith) in
-        ap (λ (K : FirstFault). answer_by K first top) (sym v) ∙ rw (eqb-suc-zero B.number) (ap Refused (sym B.is))
+        let v : Some (fault B.place (suc B.number) B.offset) ≡ found = sym (entered _ B.walks n (omega arith)) ∙ w n (omega arith) in
+        ap (λ (K : Option Fault). with_record (answer_by K first top)) (sym v) ∙ ap (λ (y : Refusal). Err y) (sym B.is)
 
-    pub opens_as : (found : FirstFault) → Walks f bytes ends₀ d₀ first clean found → first_at f ≡ first
-        → answer_by found first top ≡ outermost f (onward (children_at f bytes n (parent first top 1) 0 false (first + head_size f) (top.len - head_size f)) (λ ts. whole (node top.kind top.start top.end ts)))
+    pub opens_as : (found : Option Fault) → Walks f bytes ends₀ d₀ first clean found → first_at f ≡ first
+        → with_record (answer_by found first top) ≡ outermost f (onward (children_at f bytes n (parent first top 1) 0 false (first + head_size f) (top.len - head_size f)) (λ ts. whole (node top.kind top.start top.end ts)))
     opens_as found w z =
         answered (children_at f bytes n (parent first top 1) 0 false (first + head_size f) (top.len - head_size f))
         (scan-claim n top.len first 1 top 0 false (first + head_size f) (top.len - head_size f) n (omega (arith, to_end, fitted.1)) (omega (arith, to_end)) (omega arith) (omega arith) clean (omega arith) (omega arith) ends₁ (d₀ + deepening top.kind) begun (omega arith))

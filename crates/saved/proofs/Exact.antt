@@ -28,11 +28,10 @@ use Rattle.saved.specs.Open.{Opened, whole, damaged, onward, tested, levels, unf
 use Rattle.saved.specs.Child.{kind_of, children_of}
 use Rattle.saved.specs.Legal.{LegalAt, LegalChildren, Legal}
 use Rattle.saved.specs.Theorems.{Bytes, Exactly}
-use Rattle.saved.specs.code.Scan.{form_by}
 use Rattle.saved.specs.declared.Head.{Head}
-use Rattle.saved.proofs.Heads.{size-some, unfit-false}
+use Rattle.saved.proofs.Heads.{form_by, size-some, size-by, unfit-false}
 use Rattle.saved.proofs.Equals.{fit_is}
-use Rattle.saved.proofs.Parts.{part, part-add, part-long, begins-take, number-below, head_bytes, head_read, size-by}
+use Rattle.saved.proofs.Parts.{part, part-add, part-long, begins-take, number-below, head_bytes, head_read}
 
 -- what was whole passed its tests
 apart : {A : Type 0} (P : Type 0) (r : _) (a : A) → ◌≡◌ {A = Opened A} (damaged r) (whole a) → P

@@ -21,12 +21,11 @@ use Rattle.forms.proofs.Placing.{head-long}
 use Rattle.forms.proofs.Sizes.{recorded-size}
 use Rattle.saved.specs.Heads.{form_told, head_at}
 use Rattle.saved.specs.Open.{unfit, whole, first_at, open_tree}
-use Rattle.saved.specs.Child.{saved_head, starts_by, can_start, child_from, child_over, kind_of, children_of, nth, starts_in, starts_among, starts_at, child_within, child_among}
+use Rattle.saved.specs.Child.{Handed, saved_head, starts_by, can_start, child_from, child_over, kind_of, children_of, nth, starts_in, starts_among, starts_at, child_within, child_among}
 use Rattle.saved.specs.Theorems.{Bytes, ChildrenAre, RecordsStart}
-use Rattle.saved.specs.code.Scan.{form_by}
+use Rattle.saved.proofs.Heads.{form_by}
 use Rattle.saved.specs.declared.Head.{Head}
-use Rattle.saved.specs.declared.Handed.{Handed}
-use Rattle.saved.specs.declared.Handed.TheVariants.{Record, Nothing}
+use Rattle.std.specs.Prelude.{Some, None, Ok}
 use Rattle.saved.proofs.Scan.{child-unfit, child-here, child-on}
 use Rattle.saved.proofs.Equals.{fit_is}
 use Rattle.saved.proofs.Parts.{part, part-add, part-long}
@@ -168,7 +167,7 @@ module _ (wide : Bool) where
         let l : (head_at f bytes q).len ≡ length (recorded_all f (children_of t)) + head_size f = ap (λ (x : Head). x.len) H.told in
         fit_is f room (head_at f bytes q) (omega (arith, H.size)) (omega (arith, l)) (omega (arith, l, H.size))
 
-    none_from : (q index : ℕ) → child_from f bytes index q 0 ≡ Nothing
+    none_from : (q index : ℕ) → child_from f bytes index q 0 ≡ Ok None
     unfolding unfit
     none_from q index = sym (child-unfit f bytes q 0 index (rw (lt-ltb 0 (head_size f) (positive wide bytes small))))
 
@@ -179,7 +178,7 @@ module _ (wide : Bool) where
         let n = length-append (recorded f t) (recorded_all f us) in
         let O = (first_of t us q M).0 in
         sym (child-here f bytes q (length (recorded f t ++ recorded_all f us)) 0 (omega arith) (fits_in t q (length (recorded f t ++ recorded_all f us)) O (omega (arith, n))))
-        ∙ ap (λ (k : Head). Record (saved_head q k)) (headed t q O).told
+        ∙ ap (λ (k : Head). Ok (Some (saved_head q k))) (headed t q O).told
     nth-is (more t us) q (suc i) M =
         let n = length-append (recorded f t) (recorded_all f us) in
         let room : ℕ = length (recorded f t ++ recorded_all f us) in
@@ -193,7 +192,7 @@ module _ (wide : Bool) where
 
     -- a child of the record at r, where one starts there
     unfoldable here : (r index : ℕ) → Handed
-    here r index = cond (unfit f (length bytes - r) (head_at f bytes r)) Nothing (child_from f bytes index (r + head_size f) ((head_at f bytes r).len - head_size f))
+    here r index = cond (unfit f (length bytes - r) (head_at f bytes r)) (Ok None) (child_from f bytes index (r + head_size f) ((head_at f bytes r).len - head_size f))
 
     here-is : (t : Tree) (q index : ℕ) → One t q → here q index ≡ nth f (q + head_size f) (children_of t) index
     unfolding here
@@ -218,7 +217,7 @@ module _ (wide : Bool) where
     unfolding child_within child_among nth children_of
     within-as (leaf k s e w) q r index = go (eqb r q)
       where
-        go : (b : Bool) → Nothing ≡ cond b Nothing Nothing
+        go : (b : Bool) → ◌≡◌ {A = Handed} (Ok None) (cond b (Ok None) (Ok None))
         go true = refl
         go false = refl
     within-as (node k s e ts) q r index = refl
@@ -226,7 +225,7 @@ module _ (wide : Bool) where
     -- what is so of records from q to e: one starts at r exactly where the range has r, and its children are those that stand there
     record Right (starts : Bool) (child : ℕ → Handed) (q e r : ℕ) : Type 0 where
       same : starts ≡ range f q e r
-      hands : (index : ℕ) → child index ≡ cond (range f q e r) (here r index) Nothing
+      hands : (index : ℕ) → child index ≡ cond (range f q e r) (here r index) (Ok None)
 
     tree-right : (t : Tree) (q r : ℕ) → One t q → Right (starts_among f (q + head_size f) (children_of t) r) (child_among f (q + head_size f) (children_of t) r) (q + head_size f) (q + head_size f + length (recorded_all f (children_of t))) r
         → Right (starts_in f q t r) (child_within f q t r) q (q + length (recorded f t)) r
@@ -248,7 +247,7 @@ module _ (wide : Bool) where
             let h = ap (λ (e : ℕ). range f (q + head_size f) e r) size ∙ g in
             record {
               same = starts-as t q r ∙ rw x (R.same ∙ h);
-              hands = λ index. within-as t q r index ∙ rw x (R.hands index ∙ ap (λ (b : Bool). cond b (here r index) Nothing) h);
+              hands = λ index. within-as t q r index ∙ rw x (R.hands index ∙ ap (λ (b : Bool). cond b (here r index) (Ok None)) h);
             }
 
     none_right : (q r : ℕ) → Right (starts_among f q none r) (child_among f q none r) q (q + length (recorded_all f none)) r
@@ -284,7 +283,7 @@ module _ (wide : Bool) where
             let off : range f (q + a) (q + a + b) r ≡ false = bool_same (range f (q + a) (q + a + b) r) false (λ y. let w = range-told f (q + a) (q + a + b) r y in absurd (omega (arith, w.0, l))) (λ y. false-true _ y) in
             record {
               same = or-none (starts_in f q t r) (starts_among f (q + a) us r) (U.same ∙ off) ∙ T.same ∙ h;
-              hands = λ index. rw x (T.hands index ∙ ap (λ (y : Bool). cond y (here r index) Nothing) h);
+              hands = λ index. rw x (T.hands index ∙ ap (λ (y : Bool). cond y (here r index) (Ok None)) h);
             }
         go false x =
             let l = ltb-false r (q + a) x in
@@ -292,7 +291,7 @@ module _ (wide : Bool) where
             let off : range f q (q + a) r ≡ false = bool_same (range f q (q + a) r) false (λ y. let w = range-told f q (q + a) r y in absurd (omega (arith, w.1, l))) (λ y. false-true _ y) in
             record {
               same = ap (λ (y : Bool). y || starts_among f (q + a) us r) (T.same ∙ off) ∙ U.same ∙ h;
-              hands = λ index. rw x (U.hands index ∙ ap (λ (y : Bool). cond y (here r index) Nothing) h);
+              hands = λ index. rw x (U.hands index ∙ ap (λ (y : Bool). cond y (here r index) (Ok None)) h);
             }
 
     mutual
@@ -306,12 +305,12 @@ module _ (wide : Bool) where
       trees-right none q r M = none_right q r
       trees-right (more t us) q r M = let X = first_of t us q M in more-right t us q r M (all_right t q r X.0) (trees-right us (q + length (recorded f t)) r X.1)
 
-    over-is : (r index : ℕ) → child_over f bytes r index ≡ cond (starts_by f (length bytes) r) (here r index) Nothing
+    over-is : (r index : ℕ) → child_over f bytes r index ≡ cond (starts_by f (length bytes) r) (here r index) (Ok None)
     unfolding child_over here
     over-is r index = go (starts_by f (length bytes) r)
       where
-        go : (b : Bool) → cond (not b || unfit f (length bytes - r) (head_at f bytes r)) Nothing (child_from f bytes index (r + head_size f) ((head_at f bytes r).len - head_size f))
-            ≡ cond b (cond (unfit f (length bytes - r) (head_at f bytes r)) Nothing (child_from f bytes index (r + head_size f) ((head_at f bytes r).len - head_size f))) Nothing
+        go : (b : Bool) → cond (not b || unfit f (length bytes - r) (head_at f bytes r)) (Ok None) (child_from f bytes index (r + head_size f) ((head_at f bytes r).len - head_size f))
+            ≡ cond b (cond (unfit f (length bytes - r) (head_at f bytes r)) (Ok None) (child_from f bytes index (r + head_size f) ((head_at f bytes r).len - head_size f))) (Ok None)
         go true = refl
         go false = refl
 
@@ -336,7 +335,7 @@ module _ (wide : Bool) where
       starts-right r = (all_right t (first_at f) r stands).same ∙ in-range r
 
       pub child-right : (r index : ℕ) → child_over f bytes r index ≡ child_within f (first_at f) t r index
-      child-right r index = over-is r index ∙ sym ((all_right t (first_at f) r stands).hands index ∙ ap (λ (b : Bool). cond b (here r index) Nothing) (in-range r))
+      child-right r index = over-is r index ∙ sym ((all_right t (first_at f) r stands).hands index ∙ ap (λ (b : Bool). cond b (here r index) (Ok None)) (in-range r))
 
 pub children-are : ChildrenAre
 unfolding form_told

@@ -1,6 +1,6 @@
 -- Parts of bytes: a number's, a head's; and what a head of known bytes reads as.
 use mathlib.Core.Path.{◌≡◌, refl, ap, sym, ◌∙◌}
-use mathlib.Core.Bool.{Bool, true, false}
+use mathlib.Core.Bool.{true}
 use mathlib.Core.List.{List, [], ◌∷◌, ◌++◌}
 use Prim.Native.Nat.{ℕ, zero, suc, ◌+◌, ◌/◌, ◌%◌, ◌^◌, ◌<◌, ◌≤◌}
 use native.Mathlib.Omega.{arith}
@@ -14,10 +14,8 @@ use Rattle.classes.specs.Bytes.{begins}
 use Rattle.classes.proofs.Bools.{false-true, and_left, and_right}
 use Rattle.records.specs.Stored.{little_endian, head_of}
 use Rattle.records.proofs.Numbers.{number_same, head-same}
-use Rattle.forms.specs.Forms.{head_size, width}
 use Rattle.saved.specs.Heads.{number_at, head_in}
 use Rattle.saved.specs.Theorems.{Bytes}
-use Rattle.saved.specs.code.Scan.{form_by}
 use Rattle.saved.proofs.Heads.{number_step, number-none}
 
 -- so many bytes from p on
@@ -79,9 +77,3 @@ module _ (l : List ℕ) (small : Bytes l) where
       let y : ℕ = number_at w l (p + w + 2 + w) in
       let z = head-same w m j x y n k s e [] [] (ap (λ (u : List ℕ). u ++ []) (head_bytes w p h ∙ q)) in
       rw (number_same w m n (number-below w p) a z.size, number_same 2 j k (number-below 2 (p + w)) b z.kind, number_same w x s (number-below w (p + w + 2)) c z.start, number_same w y e (number-below w (p + w + 2 + w)) d z.end)
-
--- the size of a head, by the width of its numbers
-pub size-by : (wide : Bool) → head_size (form_by wide) ≡ width (form_by wide) + (2 + (width (form_by wide) + width (form_by wide)))
-unfolding head_size width
-size-by true = refl
-size-by false = refl

@@ -1,4 +1,4 @@
-// The numbers of the refusals that saved trees alone can meet, by the specification.
+// The numbers of the refusals that saved trees alone can meet, by the specification; numbers as those of tokens are.
 
 pub const RECORD_UNFIT: u32 = 15;
 

@@ -10,13 +10,13 @@ use Rattle.words.specs.Kinds.{EOF, GreaterGreater}
 use Rattle.tokens.specs.Token.{Scanned, tok as found, bad as faulty, scan}
 use Rattle.tokens.specs.declared.Place.{Place}
 use Rattle.tokens.specs.Calls.{place_fault, unless, lexed, next_token}
-use Rattle.tokens.specs.declared.Lexed.TheVariants.{Refused}
 use Rattle.tokens.proofs.Lexing as lexing
 use Rattle.tokens.proofs.Spelled.{mark_kind, spelling, SpeltToken, lex-spelt, shift_split}
 use Rattle.tokens.proofs.Legible.{legible, LegibleToken, lex-legible}
 use Rattle.tokens.proofs.Again.{lex-again}
 use Rattle.sources.specs.Source.{Source, opened, past, Lexeme, word, after, split, LexResult, tok, bad, scanned, lex}
 use Rattle.sources.specs.code.Answered.{answer_of}
+use Rattle.std.specs.Prelude.{Err}
 
 -- every source is the end of some text
 pad : ℕ → List ℕ → List ℕ
@@ -142,6 +142,6 @@ module _ (u : Source) where
       go (faulty r) h = refl
 
 -- the next token, over the source
-pub next-token-same : (ed : ℕ) (text : List ℕ) (at : ℕ) → next_token ed text at ≡ unless Refused (place_fault text at) (answer_of (lex (opened ed text at)))
+pub next-token-same : (ed : ℕ) (text : List ℕ) (at : ℕ) → next_token ed text at ≡ unless Err (place_fault text at) (answer_of (lex (opened ed text at)))
 unfolding next_token
-next-token-same ed text at = ap (unless Refused (place_fault text at)) (sym (answer-same (opened ed text at)))
+next-token-same ed text at = ap (unless Err (place_fault text at)) (sym (answer-same (opened ed text at)))

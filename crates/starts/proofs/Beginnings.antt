@@ -13,14 +13,11 @@ use Rattle.words.specs.Kinds.{GreaterGreater}
 use Rattle.tokens.specs.Walk.{Listed, eof, refused, next, tokens_at}
 use Rattle.tokens.specs.declared.Refusal.{Refusal}
 use Rattle.tokens.specs.declared.Token.{Token}
-use Rattle.tokens.specs.declared.Lexed.{Lexed}
-use Rattle.tokens.specs.declared.Lexed.TheVariants.{Found as TokenFound, Refused as TokenRefused}
 use Rattle.starts.specs.Beginning.{bounds, by_refusal, by_tokens, beginning}
 use Rattle.starts.specs.code.Step.{step, reached, step_to}
 use Rattle.starts.specs.declared.Step.{Step}
-use Rattle.starts.specs.declared.Beginning.{Beginning}
-use Rattle.starts.specs.declared.Beginning.TheVariants.{Allowed, Nowhere}
 use Rattle.starts.proofs.Ordered.{Ordered, tokens-ordered}
+use Rattle.std.specs.Prelude.{Bool, true, false, Result, Ok, Err}
 
 -- a token has no bound behind its end, none before its start, and one at its end
 module _ (t : Token) (offset : ℕ) where
@@ -79,9 +76,9 @@ module _ (t : Token) (offset : ℕ) where
 
 -- by the step that meets the first token that ends at the offset or behind it
 module _ (text : List ℕ) (offset : ℕ) where
-  abbrev told : ℕ → Lexed → Beginning
-  told p (TokenFound t) = cond (bounds t offset) Allowed Nowhere
-  told p (TokenRefused r) = by_refusal r (parts_end 0 p (drop p text)) offset
+  abbrev told : ℕ → Result Token Refusal → Result Bool Refusal
+  told p (Ok t) = cond (bounds t offset) (Ok true) (Ok false)
+  told p (Err r) = by_refusal r (parts_end 0 p (drop p text)) offset
 
   module _ (h : 0 < offset) where
     by-step : (l : Listed) (p : ℕ) → Ordered p l → by_tokens text offset p l ≡ told (reached (offset - 1) p l).from (reached (offset - 1) p l).met
@@ -91,7 +88,7 @@ module _ (text : List ℕ) (offset : ℕ) where
     by-step (next t l) p o = go (ltb (offset - 1) t.end) refl (by-step l t.end o.2)
       where
         inside : (b : Bool) → bounds t offset ≡ b → offset ≤ t.end
-            → cond b Allowed (cond (ltb offset t.end) Nowhere (by_tokens text offset t.end l)) ≡ cond b Allowed Nowhere
+            → cond b (Ok true) (cond (ltb offset t.end) (Ok false) (by_tokens text offset t.end l)) ≡ cond b (Ok true) (Ok false)
         inside true q g = refl
         inside false q g =
             let n : offset ≡ t.end → ⊥ = end-not t offset q in
@@ -99,15 +96,15 @@ module _ (text : List ℕ) (offset : ℕ) where
 
         go : (b : Bool) → ltb (offset - 1) t.end ≡ b
             → by_tokens text offset t.end l ≡ told (reached (offset - 1) t.end l).from (reached (offset - 1) t.end l).met
-            → cond (bounds t offset) Allowed (cond (ltb offset t.end) Nowhere (by_tokens text offset t.end l))
-            ≡ told (cond b (step p (TokenFound t)) (reached (offset - 1) t.end l)).from (cond b (step p (TokenFound t)) (reached (offset - 1) t.end l)).met
+            → cond (bounds t offset) (Ok true) (cond (ltb offset t.end) (Ok false) (by_tokens text offset t.end l))
+            ≡ told (cond b (step p (Ok t)) (reached (offset - 1) t.end l)).from (cond b (step p (Ok t)) (reached (offset - 1) t.end l)).met
         go true q ih = inside (bounds t offset) refl (omega (arith, ltb-true (offset - 1) t.end q))
         go false q ih =
             let g : t.end ≤ offset - 1 = ltb-false (offset - 1) t.end q in
             rw (none-behind t offset o.1 (omega arith), le-ltb offset t.end (omega arith)) ih
 
 module _ (ed : ℕ) (text : List ℕ) (offset : ℕ) where
-  pub begins-zero : offset ≡ 0 → Allowed ≡ beginning ed text offset
+  pub begins-zero : offset ≡ 0 → (Ok true) ≡ beginning ed text offset
   unfolding beginning
   begins-zero e = rw (eq-eqb offset 0 e)
 
@@ -123,15 +120,16 @@ module _ (ed : ℕ) (text : List ℕ) (offset : ℕ) where
           ap (λ (x : Step). told text offset x.from x.met) e
           ∙ sym (behind-zero ∙ by-step text offset (omega arith) (tokens_at ed text 0) 0 (tokens-ordered ed text 0))
 
-      pub begins-refused : (r : Refusal) → s.met ≡ TokenRefused r → (q : ℕ) → q ≡ parts_end 0 s.from (drop s.from text) → by_refusal r q offset ≡ beginning ed text offset
+      pub begins-refused : (r : Refusal) → s.met ≡ Err r → (q : ℕ) → q ≡ parts_end 0 s.from (drop s.from text) → by_refusal r q offset ≡ beginning ed text offset
       begins-refused r m q g = ap (λ (n : ℕ). by_refusal r n offset) g ∙ ap (told text offset s.from) (sym m) ∙ by-reached
 
-      module _ (t : Token) (q : s.met ≡ TokenFound t) where
-        found : cond (bounds t offset) Allowed Nowhere ≡ beginning ed text offset
+      module _ (t : Token) (q : s.met ≡ Ok t) where
+        found : cond (bounds t offset) (Ok true) (Ok false) ≡ beginning ed text offset
         found = ap (told text offset s.from) (sym q) ∙ by-reached
 
-        pub begins-bound : bounds t offset ≡ true → Allowed ≡ beginning ed text offset
-        begins-bound b = sym (ap (λ (v : Bool). cond v Allowed Nowhere) b) ∙ found
-
-        pub begins-nowhere : bounds t offset ≡ false → Nowhere ≡ beginning ed text offset
-        begins-nowhere b = sym (ap (λ (v : Bool). cond v Allowed Nowhere) b) ∙ found
+        pub begins-found : Ok (bounds t offset) ≡ beginning ed text offset
+        begins-found = sym (either (bounds t offset)) ∙ found
+          where
+            either : (b : Bool) → ◌≡◌ {A = Result Bool Refusal} (cond b (Ok true) (Ok false)) (Ok b)
+            either true = refl
+            either false = refl

@@ -1,4 +1,5 @@
 -- What a call is refused with where reading may not begin: 21 at the offset, or a refusal of the text, 5 to 9, whose places are in it.
+use Rattle.gap.specs.Marks.{unclosed}
 use mathlib.Core.Path.{◌≡◌, refl, ap, sym, ◌∙◌, subst}
 use mathlib.Core.Bool.{Bool, true, false, cond}
 use mathlib.Core.List.{List}
@@ -10,7 +11,6 @@ use Rattle.classes.proofs.Bools.{false-true}
 use Rattle.gap.specs.Comments.{part_at}
 use Rattle.gap.specs.Gap.{End, clear, broken, gap}
 use Rattle.gap.specs.PartsEnd.{parts_end}
-use Rattle.gap.specs.declared.GapPart.TheVariants.{Unclosed}
 use Rattle.gap.proofs.Gaps.{Ended, gap-ended}
 use Rattle.gap.proofs.PartsEnd.{parts-clear, parts-broken}
 use Rattle.words.specs.Kinds.{EOF}
@@ -21,16 +21,14 @@ use Rattle.tokens.specs.Token.{Front, sized, fault, find_token, Scanned, tok, ba
 use Rattle.tokens.specs.Calls.{text_limit}
 use Rattle.tokens.specs.Walk.{Listed, eof, refused, next, listed, walk, tokens_at, tokens_from}
 use Rattle.tokens.specs.declared.Refusal.{Refusal}
-use Rattle.tokens.specs.declared.Fault.TheVariants.{Faultless}
 use Rattle.tokens.proofs.Lexing.{Inside, Sound, lex-sound}
 use Rattle.tokens.proofs.Faults.{Each, admits}
 use Rattle.tokens.proofs.RefusalSets.{front_refusals, Met, find-met, LexMet, lex-met}
 use Rattle.tokens.proofs.Walks.{walk_ends}
 use Rattle.starts.specs.Beginning.{beginning, beginning_fault, start_fault}
 use Rattle.starts.specs.Allowed.{RefusedBehind, here, behind_token}
-use Rattle.starts.specs.declared.Beginning.{Beginning}
-use Rattle.starts.specs.declared.Beginning.TheVariants.{Allowed, Nowhere, Refused}
 use Rattle.starts.proofs.Allowed.{refused-only, zero-begins}
+use Rattle.std.specs.Prelude.{Bool, true, false, Result, Ok, Err}
 
 -- a refusal of the bytes of a text
 pub record OfText (text : List ℕ) (r : Refusal) : Type 0 where
@@ -96,15 +94,15 @@ module _ (ed : ℕ) (text : List ℕ) where
     abbrev at : ℕ
     at = parts_end 0 m (drop m text)
 
-    pub refused-comment : r.number ≡ CommentNotClosed → part_at at (drop at text) ≡ Unclosed r.place.start r.place.end
+    pub refused-comment : r.number ≡ CommentNotClosed → part_at at (drop at text) ≡ Err (unclosed r.place.start r.place.end)
     unfolding scan behind_gap
     refused-comment z = go (gap 0 m (drop m text)).last refl scanned.1
       where
-        go : (x : End) → (gap 0 m (drop m text)).last ≡ x → behind_gap ed x ≡ bad r → part_at at (drop at text) ≡ Unclosed r.place.start r.place.end
+        go : (x : End) → (gap 0 m (drop m text)).last ≡ x → behind_gap ed x ≡ bad r → part_at at (drop at text) ≡ Err (unclosed r.place.start r.place.end)
         go (clear q u) g e = absurd (front-no-comment q u (find_token ed u) (find-met ed u) e z)
         go (broken o q) g e =
             let y : refusal CommentNotClosed o q ≡ r = cc in
-            parts-broken text o q (drop m text) 0 m refl g ∙ ap (λ (s : Refusal). Unclosed s.place.start s.place.end) y
+            parts-broken text o q (drop m text) 0 m refl g ∙ ap (λ (s : Refusal). Err (unclosed s.place.start s.place.end)) y
 
     pub refused-token : (r.number ≡ CommentNotClosed → ⊥) → (gap 0 m (drop m text)).last ≡ clear at (drop at text)
     unfolding scan behind_gap
@@ -122,26 +120,26 @@ module _ (ed : ℕ) (text : List ℕ) (offset : ℕ) where
   unfolding start_fault beginning_fault
   start-each P h nothing walked = go (beginning ed text offset) refl
     where
-      go : (b : Beginning) → beginning ed text offset ≡ b → Each P (beginning_fault offset b)
-      go Allowed e = tt
-      go Nowhere e = nothing
-      go (Refused r) e =
+      go : (b : Result Bool Refusal) → beginning ed text offset ≡ b → Each P (beginning_fault offset b)
+      go (Ok true) e = tt
+      go (Ok false) e = nothing
+      go (Err r) e =
           let d = refused-only ed text offset r e in
           walked r (refused-of-text ed text h d.behind r d.met)
 
-  pub may-begin : start_fault ed text offset ≡ Faultless → beginning ed text offset ≡ Allowed
+  pub may-begin : start_fault ed text offset ≡ Ok tt → beginning ed text offset ≡ Ok true
   unfolding start_fault beginning_fault
   may-begin e = go (beginning ed text offset) e
     where
-      go : (b : Beginning) → beginning_fault offset b ≡ Faultless → b ≡ Allowed
-      go Allowed e = refl
-      go Nowhere e = let z : ◌≡◌ {A = ℕ} 0 1 = cc in absurd (omega arith)
-      go (Refused r) e = let z : ◌≡◌ {A = ℕ} 0 1 = cc in absurd (omega arith)
+      go : (b : Result Bool Refusal) → beginning_fault offset b ≡ Ok tt → b ≡ Ok true
+      go (Ok true) e = refl
+      go (Ok false) e = let z : ◌≡◌ {A = ℕ} 0 1 = cc in absurd (omega arith)
+      go (Err r) e = let z : ◌≡◌ {A = ℕ} 0 1 = cc in absurd (omega arith)
 
-  pub no-start-fault : beginning ed text offset ≡ Allowed → start_fault ed text offset ≡ Faultless
+  pub no-start-fault : beginning ed text offset ≡ Ok true → start_fault ed text offset ≡ Ok tt
   unfolding start_fault beginning_fault
   no-start-fault e = ap (beginning_fault offset) e
 
 -- offset 0
-pub zero-faultless : (ed : ℕ) (text : List ℕ) → start_fault ed text 0 ≡ Faultless
+pub zero-faultless : (ed : ℕ) (text : List ℕ) → start_fault ed text 0 ≡ Ok tt
 zero-faultless ed text = no-start-fault ed text 0 (zero-begins ed text)

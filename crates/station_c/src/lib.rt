@@ -1,5 +1,5 @@
 // What a station links: the calls of crates/station under their C names. Each calls the function of its name there
-// and states its clauses again. The C header is include/movesig.h.
+// and states its clauses again, for C. The C header is include/movesig.h.
 #![tactic(auto)]
 
 ghost use Rattle.std.specs.Prelude.{◌≡◌, length};

@@ -9,12 +9,11 @@ use Rattle.gap.proofs.Gaps.{Ended, gap-ended}
 use Rattle.gap.proofs.Stops.{gap-stops}
 use Rattle.tokens.specs.Token.{Front, sized, fault, find_token, Scanned, tok, bad, placed, behind_gap, scan}
 use Rattle.tokens.specs.Calls.{text_limit, place_fault, unless, lexed, next_token}
-use Rattle.tokens.specs.declared.Fault.{Fault}
-use Rattle.tokens.specs.declared.Fault.TheVariants.{Faultless, Faulty}
 use Rattle.tokens.specs.declared.Token.{Token}
-use Rattle.tokens.specs.declared.Lexed.TheVariants.{Found, Refused}
 use Rattle.tokens.proofs.Lexing.{Sound, lex-sound}
 use Rattle.tokens.proofs.Faults.{in_place_lem, admits}
+use Rattle.tokens.specs.declared.Refusal.{Refusal}
+use Rattle.std.specs.Prelude.{Result, Ok, Err, ⊤}
 
 -- where a gap ends, no further gap begins
 pub gap-again : (p q : ℕ) (s u : List ℕ) → (gap 0 p s).last ≡ clear q u → (gap 0 q u).last ≡ clear q u
@@ -42,27 +41,27 @@ module _ (ed : ℕ) where
 
 module _ (ed : ℕ) where
   -- a token is found in a text and at a place that the limits admit
-  pub found-fits : (text : List ℕ) (at : ℕ) (t : Token) → next_token ed text at ≡ Found t → (length text ≤ text_limit) × (at ≤ length text)
+  pub found-fits : (text : List ℕ) (at : ℕ) (t : Token) → next_token ed text at ≡ Ok t → (length text ≤ text_limit) × (at ≤ length text)
   unfolding next_token unless
   found-fits text at t h = in_place_lem text at (go (place_fault text at) h)
     where
-      go : (f : Fault) → unless Refused f (lexed (scan ed at (drop at text))) ≡ Found t → f ≡ Faultless
-      go Faultless h = refl
-      go (Faulty r) h = let z : ◌≡◌ {A = ℕ} 0 1 = cc in absurd (omega arith)
+      go : (f : Result ⊤ Refusal) → unless Err f (lexed (scan ed at (drop at text))) ≡ Ok t → f ≡ Ok tt
+      go (Ok tt) h = refl
+      go (Err r) h = let z : ◌≡◌ {A = ℕ} 0 1 = cc in absurd (omega arith)
 
   -- the token call, of a token that starts in the text
-  start-found : (text : List ℕ) (at : ℕ) (t : Token) (l : Scanned) → length text ≤ text_limit → at ≤ length text → scan ed at (drop at text) ≡ l → lexed l ≡ Found t → next_token ed text t.start ≡ Found t
+  start-found : (text : List ℕ) (at : ℕ) (t : Token) (l : Scanned) → length text ≤ text_limit → at ≤ length text → scan ed at (drop at text) ≡ l → lexed l ≡ Ok t → next_token ed text t.start ≡ Ok t
   unfolding next_token lexed
   start-found text at t (tok k s e w r) f i g h =
       let d : Sound text at (tok k s e w r) = subst (Sound text at) g (lex-sound ed text at i) in
-      let x : Found (record { kind = k; start = s; end = e }) ≡ Found t = h in
+      let x : Ok (record { kind = k; start = s; end = e }) ≡ Ok t = h in
       let y : record { kind = k; start = s; end = e } ≡ t = cc in
-      subst (λ (u : Token). next_token ed text u.start ≡ Found u) y
-      (admits text s Refused (lexed (scan ed s (drop s text))) f (omega (arith, d.ordered, d.within)) ∙ ap lexed (lex-again ed text at k s e w r i g))
+      subst (λ (u : Token). next_token ed text u.start ≡ Ok u) y
+      (admits text s Err (lexed (scan ed s (drop s text))) f (omega (arith, d.ordered, d.within)) ∙ ap lexed (lex-again ed text at k s e w r i g))
   start-found text at t (bad r) f i g h = let z : ◌≡◌ {A = ℕ} 0 1 = cc in absurd (omega arith)
 
-  pub found-again : (text : List ℕ) (at : ℕ) (t : Token) → next_token ed text at ≡ Found t → next_token ed text t.start ≡ Found t
+  pub found-again : (text : List ℕ) (at : ℕ) (t : Token) → next_token ed text at ≡ Ok t → next_token ed text t.start ≡ Ok t
   unfolding next_token
   found-again text at t h =
       let f = found-fits text at t h in
-      start-found text at t (scan ed at (drop at text)) f.0 f.1 refl (sym (admits text at Refused (lexed (scan ed at (drop at text))) f.0 f.1) ∙ h)
+      start-found text at t (scan ed at (drop at text)) f.0 f.1 refl (sym (admits text at Err (lexed (scan ed at (drop at text))) f.0 f.1) ∙ h)

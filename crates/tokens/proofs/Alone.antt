@@ -1,4 +1,5 @@
 -- The bytes of a token alone are that token again.
+use Rattle.std.specs.Prelude.{Ok, None}
 use mathlib.Core.Path.{◌≡◌, refl, ap, sym, ◌∙◌, subst}
 use mathlib.Core.Bool.{Bool, true, false, cond, ◌||◌}
 use mathlib.Core.List.{List, [], ◌∷◌, append-nil}
@@ -11,7 +12,6 @@ use lib.ListN.{length, get_or, take, drop, drop_of_length-le}
 use lib.Seq.{take-take, length-take-le}
 use Rattle.gap.specs.Comments.{part_at}
 use Rattle.gap.specs.Gap.{End, clear, broken, gap}
-use Rattle.gap.specs.declared.GapPart.TheVariants.{Other}
 use Rattle.gap.proofs.Stops.{gap-stops, gap-none}
 use Rattle.classes.specs.Bytes.{bytes, begins}
 use Rattle.classes.specs.Class.{in_range, is_digit, is_hex, is_letter, is_name, is_ascii}
@@ -19,9 +19,8 @@ use Rattle.classes.specs.Run.{run_len}
 use Rattle.classes.proofs.Bools.{false-true, and_left, and_right, and-false}
 use Rattle.classes.proofs.Cut.{begins-cut, begins-uncut, run-cut, drop-cut}
 use Rattle.words.specs.Search.{mark_of, suffix_len}
-use Rattle.words.specs.Quote.{quote_from}
-use Rattle.words.specs.declared.Quote.{Quote}
-use Rattle.words.specs.declared.Quote.TheVariants.{Found, Missing}
+use Rattle.words.specs.Quote.{Quote, quote_from}
+use Rattle.std.proofs.Common.{Ok as Found, Err as Missing}
 use Rattle.words.proofs.Suffix.{suffix-short, suffix-alone}
 use Rattle.words.proofs.Quotes.{Within, within, quote-local}
 use Rattle.words.proofs.Marks.{mark-alone}
@@ -213,7 +212,7 @@ module _ (ed : ℕ) where
   AloneAgain (tok k s e w r) = (k ≡ 0 → ⊥) → scan ed 0 w ≡ tok k 0 (length w) w []
   AloneAgain (bad r) = Unit {0}
 
-  again : (q : ℕ) (a : ℕ) (s : List ℕ) (x : Front) → part_at q (a ∷ s) ≡ Other → Takes (length (a ∷ s)) x → Alone (find_token ed) (a ∷ s) x → AloneAgain (placed q (a ∷ s) x)
+  again : (q : ℕ) (a : ℕ) (s : List ℕ) (x : Front) → part_at q (a ∷ s) ≡ Ok None → Takes (length (a ∷ s)) x → Alone (find_token ed) (a ∷ s) x → AloneAgain (placed q (a ∷ s) x)
   unfolding placed scan behind_gap
   again q a s (fault m i j) g t h = tt
   again q a s (sized k zero) g t h = absurd (not-suc-le-zero t.1)
@@ -227,7 +226,7 @@ module _ (ed : ℕ) where
   unfolding placed find_token
   none-again q h = absurd (h refl)
 
-  behind-again : (e : End) → ((q a : ℕ) (s : List ℕ) → e ≡ clear q (a ∷ s) → part_at q (a ∷ s) ≡ Other) → AloneAgain (behind_gap ed e)
+  behind-again : (e : End) → ((q a : ℕ) (s : List ℕ) → e ≡ clear q (a ∷ s) → part_at q (a ∷ s) ≡ Ok None) → AloneAgain (behind_gap ed e)
   unfolding behind_gap
   behind-again (clear q []) h = none-again q
   behind-again (clear q (a ∷ s)) h = again q a s (find_token ed (a ∷ s)) (h q a s refl) (find-takes ed a s) (find-alone a s)

@@ -20,9 +20,8 @@ use Rattle.classes.proofs.Cut.{begins-short}
 use Rattle.classes.proofs.Runs.{run_inside}
 use Rattle.words.specs.Kinds.{NumValue, NumTypedValue}
 use Rattle.words.specs.Search.{kind_of, mark_of, front_len, is_edition2, suffixes1, suffixes2, suffixes_of, suffix_len}
-use Rattle.words.specs.Quote.{quote_from}
-use Rattle.words.specs.declared.Quote.{Quote}
-use Rattle.words.specs.declared.Quote.TheVariants.{Found as Closing, Missing}
+use Rattle.words.specs.Quote.{Quote, quote_from}
+use Rattle.std.proofs.Common.{Ok as Closing, Err as Missing}
 use Rattle.words.proofs.Above.{name-above, mark-above}
 use Rattle.words.proofs.Suffix.{both-lists, later-kept, no-suffix}
 use Rattle.tokens.specs.Token.{Front, sized, fault, typed, digits_len, more_digits, more_hex, decimal_len, decimal, hex_typed, hex_len, hex_number, number_token, string_by, string, opens_string, string_refusal, name, word_token, mark, find_token, Scanned, tok, bad, placed, behind_gap, scan}

@@ -14,9 +14,8 @@ use Rattle.classes.proofs.Bools.{false-true, and_right}
 use Rattle.classes.proofs.Cut.{begins-short}
 use Rattle.classes.proofs.Runs.{run_short}
 use Rattle.words.specs.Search.{mark_of, suffix_len}
-use Rattle.words.specs.Quote.{quote_from}
-use Rattle.words.specs.declared.Quote.{Quote}
-use Rattle.words.specs.declared.Quote.TheVariants.{Found, Missing}
+use Rattle.words.specs.Quote.{Quote, quote_from}
+use Rattle.std.proofs.Common.{Ok as Found, Err as Missing}
 use Rattle.words.proofs.Suffix.{suffix-short}
 use Rattle.words.proofs.Quotes.{Within, within}
 use Rattle.words.proofs.Above.{name-above, mark-above}

@@ -18,10 +18,9 @@ use Rattle.classes.proofs.All.{all_join, all-run, all-front, all_more, name-show
 use Rattle.words.specs.Kinds.{ByteStringValue}
 use Rattle.words.specs.Tables.{Entry, long_marks, double_marks, single_marks, marks}
 use Rattle.words.specs.Search.{longer, longest, mark_of, kind_of}
-use Rattle.words.specs.Quote.{quote_from}
+use Rattle.words.specs.Quote.{Quote, quote_from}
 use Rattle.words.specs.declared.Fit.{Fit}
-use Rattle.words.specs.declared.Quote.{Quote}
-use Rattle.words.specs.declared.Quote.TheVariants.{Found, Missing}
+use Rattle.std.proofs.Common.{Ok as Found, Err as Missing}
 use Rattle.words.proofs.Quotes.{Within, within, quote-there}
 use Rattle.tokens.specs.Token.{Front, sized, fault, number_token, string_by, string, opens_string, string_refusal, name, word_token, mark, find_token, Scanned, tok, bad, placed, behind_gap, scan}
 use Rattle.tokens.proofs.Editions.{Named, length_of, is-number}

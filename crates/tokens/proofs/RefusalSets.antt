@@ -1,4 +1,5 @@
 -- Which refusals the token call and the comment call can meet.
+use Rattle.gap.specs.declared.Unclosed.{Unclosed}
 use mathlib.Core.Path.{◌≡◌, refl, sym, ◌∙◌, subst}
 use mathlib.Core.Bool.{Bool, true, false, cond, ◌&&◌, ◌||◌}
 use mathlib.Core.List.{List, [], ◌∷◌}
@@ -11,23 +12,19 @@ use Rattle.classes.specs.Class.{is_digit, is_letter, is_ascii}
 use Rattle.classes.specs.Run.{run_len}
 use Rattle.classes.proofs.Bools.{false-true, and_left, and_right}
 use Rattle.gap.specs.Gap.{End, clear, broken, gap, doc_of}
-use Rattle.gap.specs.declared.FirstDoc.{FirstDoc}
-use Rattle.gap.specs.declared.FirstDoc.TheVariants.{Found as DocFound, Nothing as NoDoc, BrokenFirst}
 use Rattle.words.specs.Search.{mark_of, suffix_len}
-use Rattle.words.specs.Quote.{quote_from}
-use Rattle.words.specs.declared.Quote.{Quote}
-use Rattle.words.specs.declared.Quote.TheVariants.{Found as Closing, Missing}
+use Rattle.words.specs.Quote.{Quote, quote_from}
+use Rattle.std.proofs.Common.{Ok as Closing, Err as Missing}
 use Rattle.tokens.specs.Refusals.{NoToken, HexStringNotClosed, ByteStringNotClosed, StringNotAscii}
 use Rattle.tokens.specs.RefusalSets.{among, lex_refusals, token_refusals, comment_refusals}
 use Rattle.tokens.specs.Token.{Front, sized, fault, typed, decimal, hex_typed, hex_len, hex_number, number_token, string_by, string, opens_string, string_refusal, name, word_token, mark, find_token, Scanned, tok, bad, placed, behind_gap, scan}
 use Rattle.tokens.specs.Calls.{text_limit, place_fault, call_fault, lexed, next_token, advanced, refused_call, token_call, comment_of, next_comment}
 use Rattle.tokens.specs.declared.Refusal.{Refusal}
 use Rattle.tokens.specs.declared.Advanced.{Advanced}
-use Rattle.tokens.specs.declared.Lexed.{Lexed}
-use Rattle.tokens.specs.declared.Lexed.TheVariants.{Found, Refused}
-use Rattle.tokens.specs.declared.DocComment.{DocComment}
-use Rattle.tokens.specs.declared.DocComment.TheVariants.{Doc, Nothing, Broken}
 use Rattle.tokens.proofs.Faults.{place-each, call-each, unless-sure, admits}
+use Rattle.tokens.specs.declared.Token.{Token}
+use Rattle.std.specs.Prelude.{Result, Ok, Err, Option, Some, None}
+use Rattle.gap.specs.declared.Comment.{Comment}
 
 -- every number of one set is one of another: of two sets that are written out, `refl` says so
 unfoldable pub subset : List ℕ → List ℕ → Bool
@@ -105,44 +102,44 @@ module _ (ed : ℕ) where
   unfolding scan
   lex-met p s = gap-met (gap 0 p s).last
 
-abbrev TokenMet : List ℕ → Lexed → Type 0
-TokenMet set (Found t) = Unit {0}
-TokenMet set (Refused r) = among set r.number ≡ true
+abbrev TokenMet : List ℕ → Result Token Refusal → Type 0
+TokenMet set (Ok t) = Unit {0}
+TokenMet set (Err r) = among set r.number ≡ true
 
-abbrev CommentMet : DocComment → Type 0
-CommentMet (Doc c) = Unit {0}
-CommentMet Nothing = Unit {0}
-CommentMet (Broken r) = among comment_refusals r.number ≡ true
+abbrev CommentMet : Result (Option Comment) Refusal → Type 0
+CommentMet (Ok (Some c)) = Unit {0}
+CommentMet (Ok None) = Unit {0}
+CommentMet (Err r) = among comment_refusals r.number ≡ true
 
 lexed-met : (set : List ℕ) → subset lex_refusals set ≡ true → (l : Scanned) → LexMet l → TokenMet set (lexed l)
 unfolding lexed
 lexed-met set i (tok k s e w r) h = tt
 lexed-met set i (bad r) h = among-subset lex_refusals set i r.number h
 
-comment-met : (d : FirstDoc) → CommentMet (comment_of d)
+comment-met : (d : Result (Option Comment) Unclosed) → CommentMet (comment_of d)
 unfolding comment_of among
-comment-met (DocFound c) = tt
-comment-met NoDoc = tt
-comment-met (BrokenFirst o q) = refl
+comment-met (Ok (Some c)) = tt
+comment-met (Ok None) = tt
+comment-met (Err w) = refl
 
 next-met : (ed : ℕ) (text : List ℕ) (at : ℕ) → TokenMet token_refusals (next_token ed text at)
 unfolding next_token subset among
 next-met ed text at =
-    unless-sure Refused (TokenMet token_refusals) (place_fault text at) _ (place-each _ text at refl refl) (λ _. lexed-met token_refusals refl (scan ed at (drop at text)) (lex-met ed at (drop at text)))
+    unless-sure Err (TokenMet token_refusals) (place_fault text at) _ (place-each _ text at refl refl) (λ _. lexed-met token_refusals refl (scan ed at (drop at text)) (lex-met ed at (drop at text)))
 
 -- a token call is refused with 1, 2, 19 or 5 to 9
-pub token-refusals : (ed : ℕ) (text : List ℕ) (at : ℕ) (r : Refusal) → (token_call ed text at).lexed ≡ Refused r → among token_refusals r.number ≡ true
+pub token-refusals : (ed : ℕ) (text : List ℕ) (at : ℕ) (r : Refusal) → (token_call ed text at).lexed ≡ Err r → among token_refusals r.number ≡ true
 unfolding token_call advanced among
 token-refusals ed text at r e =
     subst (TokenMet token_refusals) e (unless-sure refused_call (λ (a : Advanced). TokenMet token_refusals a.lexed) (call_fault ed text at) _ (call-each _ ed text at refl refl refl) (λ _. next-met ed text at))
 
 -- and with 5 to 9 where the caller is not to blame
-pub token-text-refusals : (ed : ℕ) (text : List ℕ) (at : ℕ) → length text ≤ text_limit → at ≤ length text → (r : Refusal) → next_token ed text at ≡ Refused r → among lex_refusals r.number ≡ true
+pub token-text-refusals : (ed : ℕ) (text : List ℕ) (at : ℕ) → length text ≤ text_limit → at ≤ length text → (r : Refusal) → next_token ed text at ≡ Err r → among lex_refusals r.number ≡ true
 unfolding next_token subset among
 token-text-refusals ed text at h g r e =
-    subst (TokenMet lex_refusals) (sym (admits text at Refused (lexed (scan ed at (drop at text))) h g) ∙ e) (lexed-met lex_refusals refl (scan ed at (drop at text)) (lex-met ed at (drop at text)))
+    subst (TokenMet lex_refusals) (sym (admits text at Err (lexed (scan ed at (drop at text))) h g) ∙ e) (lexed-met lex_refusals refl (scan ed at (drop at text)) (lex-met ed at (drop at text)))
 
 -- a comment call is refused with 1, 2, 19 or 6
-pub comment-refusals : (ed : ℕ) (text : List ℕ) (at : ℕ) (r : Refusal) → next_comment ed text at ≡ Broken r → among comment_refusals r.number ≡ true
+pub comment-refusals : (ed : ℕ) (text : List ℕ) (at : ℕ) (r : Refusal) → next_comment ed text at ≡ Err r → among comment_refusals r.number ≡ true
 unfolding next_comment among
-comment-refusals ed text at r e = subst CommentMet e (unless-sure Broken CommentMet (call_fault ed text at) _ (call-each _ ed text at refl refl refl) (λ _. comment-met (doc_of (gap 0 at (drop at text)))))
+comment-refusals ed text at r e = subst CommentMet e (unless-sure Err CommentMet (call_fault ed text at) _ (call-each _ ed text at refl refl refl) (λ _. comment-met (doc_of (gap 0 at (drop at text)))))

@@ -13,9 +13,8 @@ use Rattle.gap.proofs.Shift.{gap_up}
 use Rattle.tokens.specs.Token.{Front, sized, fault, find_token, Scanned, tok, bad, placed, behind_gap, scan}
 use Rattle.tokens.specs.Calls.{text_limit, lexed, next_token, no_edition, comment_of, next_comment}
 use Rattle.tokens.specs.Raise.{raise_scanned, raise_lexed, raise_doc}
-use Rattle.tokens.specs.declared.Lexed.TheVariants.{Refused}
-use Rattle.tokens.specs.declared.DocComment.TheVariants.{Broken}
 use Rattle.tokens.proofs.Faults.{admits, admits-in}
+use Rattle.std.specs.Prelude.{Err}
 
 module _ (ed k : ℕ) where
   placed-up : (p : ℕ) (s : List ℕ) (f : Front) → placed (k + p) s f ≡ raise_scanned k (placed p s f)
@@ -50,16 +49,16 @@ module _ (ed : ℕ) (text : List ℕ) (at : ℕ) (h : length text ≤ text_limit
   pub token-from : next_token ed text at ≡ raise_lexed at (next_token ed (drop at text) 0)
   unfolding next_token
   token-from =
-      admits text at Refused (lexed (scan ed at (drop at text))) h g
+      admits text at Err (lexed (scan ed at (drop at text))) h g
       ∙ ap (λ (n : ℕ). lexed (scan ed n (drop at text))) (sym (add-zero at))
       ∙ ap lexed (lex-up ed at 0 (drop at text)) ∙ lexed-up ed at (scan ed 0 (drop at text))
-      ∙ ap (raise_lexed at) (sym (admits (drop at text) 0 Refused (lexed (scan ed 0 (drop at text))) from_zero (omega arith)))
+      ∙ ap (raise_lexed at) (sym (admits (drop at text) 0 Err (lexed (scan ed 0 (drop at text))) from_zero (omega arith)))
 
   pub comment-from : no_edition ed ≡ false → next_comment ed text at ≡ raise_doc at (next_comment ed (drop at text) 0)
   unfolding next_comment doc_of
   comment-from q =
-      admits-in text at Broken ed (comment_of (doc_of (gap 0 at (drop at text)))) h g q
+      admits-in text at Err ed (comment_of (doc_of (gap 0 at (drop at text)))) h g q
       ∙ ap (λ (n : ℕ). comment_of (doc_of (gap 0 n (drop at text)))) (sym (add-zero at))
       ∙ ap (λ (x : Gap). comment_of (doc_of x)) (gap_up at (drop at text) 0 0)
       ∙ doc-up ed at (gap 0 0 (drop at text)).docs (gap 0 0 (drop at text)).last
-      ∙ ap (raise_doc at) (sym (admits-in (drop at text) 0 Broken ed (comment_of (doc_of (gap 0 0 (drop at text)))) from_zero (omega arith) q))
+      ∙ ap (raise_doc at) (sym (admits-in (drop at text) 0 Err ed (comment_of (doc_of (gap 0 0 (drop at text)))) from_zero (omega arith) q))

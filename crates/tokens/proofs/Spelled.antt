@@ -17,9 +17,8 @@ use Rattle.classes.specs.Run.{run_len}
 use Rattle.classes.proofs.Bools.{false-true, and_left, and_right}
 use Rattle.words.specs.Tables.{Entry, keywords, long_marks, double_marks, single_marks, marks}
 use Rattle.words.specs.Search.{same, lookup, kind_of, mark_of, first_fit, suffix_len}
-use Rattle.words.specs.Quote.{quote_from}
-use Rattle.words.specs.declared.Quote.{Quote}
-use Rattle.words.specs.declared.Quote.TheVariants.{Found, Missing}
+use Rattle.words.specs.Quote.{Quote, quote_from}
+use Rattle.std.proofs.Common.{Ok as Found, Err as Missing}
 use Rattle.words.proofs.Marks.{mark-first}
 use Rattle.tokens.specs.Token.{Front, sized, fault, typed, decimal_len, decimal, hex_typed, hex_len, hex_number, number_token, string_by, string, opens_string, string_refusal, name, word_token, mark, find_token, Scanned, tok, bad, placed, behind_gap, scan}
 

@@ -1,4 +1,6 @@
 -- The token at a place of a text, by the tests and the callees' answers that lead to each case of the code.
+use Rattle.gap.specs.Marks.{unclosed}
+use Rattle.gap.specs.declared.Unclosed.{Unclosed}
 use mathlib.Core.Path.{◌≡◌, refl, ap, sym, ◌∙◌, subst}
 use mathlib.Core.Bool.{Bool, true, false, cond, ◌&&◌}
 use mathlib.Core.List.{List, [], ◌∷◌}
@@ -14,14 +16,12 @@ use Rattle.classes.specs.Class.{in_range, is_digit, is_hex, is_letter, is_name, 
 use Rattle.classes.specs.Run.{run_len, run_end}
 use Rattle.classes.proofs.Bools.{false-true, and-true, and_right}
 use Rattle.gap.specs.Gap.{End, clear, broken, Gap, gap, gap_end_of, doc_of}
-use Rattle.gap.specs.declared.GapEnd.TheVariants.{Clear, Broken}
 use Rattle.gap.proofs.Gaps.{Ended, gap-ended, gap-blanks}
 use Rattle.gap.proofs.Places.{front as front_at}
 use Rattle.words.specs.Search.{kind_of, mark_of, suffix_len}
-use Rattle.words.specs.Quote.{quote_from, raised}
+use Rattle.words.specs.Quote.{Quote, quote_from, raised}
 use Rattle.words.specs.declared.Fit.{Fit}
-use Rattle.words.specs.declared.Quote.{Quote}
-use Rattle.words.specs.declared.Quote.TheVariants.{Found as QuoteFound, Missing}
+use Rattle.std.proofs.Common.{Ok as QuoteFound, Err as Missing}
 use Rattle.classes.proofs.Cut.{begins-short, run-cut, drop-cut}
 use Rattle.classes.proofs.Runs.{run_in, run-stops}
 use Rattle.words.proofs.Marks.{mark-short}
@@ -32,21 +32,18 @@ use Rattle.tokens.specs.Token.{Front, sized, fault, typed, more_digits, more_hex
 use Rattle.tokens.specs.Calls.{text_limit, no_edition, fault_if, ◌or_else◌, place_fault, call_fault, unless, lexed, next_token, line_feed_before, advanced, refused_call, token_call, comment_of, next_comment}
 use Rattle.tokens.specs.code.Found.{digits_end, edition_refusal, lexed_at, typed_at}
 use Rattle.tokens.specs.declared.Refusal.{Refusal}
-use Rattle.tokens.specs.declared.Lexed.{Lexed}
-use Rattle.tokens.specs.declared.Fault.{Fault}
-use Rattle.tokens.specs.declared.Fault.TheVariants.{Faultless, Faulty}
-use Rattle.tokens.specs.declared.Lexed.TheVariants.{Found, Refused}
-use Rattle.tokens.specs.declared.DocComment.TheVariants.{Broken as CommentBroken}
 use Rattle.tokens.proofs.Digits.{end-to}
 use Rattle.tokens.proofs.Faults.{unless_not, unless-faulty}
+use Rattle.tokens.specs.declared.Token.{Token}
+use Rattle.std.specs.Prelude.{Result, Ok, Err, ⊤}
 
 -- numbers
 module _ (at e n : ℕ) where
-  pub untyped : n ≡ 0 → Found (token 1 at e) ≡ typed_at at e n
+  pub untyped : n ≡ 0 → Ok (token 1 at e) ≡ typed_at at e n
   unfolding typed_at
   untyped h = rw (h, add-zero)
 
-  pub with-type : (n ≡ 0 → ⊥) → Found (token 2 at (e + n)) ≡ typed_at at e n
+  pub with-type : (n ≡ 0 → ⊥) → Ok (token 2 at (e + n)) ≡ typed_at at e n
   unfolding typed_at
   with-type h = rw (ne_eqb n 0 h)
 
@@ -72,7 +69,7 @@ module _ (ed : ℕ) (text : List ℕ) (at e n : ℕ) (en : n ≡ suffix_len ed (
     unfolding hex_len digits_end
     hex-end = h ∙ rw (drop-drop 2 at text, add_assoc)
 
-    pub hex-zero : e + n ≡ at + 2 → Found (token 1 at (at + 1)) ≡ lexed_at at (hex_number ed (drop at text))
+    pub hex-zero : e + n ≡ at + 2 → Ok (token 1 at (at + 1)) ≡ lexed_at at (hex_number ed (drop at text))
     unfolding hex_number hex_typed lexed_at
     hex-zero g =
         let q : hex_len ed (drop at text) + n ≡ 2 = omega (arith, hex-end) in
@@ -114,12 +111,12 @@ module _ (text : List ℕ) (at m : ℕ) (k : Quote) (ek : k ≡ quote_from false
   quote-here : k ≡ raised at (quote_from false 2 (drop 2 (drop at text)))
   quote-here = ek ∙ quote-shift (drop (at + 2) text) false at 2 ∙ ap (λ (s : List ℕ). raised at (quote_from false 2 s)) (sym (drop-drop 2 at text))
 
-  missing-by : (e v : ℕ) (q : Quote) → raised at q ≡ Missing e → Refused (refusal m at e) ≡ lexed_at at (string_by m v q)
+  missing-by : (e v : ℕ) (q : Quote) → raised at q ≡ Missing e → Err (refusal m at e) ≡ lexed_at at (string_by m v q)
   unfolding string_by lexed_at
   missing-by e v (Missing f) g = let r : at + f ≡ e = cc in rw (r, add-zero)
   missing-by e v (QuoteFound f) g = let z : ◌≡◌ {A = ℕ} 0 1 = cc in absurd (omega arith)
 
-  pub string-missing : (e : ℕ) → k ≡ Missing e → Refused (refusal m at e) ≡ lexed_at at (string m (drop at text))
+  pub string-missing : (e : ℕ) → k ≡ Missing e → Err (refusal m at e) ≡ lexed_at at (string m (drop at text))
   unfolding string
   string-missing e g = missing-by e (2 + run_len is_ascii (drop 2 (drop at text))) (quote_from false 2 (drop 2 (drop at text))) (sym quote-here ∙ g)
 
@@ -139,7 +136,7 @@ module _ (text : List ℕ) (at m : ℕ) (k : Quote) (ek : k ≡ quote_from false
           let c : drop (at + 2) (take q text) ≡ take (q - (at + 2)) (drop (at + 2) text) = ap (λ (j : ℕ). drop (at + 2) (take j text)) n ∙ drop-cut (at + 2) (q - (at + 2)) text in
           eh ∙ rw (c, run-cut is_ascii (drop (at + 2) text) (q - (at + 2)), drop-drop 2 at text) (omega arith)
 
-      high-by : (v : ℕ) (x : Quote) → h ≡ at + min (q - at) v → raised at x ≡ QuoteFound q → h < q → Refused (refusal 9 h (h + 1)) ≡ lexed_at at (string_by m v x)
+      high-by : (v : ℕ) (x : Quote) → h ≡ at + min (q - at) v → raised at x ≡ QuoteFound q → h < q → Err (refusal 9 h (h + 1)) ≡ lexed_at at (string_by m v x)
       unfolding string_by lexed_at
       high-by v (Missing f) w p l = let z : ◌≡◌ {A = ℕ} 0 1 = cc in absurd (omega arith)
       high-by v (QuoteFound f) w p l =
@@ -147,16 +144,16 @@ module _ (text : List ℕ) (at m : ℕ) (k : Quote) (ek : k ≡ quote_from false
           let y : h ≡ at + v = omega arith in
           rw (lt-ltb v f (omega arith), ← y, ← add_assoc at v 1, ← y)
 
-      pub string-high : h < q → Refused (refusal 9 h (h + 1)) ≡ lexed_at at (string m (drop at text))
+      pub string-high : h < q → Err (refusal 9 h (h + 1)) ≡ lexed_at at (string m (drop at text))
       unfolding string
       string-high l = high-by (2 + run_len is_ascii (drop 2 (drop at text))) (quote_from false 2 (drop 2 (drop at text))) high-here (sym quote-here ∙ g) l
 
-      closed-by : (v : ℕ) (x : Quote) → h ≡ at + min (q - at) v → raised at x ≡ QuoteFound q → q ≤ h → Found (token 3 at (q + 1)) ≡ lexed_at at (string_by m v x)
+      closed-by : (v : ℕ) (x : Quote) → h ≡ at + min (q - at) v → raised at x ≡ QuoteFound q → q ≤ h → Ok (token 3 at (q + 1)) ≡ lexed_at at (string_by m v x)
       unfolding string_by lexed_at
       closed-by v (Missing f) w p l = let z : ◌≡◌ {A = ℕ} 0 1 = cc in absurd (omega arith)
       closed-by v (QuoteFound f) w p l = let r : at + f ≡ q = cc in rw (le-ltb v f (omega arith), ← r, add_assoc)
 
-      pub string-closed : q ≤ h → Found (token 3 at (q + 1)) ≡ lexed_at at (string m (drop at text))
+      pub string-closed : q ≤ h → Ok (token 3 at (q + 1)) ≡ lexed_at at (string m (drop at text))
       unfolding string
       string-closed l = closed-by (2 + run_len is_ascii (drop 2 (drop at text))) (quote_from false 2 (drop 2 (drop at text))) high-here (sym quote-here ∙ g) l
 
@@ -166,20 +163,20 @@ pub name-run : (text : List ℕ) (at : ℕ) → at < length text → is_letter (
 unfolding in_class is_name
 name-run text at h e = sym (run_in (in_class 0) text at h (rw e))
 
-pub name-at : (text : List ℕ) (at e k : ℕ) → e ≡ run_end (in_class 0) text at → k ≡ kind_of (take (e - at) (drop at text)) → Found (token k at e) ≡ lexed_at at (name (drop at text))
+pub name-at : (text : List ℕ) (at e k : ℕ) → e ≡ run_end (in_class 0) text at → k ≡ kind_of (take (e - at) (drop at text)) → Ok (token k at e) ≡ lexed_at at (name (drop at text))
 unfolding name lexed_at run_end in_class
 name-at text at e k h g =
     let r : e - at ≡ run_len is_name (drop at text) = omega arith in
     rw (g, r, h)
 
 module _ (at : ℕ) (f g : Fit) (e : f ≡ g) where
-  pub no-mark : f.len ≡ 0 → Refused (refusal 5 at at) ≡ lexed_at at (mark g)
+  pub no-mark : f.len ≡ 0 → Err (refusal 5 at at) ≡ lexed_at at (mark g)
   unfolding mark lexed_at
   no-mark h = rw (← e, eq-eqb f.len 0 h, add-zero)
 
-  pub some-mark : (f.len ≡ 0 → ⊥) → Found (token f.kind at (at + f.len)) ≡ lexed_at at (mark g)
+  pub some-mark : 0 < f.len → Ok (token f.kind at (at + f.len)) ≡ lexed_at at (mark g)
   unfolding mark lexed_at
-  some-mark h = rw (← e, ne_eqb f.len 0 h)
+  some-mark h = rw (← e, ne_eqb f.len 0 (λ z. absurd (omega arith)))
 
 pub mark-room : (text : List ℕ) (at : ℕ) (f : Fit) → f ≡ mark_of (drop at text) → at ≤ length text → at + f.len ≤ length text
 mark-room text at f e h = rw e (omega (arith, mark-short (drop at text), length-drop at text))
@@ -207,7 +204,7 @@ no_digit a e = go (is_digit a) refl
 
 -- the token at a place, by its first byte
 module _ (ed : ℕ) (text : List ℕ) (at : ℕ) where
-  pub find-over : length text ≤ at → Found (token 0 at at) ≡ lexed_at at (find_token ed (drop at text))
+  pub find-over : length text ≤ at → Ok (token 0 at at) ≡ lexed_at at (find_token ed (drop at text))
   unfolding find_token lexed_at
   find-over h = rw (drop_of_length-le text h, add-zero)
 
@@ -241,30 +238,34 @@ module _ (text : List ℕ) (at i : ℕ) (q : i ≡ run_end is_space text at) whe
   same_end = rw q (ap (λ (g : Gap). gap_end_of g.last) (gap-blanks text at))
 
 module _ (ed : ℕ) (text : List ℕ) (at : ℕ) where
-  clear-by : (i : ℕ) (e : End) → Ended text at e → gap_end_of e ≡ Clear i → lexed_at i (find_token ed (drop i text)) ≡ lexed (behind_gap ed e)
+  clear-by : (i : ℕ) (e : End) → Ended text at e → gap_end_of e ≡ Ok i → lexed_at i (find_token ed (drop i text)) ≡ lexed (behind_gap ed e)
   unfolding behind_gap gap_end_of
   clear-by i (clear q u) h g = let r : q ≡ i = cc in rw (h.2, r) (sym (lexed-placed i (drop i text) (find_token ed (drop i text))))
   clear-by i (broken o q) h g = let z : ◌≡◌ {A = ℕ} 0 1 = cc in absurd (omega arith)
 
-  broken-by : (o q : ℕ) (e : End) → gap_end_of e ≡ Broken o q → Refused (refusal 6 o q) ≡ lexed (behind_gap ed e)
+  broken-by : (o q : ℕ) (e : End) → gap_end_of e ≡ Err (unclosed o q) → Err (refusal 6 o q) ≡ lexed (behind_gap ed e)
   unfolding behind_gap gap_end_of lexed
   broken-by o q (clear p u) g = let z : ◌≡◌ {A = ℕ} 0 1 = cc in absurd (omega arith)
-  broken-by o q (broken p r) g = let u : p ≡ o = cc in let v : r ≡ q = cc in rw (u, v)
+  broken-by o q (broken p r) g =
+      let w : unclosed p r ≡ unclosed o q = cc in
+      let u : p ≡ o = ap (λ (x : Unclosed). x.start) w in
+      let v : r ≡ q = ap (λ (x : Unclosed). x.end) w in
+      rw (u, v)
 
-  module _ (i : ℕ) (q : i ≡ run_end is_space text at) (h : place_fault text at ≡ Faultless) where
-    pub next-clear : (k : ℕ) → gap_end_of (gap 0 i (drop i text)).last ≡ Clear k → lexed_at k (find_token ed (drop k text)) ≡ next_token ed text at
+  module _ (i : ℕ) (q : i ≡ run_end is_space text at) (h : place_fault text at ≡ (Ok tt)) where
+    pub next-clear : (k : ℕ) → gap_end_of (gap 0 i (drop i text)).last ≡ Ok k → lexed_at k (find_token ed (drop k text)) ≡ next_token ed text at
     unfolding next_token scan
-    next-clear k e = clear-by k (gap 0 at (drop at text)).last (gap-ended text (drop at text) 0 at refl) (same_end text at i q ∙ e) ∙ sym (unless_not Refused (place_fault text at) _ h)
+    next-clear k e = clear-by k (gap 0 at (drop at text)).last (gap-ended text (drop at text) 0 at refl) (same_end text at i q ∙ e) ∙ sym (unless_not Err (place_fault text at) _ h)
 
-    pub next-broken : (o p : ℕ) → gap_end_of (gap 0 i (drop i text)).last ≡ Broken o p → Refused (refusal 6 o p) ≡ next_token ed text at
+    pub next-broken : (o p : ℕ) → gap_end_of (gap 0 i (drop i text)).last ≡ Err (unclosed o p) → Err (refusal 6 o p) ≡ next_token ed text at
     unfolding next_token scan
-    next-broken o p e = broken-by o p (gap 0 at (drop at text)).last (same_end text at i q ∙ e) ∙ sym (unless_not Refused (place_fault text at) _ h)
+    next-broken o p e = broken-by o p (gap 0 at (drop at text)).last (same_end text at i q ∙ e) ∙ sym (unless_not Err (place_fault text at) _ h)
 
 -- the calls, by their faults
 module _ (ed : ℕ) (text : List ℕ) (at : ℕ) where
-  pub next-faulty : (r : Refusal) → place_fault text at ≡ Faulty r → Refused r ≡ next_token ed text at
+  pub next-faulty : (r : Refusal) → place_fault text at ≡ Err r → Err r ≡ next_token ed text at
   unfolding next_token
-  next-faulty r e = sym (unless-faulty Refused (place_fault text at) _ r e)
+  next-faulty r e = sym (unless-faulty Err (place_fault text at) _ r e)
 
   -- a call whose edition is none, by the number of its refusal
   pub call-refused : no_edition ed ≡ true → (m : ℕ) → m ≡ edition_refusal text at → refused_call (refusal m 0 0) ≡ token_call ed text at
@@ -281,17 +282,17 @@ module _ (ed : ℕ) (text : List ℕ) (at : ℕ) where
   unfolding token_call call_fault ◌or_else◌ advanced next_token line_feed_before unless
   call_known e = rw e (go (place_fault text at))
     where
-      token : Fault → Lexed
-      token f = unless Refused f (lexed (scan ed at (drop at text)))
+      token : Result ⊤ Refusal → Result Token Refusal
+      token f = unless Err f (lexed (scan ed at (drop at text)))
 
-      go : (f : Fault) → record { lexed = token f; feed = line_feed_before text at (token f) } ≡ unless refused_call (f or_else fault_if false 19) (record { lexed = token f; feed = line_feed_before text at (token f) })
-      go Faultless = refl
-      go (Faulty r) = refl
+      go : (f : Result ⊤ Refusal) → record { lexed = token f; feed = line_feed_before text at (token f) } ≡ unless refused_call (f or_else fault_if false 19) (record { lexed = token f; feed = line_feed_before text at (token f) })
+      go (Ok tt) = refl
+      go (Err r) = refl
 
-  pub comment-faulty : (r : Refusal) → call_fault ed text at ≡ Faulty r → CommentBroken r ≡ next_comment ed text at
+  pub comment-faulty : (r : Refusal) → call_fault ed text at ≡ Err r → Err r ≡ next_comment ed text at
   unfolding next_comment
-  comment-faulty r e = sym (unless-faulty CommentBroken (call_fault ed text at) _ r e)
+  comment-faulty r e = sym (unless-faulty Err (call_fault ed text at) _ r e)
 
-  pub comment-faultless : call_fault ed text at ≡ Faultless → comment_of (doc_of (gap 0 at (drop at text))) ≡ next_comment ed text at
+  pub comment-faultless : call_fault ed text at ≡ Ok tt → comment_of (doc_of (gap 0 at (drop at text))) ≡ next_comment ed text at
   unfolding next_comment
-  comment-faultless e = sym (unless_not CommentBroken (call_fault ed text at) _ e)
+  comment-faultless e = sym (unless_not Err (call_fault ed text at) _ e)

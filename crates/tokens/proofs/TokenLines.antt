@@ -16,9 +16,8 @@ use Rattle.gap.specs.LineFeed.{holds_line_feed, line_feed}
 use Rattle.gap.proofs.LineFeeds.{line-feed-join, line-feed-from}
 use Rattle.words.specs.Search.{mark_of, first_fit, front_len, is_edition2, suffixes1, suffixes2, suffixes_of, suffix_len}
 use Rattle.words.specs.Tables.{Entry, long_marks, double_marks, single_marks, marks}
-use Rattle.words.specs.Quote.{ends_line, turn, quote_from}
-use Rattle.words.specs.declared.Quote.{Quote}
-use Rattle.words.specs.declared.Quote.TheVariants.{Found as QuoteFound, Missing}
+use Rattle.words.specs.Quote.{Quote, ends_line, turn, quote_from}
+use Rattle.std.proofs.Common.{Ok as QuoteFound, Err as Missing}
 use Rattle.words.proofs.Marks.{mark-first}
 use Rattle.words.proofs.Suffix.{both-lists}
 use Rattle.words.proofs.Quotes.{Within, within}
@@ -26,12 +25,12 @@ use Rattle.tokens.specs.Token.{Front, sized, fault, typed, digits_len, more_digi
 use Rattle.tokens.specs.Calls.{text_limit, lexed, next_token, line_feed_before, advanced}
 use Rattle.tokens.specs.Raise.{raise_lexed}
 use Rattle.tokens.specs.declared.Token.{Token}
-use Rattle.tokens.specs.declared.Lexed.{Lexed}
-use Rattle.tokens.specs.declared.Lexed.TheVariants.{Found, Refused}
 use Rattle.tokens.proofs.Faults.{admits}
 use Rattle.tokens.proofs.Again.{found-fits}
 use Rattle.tokens.proofs.Lexing.{Sound, lex-sound}
 use Rattle.tokens.proofs.Shift.{token-from}
+use Rattle.tokens.specs.declared.Refusal.{Refusal}
+use Rattle.std.specs.Prelude.{Result, Ok, Err}
 
 -- two parts of some bytes
 joined-holds : (n m : ℕ) (s : List ℕ) → holds_line_feed (take n s) ≡ false → holds_line_feed (take m (drop n s)) ≡ false → holds_line_feed (take (n + m) s) ≡ false
@@ -252,7 +251,7 @@ behind-whole ed (clear p s) = placed-whole p s (find_token ed s) (find-in-line e
 behind-whole ed (broken o q) = tt
 
 -- no token holds a line feed
-whole_by : (text : List ℕ) (at : ℕ) (t : Token) (l : Scanned) → Sound text at l → Whole l → lexed l ≡ Found t → (at ≤ t.start) × (t.start ≤ t.end) × (line_feed text t.start t.end ≡ false)
+whole_by : (text : List ℕ) (at : ℕ) (t : Token) (l : Scanned) → Sound text at l → Whole l → lexed l ≡ Ok t → (at ≤ t.start) × (t.start ≤ t.end) × (line_feed text t.start t.end ≡ false)
 unfolding lexed line_feed
 whole_by text at t (tok k s e w r) h g q =
     let v : record { kind = k; start = s; end = e } ≡ t = cc in
@@ -261,18 +260,18 @@ whole_by text at t (tok k s e w r) h g q =
     (omega (arith, h.from), omega (arith, h.ordered), rw (← a, ← b, ← h.spelled) g)
 whole_by text at t (bad r) h g q = let z : ◌≡◌ {A = ℕ} 0 1 = cc in absurd (omega arith)
 
-pub tokens-hold-no-line-feed : (ed : ℕ) (text : List ℕ) (at : ℕ) (t : Token) → next_token ed text at ≡ Found t → (at ≤ t.start) × (t.start ≤ t.end) × (line_feed text t.start t.end ≡ false)
+pub tokens-hold-no-line-feed : (ed : ℕ) (text : List ℕ) (at : ℕ) (t : Token) → next_token ed text at ≡ Ok t → (at ≤ t.start) × (t.start ≤ t.end) × (line_feed text t.start t.end ≡ false)
 unfolding next_token scan
 tokens-hold-no-line-feed ed text at t h =
     let f = found-fits ed text at t h in
     whole_by text at t (scan ed at (drop at text)) (lex-sound ed text at f.1) (behind-whole ed (gap 0 at (drop at text)).last)
-    (sym (admits text at Refused (lexed (scan ed at (drop at text))) f.0 f.1) ∙ h)
+    (sym (admits text at Err (lexed (scan ed at (drop at text))) f.0 f.1) ∙ h)
 
 -- reading from an offset is reading the text from there on: the flag too
-flag_up : (text : List ℕ) (at : ℕ) (l : Lexed) → line_feed_before text at (raise_lexed at l) ≡ line_feed_before (drop at text) 0 l
+flag_up : (text : List ℕ) (at : ℕ) (l : Result Token Refusal) → line_feed_before text at (raise_lexed at l) ≡ line_feed_before (drop at text) 0 l
 unfolding line_feed_before
-flag_up text at (Found t) = line-feed-from text at t.start
-flag_up text at (Refused r) = refl
+flag_up text at (Ok t) = line-feed-from text at t.start
+flag_up text at (Err r) = refl
 
 -- where the last of some tokens starts
 abbrev pub last_start : Token → List Token → ℕ
@@ -286,8 +285,8 @@ module _ (ed : ℕ) where
 
   -- a walk: tokens of which each is asked for from the end of the one before, the first of them from `at`
   abbrev pub Walk : List ℕ → ℕ → Token → List Token → Type 0
-  Walk text at t [] = next_token ed text at ≡ Found t
-  Walk text at t (u ∷ us) = (next_token ed text at ≡ Found t) × Walk text t.end u us
+  Walk text at t [] = next_token ed text at ≡ Ok t
+  Walk text at t (u ∷ us) = (next_token ed text at ≡ Ok t) × Walk text t.end u us
 
   -- whether one of their flags is set
   abbrev pub flags : List ℕ → ℕ → Token → List Token → Bool
@@ -295,7 +294,7 @@ module _ (ed : ℕ) where
   flags text at t (u ∷ us) = (advanced ed text at).feed || flags text t.end u us
 
   -- a found token's flag: a line feed stands between the place it is asked for from, the end of the token before, and its start
-  pub flag_is : (text : List ℕ) (at : ℕ) (t : Token) → next_token ed text at ≡ Found t → (advanced ed text at).feed ≡ line_feed text at t.start
+  pub flag_is : (text : List ℕ) (at : ℕ) (t : Token) → next_token ed text at ≡ Ok t → (advanced ed text at).feed ≡ line_feed text at t.start
   unfolding advanced line_feed_before
   flag_is text at t h = rw h
 

@@ -16,14 +16,12 @@ use Rattle.tokens.specs.Calls.{text_limit, place_fault, unless, lexed, next_toke
 use Rattle.tokens.specs.Walk.{Listed, eof, refused, next, listed, walk, tokens_from, tokens_at, tokens_of, entries, Ends}
 use Rattle.tokens.specs.declared.Refusal.{Refusal}
 use Rattle.tokens.specs.declared.Token.{Token}
-use Rattle.tokens.specs.declared.Fault.{Fault}
-use Rattle.tokens.specs.declared.Fault.TheVariants.{Faultless, Faulty}
-use Rattle.tokens.specs.declared.Lexed.TheVariants.{Found, Refused}
 use Rattle.tokens.proofs.Lexing.{Sound, lex-sound}
 use Rattle.tokens.proofs.Faults.{each-any, unless-sure, in_place_lem, admits}
 use Rattle.tokens.proofs.Again.{found-fits}
+use Rattle.std.specs.Prelude.{Result, Ok, Err, ⊤}
 
-injective : {a b : Refusal} → Refused a ≡ Refused b → a ≡ b
+injective : {a b : Refusal} → ◌≡◌ {A = Result Token Refusal} (Err a) (Err b) → a ≡ b
 injective p = cc
 
 no-rest : (text : List ℕ) (at : ℕ) → length text - at ≤ 0 → drop at text ≡ []
@@ -69,7 +67,7 @@ module _ (ed : ℕ) (text : List ℕ) where
 module _ (ed : ℕ) (text : List ℕ) (at : ℕ) (h : at ≤ length text) where
   scanned : length text ≤ text_limit → next_token ed text at ≡ lexed (scan ed at (drop at text))
   unfolding next_token
-  scanned g = admits text at Refused _ g h
+  scanned g = admits text at Err _ g h
 
   admitted-list : length text ≤ text_limit → tokens_at ed text at ≡ tokens_from ed at (drop at text)
   unfolding tokens_at
@@ -78,25 +76,25 @@ module _ (ed : ℕ) (text : List ℕ) (at : ℕ) (h : at ≤ length text) where
   listing : length text ≤ text_limit → tokens_at ed text at ≡ walk ed (suc (length text)) (scan ed at (drop at text))
   listing g = admitted-list g ∙ sym (walk_ends ed text (suc (length text)) at h (omega arith))
 
-  refused-by : (r : Refusal) (l : Scanned) (n : ℕ) → lexed l ≡ Refused r → walk ed (suc n) l ≡ refused r
+  refused-by : (r : Refusal) (l : Scanned) (n : ℕ) → lexed l ≡ Err r → walk ed (suc n) l ≡ refused r
   unfolding lexed walk
   refused-by r (tok k s e w u) n q = let z : ◌≡◌ {A = ℕ} 0 1 = cc in absurd (omega arith)
   refused-by r (bad u) n q = let v : u ≡ r = cc in ap refused v
 
-  pub at-refused : (r : Refusal) → next_token ed text at ≡ Refused r → tokens_at ed text at ≡ refused r
+  pub at-refused : (r : Refusal) → next_token ed text at ≡ Err r → tokens_at ed text at ≡ refused r
   unfolding tokens_at next_token unless
   at-refused r e = go (place_fault text at) refl e
     where
-      go : (f : Fault) → place_fault text at ≡ f → unless Refused f (lexed (scan ed at (drop at text))) ≡ Refused r → unless refused f (tokens_from ed at (drop at text)) ≡ refused r
-      go (Faulty q) i e = ap refused (injective e)
-      go Faultless i e =
+      go : (f : Result ⊤ Refusal) → place_fault text at ≡ f → unless Err f (lexed (scan ed at (drop at text))) ≡ Err r → unless refused f (tokens_from ed at (drop at text)) ≡ refused r
+      go (Err q) i e = ap refused (injective e)
+      go (Ok tt) i e =
           let g = (in_place_lem text at i).0 in
           sym (admitted-list g) ∙ listing g ∙ refused-by r (scan ed at (drop at text)) (length text) e
 
-  found-short : (t : Token) → next_token ed text at ≡ Found t → length text ≤ text_limit
+  found-short : (t : Token) → next_token ed text at ≡ Ok t → length text ≤ text_limit
   found-short t e = (found-fits ed text at t e).0
 
-  eof-by : (t : Token) (l : Scanned) (n : ℕ) → lexed l ≡ Found t → t.kind ≡ 0 → walk ed (suc n) l ≡ eof t
+  eof-by : (t : Token) (l : Scanned) (n : ℕ) → lexed l ≡ Ok t → t.kind ≡ 0 → walk ed (suc n) l ≡ eof t
   unfolding lexed walk
   eof-by t (tok k s e w u) n q z =
       let v : token k s e ≡ t = cc in
@@ -104,12 +102,12 @@ module _ (ed : ℕ) (text : List ℕ) (at : ℕ) (h : at ≤ length text) where
       rw (eq-eqb k 0 d) (ap eof v)
   eof-by t (bad u) n q z = let y : ◌≡◌ {A = ℕ} 0 1 = cc in absurd (omega arith)
 
-  pub at-eof : (t : Token) → next_token ed text at ≡ Found t → t.kind ≡ 0 → tokens_at ed text at ≡ eof t
+  pub at-eof : (t : Token) → next_token ed text at ≡ Ok t → t.kind ≡ 0 → tokens_at ed text at ≡ eof t
   at-eof t e z =
       let g = found-short t e in
       listing g ∙ eof-by t (scan ed at (drop at text)) (length text) (sym (scanned g) ∙ e) z
 
-  next-by : (t : Token) (l : Scanned) (n : ℕ) → lexed l ≡ Found t → (t.kind ≡ 0 → ⊥) → Sound text at l
+  next-by : (t : Token) (l : Scanned) (n : ℕ) → lexed l ≡ Ok t → (t.kind ≡ 0 → ⊥) → Sound text at l
       → (walk ed (suc n) l ≡ next t (walk ed n (scan ed t.end (drop t.end text)))) × (at < t.end) × (t.end ≤ length text)
   unfolding lexed walk
   next-by t (tok k s e w u) n q z m =
@@ -120,7 +118,7 @@ module _ (ed : ℕ) (text : List ℕ) (at : ℕ) (h : at ≤ length text) where
       (rw (ne_eqb k 0 d, m.behind) (ap (λ (x : Token). next x (walk ed n (scan ed x.end (drop x.end text)))) v), omega (arith, m.from), omega (arith, m.within))
   next-by t (bad u) n q z m = let y : ◌≡◌ {A = ℕ} 0 1 = cc in absurd (omega arith)
 
-pub at_next : (ed : ℕ) (text : List ℕ) (at : ℕ) → at ≤ length text → (t : Token) → next_token ed text at ≡ Found t → (t.kind ≡ 0 → ⊥)
+pub at_next : (ed : ℕ) (text : List ℕ) (at : ℕ) → at ≤ length text → (t : Token) → next_token ed text at ≡ Ok t → (t.kind ≡ 0 → ⊥)
     → (tokens_at ed text at ≡ next t (tokens_at ed text t.end)) × (at < t.end) × (t.end ≤ length text) × (length text ≤ text_limit)
 at_next ed text at h t e z =
     let g = found-short ed text at h t e in

@@ -1,5 +1,5 @@
 -- What the next token is.
-use Rattle.std.specs.Prelude.{ℕ, suc, ◌+◌, Bool, false, cond, ◌&&◌, ◌||◌, List, [], ◌∷◌, eqb, ltb, get_or, take, drop}
+use Rattle.std.specs.Prelude.{ℕ, suc, ◌+◌, Bool, false, cond, ◌&&◌, ◌||◌, List, [], ◌∷◌, eqb, ltb, get_or, take, drop, Ok, Err}
 use Rattle.tokens.specs.Refusals.{NoToken, CommentNotClosed, HexStringNotClosed, ByteStringNotClosed, StringNotAscii}
 use Rattle.classes.specs.Bytes.{bytes, begins}
 use Rattle.classes.specs.Class.{is_digit, is_hex, is_letter, is_name, is_ascii, is_digit_or_underscore, is_hex_or_underscore}
@@ -7,10 +7,8 @@ use Rattle.classes.specs.Run.{run_len}
 use Rattle.gap.specs.Gap.{End, clear, broken, gap}
 use Rattle.words.specs.Kinds.{EOF, NumValue, NumTypedValue, ByteStringValue}
 use Rattle.words.specs.Search.{kind_of, mark_of, is_edition2, suffix_len}
-use Rattle.words.specs.Quote.{quote_from}
+use Rattle.words.specs.Quote.{Quote, quote_from}
 use Rattle.words.specs.declared.Fit.{Fit}
-use Rattle.words.specs.declared.Quote.{Quote}
-use Rattle.words.specs.declared.Quote.TheVariants.{Found, Missing}
 use Rattle.tokens.specs.Answers.{refusal}
 use Rattle.tokens.specs.declared.Refusal.{Refusal}
 
@@ -58,8 +56,8 @@ number_token ed s = cond (begins (bytes "0x") s) (hex_number ed s) (decimal ed s
 -- a string by its closing quote, which is at q, or by the end of its line; m is the refusal where there is none, and h the
 -- first byte of 128 or more behind the opening quote
 unfoldable pub string_by : ℕ → ℕ → Quote → Front
-string_by m h (Missing e) = fault m 0 e
-string_by m h (Found q) = cond (ltb h q) (fault StringNotAscii h (h + 1)) (sized ByteStringValue (q + 1))
+string_by m h (Err e) = fault m 0 e
+string_by m h (Ok q) = cond (ltb h q) (fault StringNotAscii h (h + 1)) (sized ByteStringValue (q + 1))
 
 unfoldable pub string : ℕ → List ℕ → Front
 string m s = string_by m (2 + run_len is_ascii (drop 2 s)) (quote_from false 2 (drop 2 s))

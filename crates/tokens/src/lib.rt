@@ -12,14 +12,17 @@ ghost use Rattle.tokens.specs.Calls.{no_edition, place_fault, edition_fault, cal
 ghost use Rattle.tokens.specs.code.Found.{digits_class, hex_class, begun, digits_end, lexed_at, typed_at, edition_refusal, flagged, with_doc};
 ghost use Rattle.words.specs.Search.{mark_of};
 
-use classes::{ASCII, DIGIT, DIGIT_OR_UNDERSCORE, HEX, HEX_OR_UNDERSCORE, NAME};
-use gap::{Comment, FirstDoc, GapEnd, GapScan};
+use classes::{
+    ASCII, DIGIT, DIGIT_OR_UNDERSCORE, HEX, HEX_OR_UNDERSCORE, LETTER, NAME, PART_START,
+    SPACE_OR_TAB,
+};
+use gap::{Comment, GapScan, Unclosed};
 use refusals::{
     BYTE_STRING_NOT_CLOSED, COMMENT_NOT_CLOSED, HEX_STRING_NOT_CLOSED, NO_SUCH_EDITION, NO_TOKEN,
     START_PAST_END, STRING_NOT_ASCII, TEXT_TOO_LONG,
 };
+use words::EDITION_2;
 use words::kinds::{BYTE_STRING_VALUE, EOF, NUM_TYPED_VALUE, NUM_VALUE};
-use words::{EDITION_2, Quote};
 
 pub mod refusals;
 
@@ -48,25 +51,20 @@ pub struct Token {
     pub start: usize,
 }
 
-#[derive(Clone, Copy)]
-pub enum Lexed {
-    Found(Token),
-    Refused(Refusal),
-}
-
 // The token call's answer: the next token, and whether LF stands between the start offset and it.
 // The flag stands beside the token: read again from its own first byte a token is the same, and no
 // LF stands before it there.
 #[derive(Drop)]
 pub struct Advanced {
-    pub lexed: Lexed,
+    pub lexed: Result<Token, Refusal>,
     pub feed: bool,
 }
 
-// The next token, and the span of the last doc comment between the start offset and it, (0,0) where there is none.
+// The next token, and the span of the last doc comment between the start offset and it, (0,0) where there is none: no
+// Option, since `documented` says so and outline goes by it.
 #[derive(Drop)]
 pub struct Documented {
-    pub lexed: Lexed,
+    pub lexed: Result<Token, Refusal>,
     pub doc: Place,
 }
 
@@ -77,21 +75,6 @@ struct Blanks {
     pub feed: bool,
 }
 
-// What is wrong with a call, looked for before the text is: nothing, or what it is refused with.
-#[derive(Clone, Copy)]
-pub enum Fault {
-    Faultless,
-    Faulty(Refusal),
-}
-
-// The first doc comment of a gap; none; or the refusal that comes before any.
-#[derive(Drop)]
-pub enum DocComment {
-    Doc(Comment),
-    Nothing,
-    Broken(Refusal),
-}
-
 // The longest text.
 pub const TEXT_LIMIT: usize = 1048575;
 
@@ -99,39 +82,44 @@ pub const TEXT_LIMIT: usize = 1048575;
 pub fn refuse(number: u32, start: usize, end: usize) -> Refusal
     ensures { result ≡ refusal number start end }
 {
+    let place = Place { start, end };
     Refusal {
-        number: number,
-        place: Place {
-            start: start,
-            end: end,
-        },
-        second: Place {
-            start: start,
-            end: end,
-        },
+        number,
+        place,
+        second: place,
+    }
+}
+
+// Refusal 6.
+impl From<Unclosed> for Refusal {
+    ghost from_gives = { λ w r. r ≡ refusal 6 w.start w.end };
+
+    fn from(w: Unclosed) -> Refusal {
+        refuse(COMMENT_NOT_CLOSED, w.start, w.end)
     }
 }
 
 // The number at `at` whose digits end at e, with a type of n bytes.
-fn typed_at(at: usize, e: usize, n: usize) -> Lexed
+fn typed_at(at: usize, e: usize, n: usize) -> Result<Token, Refusal>
     requires { e + n < 2 ^ 63 }
     ensures { result ≡ typed_at at e n }
 {
     if n == 0 {
-        return Lexed::Found(Token {
+        return Ok(Token {
             kind: NUM_VALUE,
             start: at,
             end: e,
         });
     }
-    Lexed::Found(Token {
+    Ok(Token {
         kind: NUM_TYPED_VALUE,
         start: at,
         end: e + n,
     })
 }
 
-// What decimal digits go on with: in edition 2 with `_` too.
+// What decimal digits go on with: in edition 2 with `_` too. This and `more_hex` are one choice each: one function for
+// both would be told both choices.
 fn more_digits(edition: u64) -> u8
     ensures { result ≡ digits_class edition }
 {
@@ -163,14 +151,14 @@ fn digits_end(more: u8, text: &[u8], at: usize) -> usize
 }
 
 // The number `0x` at `at`, with its hex digits and its type (get_hex_number of the Rust).
-fn hex_number_at(edition: u64, text: &[u8], at: usize) -> Lexed
+fn hex_number_at(edition: u64, text: &[u8], at: usize) -> Result<Token, Refusal>
     requires { at + 2 ≤ length text.now }
     ensures { result ≡ lexed_at at (hex_number edition (drop at text.now)) }
 {
     let e = digits_end(more_hex(edition), text, at + 2);
     let n = words::suffix_len(edition, text, e);
     if e + n == at + 2 {
-        return Lexed::Found(Token {
+        return Ok(Token {
             kind: NUM_VALUE,
             start: at,
             end: at + 1,
@@ -180,7 +168,7 @@ fn hex_number_at(edition: u64, text: &[u8], at: usize) -> Lexed
 }
 
 // The decimal number at `at` (get_decimal_number of the Rust).
-fn decimal_number_at(edition: u64, text: &[u8], at: usize) -> Lexed
+fn decimal_number_at(edition: u64, text: &[u8], at: usize) -> Result<Token, Refusal>
     requires { at ≤ length text.now }
     ensures { result ≡ lexed_at at (decimal edition (drop at text.now)) }
 {
@@ -193,14 +181,11 @@ fn decimal_number_at(edition: u64, text: &[u8], at: usize) -> Lexed
 fn opens_hex(a: u8, b: u8) -> bool
     ensures { result ≡ (eqb a 48 && eqb b 120) }
 {
-    if a == b'0' {
-        return b == b'x';
-    }
-    false
+    a == b'0' && b == b'x'
 }
 
 // The number at `at`, which a digit begins.
-fn number_at(edition: u64, text: &[u8], at: usize) -> Lexed
+fn number_at(edition: u64, text: &[u8], at: usize) -> Result<Token, Refusal>
     requires { at < length text.now }
     ensures { result ≡ lexed_at at (number_token edition (drop at text.now)) }
 {
@@ -213,19 +198,19 @@ fn number_at(edition: u64, text: &[u8], at: usize) -> Lexed
 }
 
 // The string at `at`, whose opening quote is its second byte; m is the refusal without a closing one.
-fn string_at(text: &[u8], at: usize, m: u32) -> Lexed
+fn string_at(text: &[u8], at: usize, m: u32) -> Result<Token, Refusal>
     requires { at < length text.now }
     ensures { result ≡ lexed_at at (string m (drop at text.now)) }
 {
     let k = words::closing_quote(text, at + 2);
     match k {
-        Quote::Missing(e) => Lexed::Refused(refuse(m, at, e)),
-        Quote::Found(q) => {
+        Err(e) => Err(refuse(m, at, e)),
+        Ok(q) => {
             let h = classes::run_end(ASCII, &text[..q], at + 2);
             if h < q {
-                return Lexed::Refused(refuse(STRING_NOT_ASCII, h, h + 1));
+                return Err(refuse(STRING_NOT_ASCII, h, h + 1));
             }
-            Lexed::Found(Token {
+            Ok(Token {
                 kind: BYTE_STRING_VALUE,
                 start: at,
                 end: q + 1,
@@ -238,13 +223,7 @@ fn string_at(text: &[u8], at: usize, m: u32) -> Lexed
 fn opens_string(a: u8, b: u8) -> bool
     ensures { result ≡ opens_string a b }
 {
-    if b == b'"' {
-        if a == b'x' {
-            return true;
-        }
-        return a == b'b';
-    }
-    false
+    b == b'"' && (a == b'x' || a == b'b')
 }
 
 // The refusal of a string that a opens.
@@ -258,13 +237,13 @@ fn string_refusal(a: u8) -> u32
 }
 
 // The name or keyword at `at`, where a letter stands: its run goes on behind it.
-fn name_at(text: &[u8], at: usize) -> Lexed
+fn name_at(text: &[u8], at: usize) -> Result<Token, Refusal>
     requires { (at < length text.now) × (is_letter (get_or text.now at 0) ≡ true) }
     ensures { result ≡ lexed_at at (name (drop at text.now)) }
 {
     let e = classes::run_end(NAME, text, at + 1);
     let k = words::name_kind(text, at, e - at);
-    Lexed::Found(Token {
+    Ok(Token {
         kind: k,
         start: at,
         end: e,
@@ -272,24 +251,22 @@ fn name_at(text: &[u8], at: usize) -> Lexed
 }
 
 // The mark at `at`.
-fn mark_at(text: &[u8], at: usize) -> Lexed
+fn mark_at(text: &[u8], at: usize) -> Result<Token, Refusal>
     requires { at ≤ length text.now }
     ensures { result ≡ lexed_at at (mark (mark_of (drop at text.now))) }
 {
-    let f = words::mark_at(text, at);
-    let n = f.len;
-    if n == 0 {
-        return Lexed::Refused(refuse(NO_TOKEN, at, at));
-    }
-    Lexed::Found(Token {
+    let Some(f) = words::mark_at(text, at) else {
+        return Err(refuse(NO_TOKEN, at, at));
+    };
+    Ok(Token {
         kind: f.kind,
         start: at,
-        end: at + n,
+        end: at + f.len,
     })
 }
 
 // The name, keyword or string at `at`, which a letter begins.
-fn word_at(text: &[u8], at: usize) -> Lexed
+fn word_at(text: &[u8], at: usize) -> Result<Token, Refusal>
     requires { (at < length text.now) × (is_letter (get_or text.now at 0) ≡ true) }
     ensures { result ≡ lexed_at at (word_token (drop at text.now)) }
 {
@@ -303,21 +280,21 @@ fn word_at(text: &[u8], at: usize) -> Lexed
 }
 
 // The token that starts at `at`.
-fn find_token(edition: u64, text: &[u8], at: usize) -> Lexed
+fn find_token(edition: u64, text: &[u8], at: usize) -> Result<Token, Refusal>
     ensures { result ≡ lexed_at at (find_token edition (drop at text.now)) }
 {
     if text.len() <= at {
-        return Lexed::Found(Token {
+        return Ok(Token {
             kind: EOF,
             start: at,
             end: at,
         });
     }
     let a = text[at];
-    if classes::is_letter(a) {
+    if classes::is::<LETTER>(a) {
         return word_at(text, at);
     }
-    if classes::is_digit(a) {
+    if classes::is::<DIGIT>(a) {
         return number_at(edition, text, at);
     }
     mark_at(text, at)
@@ -328,20 +305,21 @@ fn blanks_from(text: &[u8], at: usize) -> Blanks
     ensures end { result.end ≡ run_end is_space text.now at }
     ensures feed { result.feed ≡ line_feed text.now at result.end }
 {
+    // No `for`: the walk ends at two places, with a place and a flag.
     let mut i = at;
     let mut feed = false;
     while i < text.len() {
         let a = text[i];
-        if classes::space_or_tab(a) {
+        if classes::is::<SPACE_OR_TAB>(a) {
             i += 1;
         } else if a == b'\n' {
             feed = true;
             i += 1;
         } else {
-            return Blanks { end: i, feed: feed };
+            return Blanks { end: i, feed };
         }
     }
-    Blanks { end: i, feed: feed }
+    Blanks { end: i, feed }
 }
 
 // The gap from i on, where no blank stands: most often it ends there.
@@ -352,30 +330,27 @@ fn gap_behind(text: &[u8], i: usize) -> GapScan
 {
     if text.len() <= i {
         return GapScan {
-            end: GapEnd::Clear(i),
+            end: Ok(i),
             feed: false,
         };
     }
-    if classes::begins_part(text[i]) {
+    if classes::is::<PART_START>(text[i]) {
         return gap::gap_scan(text, i);
     }
     GapScan {
-        end: GapEnd::Clear(i),
+        end: Ok(i),
         feed: false,
     }
 }
 
 // What is found, with its flag; a refusal has none.
-fn with_flag(l: Lexed, feed: bool) -> Advanced
+fn with_flag(l: Result<Token, Refusal>, feed: bool) -> Advanced
     ensures { result ≡ flagged l feed }
 {
     match l {
-        Lexed::Found(t) => Advanced {
-            lexed: Lexed::Found(t),
-            feed: feed,
-        },
-        Lexed::Refused(r) => Advanced {
-            lexed: Lexed::Refused(r),
+        Ok(_) => Advanced { lexed: l, feed },
+        Err(_) => Advanced {
+            lexed: l,
             feed: false,
         },
     }
@@ -386,53 +361,47 @@ fn refused_answer(number: u32, start: usize, end: usize) -> Advanced
     ensures { result ≡ refused_call (refusal number start end) }
 {
     Advanced {
-        lexed: Lexed::Refused(refuse(number, start, end)),
+        lexed: Err(refuse(number, start, end)),
         feed: false,
     }
 }
 
 // Refusals 1 and 2, in this order.
-pub fn place_fault(text: &[u8], at: usize) -> Fault
+pub fn place_fault(text: &[u8], at: usize) -> Result<(), Refusal>
     ensures { result ≡ place_fault text.now at }
 {
     if TEXT_LIMIT < text.len() {
-        return Fault::Faulty(refuse(TEXT_TOO_LONG, 0, 0));
+        return Err(refuse(TEXT_TOO_LONG, 0, 0));
     }
     if text.len() < at {
-        return Fault::Faulty(refuse(START_PAST_END, 0, 0));
+        return Err(refuse(START_PAST_END, 0, 0));
     }
-    Fault::Faultless
+    Ok(())
 }
 
 // Whether the number is no edition.
 fn no_edition(edition: u64) -> bool
     ensures { result ≡ no_edition edition }
 {
-    if edition == 0 {
-        return true;
-    }
-    EDITION_2 < edition
+    edition == 0 || EDITION_2 < edition
 }
 
 // Refusal 19.
-pub fn edition_fault(edition: u64) -> Fault
+pub fn edition_fault(edition: u64) -> Result<(), Refusal>
     ensures { result ≡ edition_fault edition }
 {
     if no_edition(edition) {
-        return Fault::Faulty(refuse(NO_SUCH_EDITION, 0, 0));
+        return Err(refuse(NO_SUCH_EDITION, 0, 0));
     }
-    Fault::Faultless
+    Ok(())
 }
 
 // The faults of a call: refusals 1, 2 and 19, in this order.
-pub fn call_fault(edition: u64, text: &[u8], at: usize) -> Fault
+pub fn call_fault(edition: u64, text: &[u8], at: usize) -> Result<(), Refusal>
     ensures { result ≡ call_fault edition text.now at }
 {
-    let f = place_fault(text, at);
-    match f {
-        Fault::Faulty(r) => Fault::Faulty(r),
-        Fault::Faultless => edition_fault(edition),
-    }
+    place_fault(text, at)?;
+    edition_fault(edition)
 }
 
 // The next token from `at` on, and whether LF stands before it (advance of the Rust).
@@ -447,39 +416,34 @@ pub fn advance(edition: u64, text: &[u8], at: usize) -> Advanced
     }
     let b = blanks_from(text, at);
     let g = gap_behind(text, b.end);
-    let e = g.end;
-    match e {
-        GapEnd::Clear(k) => {
-            let feed = gap::either(b.feed, g.feed);
-            let l = find_token(edition, text, k);
-            with_flag(l, feed)
+    match g.end {
+        Ok(k) => {
+            let feed = b.feed | g.feed;
+            with_flag(find_token(edition, text, k), feed)
         }
-        GapEnd::Broken(o, q) => refused_answer(COMMENT_NOT_CLOSED, o, q),
+        Err(w) => Advanced {
+            lexed: Err(w.into()),
+            feed: false,
+        },
     }
 }
 
 // The next token from `at` on.
-pub fn next_token(edition: u64, text: &[u8], at: usize) -> Lexed
+pub fn next_token(edition: u64, text: &[u8], at: usize) -> Result<Token, Refusal>
     ensures { result ≡ next_token edition text.now at }
 {
-    let a = advance(edition, text, at);
-    a.lexed
+    advance(edition, text, at).lexed
 }
 
-// What is found, with the comment before it; a refusal has none.
-fn with_doc(l: Lexed, from: usize, to: usize) -> Documented
-    ensures { result ≡ with_doc l from to }
+// What is found, with the comment before it; a refusal has none. The token is taken out and put in again: where the
+// answer is moved as it is, a portion of an outline takes thirteen instructions more a token.
+fn with_doc(l: Result<Token, Refusal>, doc: Place) -> Documented
+    ensures { result ≡ with_doc l doc }
 {
     match l {
-        Lexed::Found(t) => Documented {
-            lexed: Lexed::Found(t),
-            doc: Place {
-                start: from,
-                end: to,
-            },
-        },
-        Lexed::Refused(r) => Documented {
-            lexed: Lexed::Refused(r),
+        Ok(t) => Documented { lexed: Ok(t), doc },
+        Err(r) => Documented {
+            lexed: Err(r),
             doc: Place { start: 0, end: 0 },
         },
     }
@@ -491,15 +455,17 @@ pub fn next_documented(edition: u64, text: &[u8], at: usize) -> Documented
     ensures { result ≡ documented edition text.now at }
 {
     let g = gap::doc_scan(text, at);
-    let e = g.end;
-    match e {
-        GapEnd::Clear(k) => {
-            let l = next_token(edition, text, k);
-            with_doc(l, g.from, g.to)
+    match g.end {
+        Ok(k) => {
+            let doc = Place {
+                start: g.from,
+                end: g.to,
+            };
+            with_doc(next_token(edition, text, k), doc)
         }
-        GapEnd::Broken(_, _) => {
-            let l = next_token(edition, text, at);
-            with_doc(l, 0, 0)
+        Err(_) => {
+            let none = Place { start: 0, end: 0 };
+            with_doc(next_token(edition, text, at), none)
         }
     }
 }
@@ -527,27 +493,10 @@ pub fn token_call(edition: u64, text: &[u8], at: usize) -> Advanced
     advance(edition, text, at)
 }
 
-// The first doc comment that a gap has, as the comment call answers it.
-fn comment_of(d: FirstDoc) -> DocComment
-    ensures { result ≡ comment_of d }
-{
-    match d {
-        FirstDoc::Found(c) => DocComment::Doc(c),
-        FirstDoc::Nothing => DocComment::Nothing,
-        FirstDoc::BrokenFirst(o, q) => DocComment::Broken(refuse(COMMENT_NOT_CLOSED, o, q)),
-    }
-}
-
 // The comment call: the first doc comment in the gap from `at` on.
-pub fn next_comment(edition: u64, text: &[u8], at: usize) -> DocComment
+pub fn next_comment(edition: u64, text: &[u8], at: usize) -> Result<Option<Comment>, Refusal>
     ensures { result ≡ next_comment edition text.now at }
 {
-    let f = call_fault(edition, text, at);
-    match f {
-        Fault::Faulty(r) => DocComment::Broken(r),
-        Fault::Faultless => {
-            let d = gap::first_doc(text, at);
-            comment_of(d)
-        }
-    }
+    call_fault(edition, text, at)?;
+    Ok(gap::first_doc(text, at)?)
 }

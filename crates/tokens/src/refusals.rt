@@ -1,4 +1,5 @@
-// The numbers of the refusals, by the specification.
+// The numbers of the refusals, by the specification. They are no enum: tried, a token call took 7 % more instructions
+// (docs/DESIGN-PASS.md).
 
 pub const TEXT_TOO_LONG: u32 = 1;
 

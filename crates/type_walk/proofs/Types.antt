@@ -15,7 +15,6 @@ use Rattle.tokens.specs.Refusals.{UnexpectedToken, TooDeep}
 use Rattle.tokens.specs.Calls.{next_token}
 use Rattle.tokens.specs.declared.Refusal.{Refusal}
 use Rattle.tokens.specs.declared.Token.{Token as Answer}
-use Rattle.tokens.specs.declared.Lexed.TheVariants.{Found, Refused as Bad}
 use Rattle.records.specs.Kinds.{RecType, RecRef, RecRefMut, RecFunction}
 use Rattle.records.specs.Tree.{Tree, node, Trees, none, more, behind}
 use Rattle.sources.specs.Source.{Source, opened, Lexeme, start, tok, lex}
@@ -29,20 +28,17 @@ use Rattle.forms.specs.declared.Spot.{Spot}
 use Rattle.forms.proofs.Placing.{placed-long, placed-as, placed-both, placed-front, placed-headed}
 use Rattle.forms.proofs.Constructs.{laid-ref, laid-ref-mut, laid-unit, laid-brackets, laid-tuple, laid-function, laid-type}
 use Rattle.parts.specs.declared.Part.{Part}
-use Rattle.parts.specs.declared.Parsed.{Parsed}
-use Rattle.parts.specs.declared.Parsed.TheVariants.{Read, Refused}
 use Rattle.parts.specs.code.Meets.{Fits, held, refused_token, Refuses, Had, Contract, ReadsBy}
 use Rattle.parts.proofs.Held.{Next, next-found, look-found, look-refused}
 use Rattle.parts.proofs.Contracts.{reads-no, reads-token, reads-refused, reads-built, reads_as, reads-had, reads-goes, reads-not, refuses-ok, refuses-look}
 use Rattle.lists.specs.declared.Items.{Items}
-use Rattle.lists.specs.declared.Listed.{Listed}
-use Rattle.lists.specs.declared.Listed.TheVariants.{All, Refused as Broken}
-use Rattle.lists.specs.code.Lists.{count_of, as_part, ListContract}
+use Rattle.lists.specs.code.Lists.{count_of, ListContract}
 use Rattle.lists.proofs.Laying.{bars-laid}
 use Rattle.lists.proofs.Contracts.{all-had, all-goes, all-not, all-counts}
 use Rattle.chains.specs.code.Parts.{begins}
 use Rattle.chains.proofs.Names.{placed-parted, when_true, when_false, chain-other, chain-bad}
 use Rattle.type_walk.specs.code.Types.{brackets_kind, Angled}
+use Rattle.std.specs.Prelude.{Result, Ok, Err}
 
 -- what is read, by what its parts are
 module _ (item : Reader) (a : Lexeme) where
@@ -85,47 +81,39 @@ module _ (f : ℕ) where
     angled-placed (more x none) y d = angled-some (laid_items f (more x none)) y d
     angled-placed (more x (more z ts)) y d = angled-some (laid_items f (more x (more z ts))) y d
 
--- the marks, as the code writes them
-module _ (f : ℕ) (empty : Bool) (l : List ℕ) (s b r : Spot) where
-  pub angled-not : empty ≡ true → r ≡ moved_by s 0 → Angled f empty l s b r l
-  angled-not h e = rw h (record { ends = e; holds = refl })
-
-  pub angled-both : (k m : List ℕ) → empty ≡ false → Placed l b (mark_in f (bytes ">")) r k → m ≡ sets k s.pos (mark_in f (bytes "<")) → Angled f empty l s b r m
-  angled-both k m h y e = rw h (record { ends = y.ends; holds = e ∙ ap (λ (x : List ℕ). sets x s.pos (mark_in f (bytes "<"))) y.holds })
-
 module _ (f ed : ℕ) (text : List ℕ) (item : Reader) (a : Answer) (s : Spot) (l : List ℕ) where
-  abbrev Is : Ans Tree → Parsed → List ℕ → Type 0
+  abbrev Is : Ans Tree → Result Part Refusal → List ℕ → Type 0
   Is x r m = Contract (laid f) ed text (Fits text a) x a.end s l r m
 
   -- brackets
-  module _ (p : Spot) (m₁ m₂ : List ℕ) (t : Listed) (w : ListContract f ed text item RParen a p m₁ t m₂) where
+  module _ (p : Spot) (m₁ m₂ : List ℕ) (t : Result Items Refusal) (w : ListContract f ed text item RParen a p m₁ t m₂) where
     abbrev types : Ans Trees
     types = list_behind item RParen (held ed text a)
 
-    pub brackets-refused : (r : Refusal) → t ≡ Broken r → Is (brackets item (held ed text a)) (Refused r) m₂
+    pub brackets-refused : (r : Refusal) → t ≡ Err r → Is (brackets item (held ed text a)) (Err r) m₂
     unfolding brackets
     brackets-refused r e =
         reads-refused r (λ fit. refuses-ok types r (λ xs u. bracketed (held ed text a) u xs) (all-not w r e fit))
 
-    module _ (n : Items) (e : t ≡ All n) (h : length l ≤ last) (i : Spot) (g : i ≡ inside f s) (y : Placed l i (mark_in f (bytes "(")) p m₁) where
-      pub brackets-read : (to : Spot) (m₃ m : List ℕ) (k : ℕ) → Placed m₂ n.to (mark_in f (bytes ")")) to m₃ → k ≡ brackets_kind n.count → m ≡ sealed f k a.start n.end s to m₃
-          → Is (brackets item (held ed text a)) (Read (record { to = to; end = n.end; next = n.next })) m
+    module _ (n : Items) (e : t ≡ Ok n) (h : length l ≤ last) (i : Spot) (g : i ≡ inside f s) (y : Placed l i (mark_in f (bytes "(")) p m₁) where
+      pub brackets-read : (to : Spot) (m₃ m : List ℕ) (k : ℕ) → Placed m₂ n.part.to (mark_in f (bytes ")")) to m₃ → k ≡ brackets_kind n.count → m ≡ sealed f k a.start n.part.end s to m₃
+          → Is (brackets item (held ed text a)) (Ok (record { to = to; end = n.part.end; next = n.part.next })) m
       unfolding brackets then
       brackets-read to m₃ m k v c d =
           let goes = all-goes w n e in
-          reads-built (record { to = to; end = n.end; next = n.next }) built goes.0 goes.1
+          reads-built (record { to = to; end = n.part.end; next = n.part.next }) built goes.0 goes.1
         where
-          built : Fits text a → Had (laid f) ed text (brackets item (held ed text a)) s l (record { to = to; end = n.end; next = n.next }) m
+          built : Fits text a → Had (laid f) ed text (brackets item (held ed text a)) s l (record { to = to; end = n.part.end; next = n.part.next }) m
           built fit =
               let z = all-had w n e fit in
-              let what = bracketed (held ed text a) (opened ed text n.end) z.what in
-              let same = ap (λ (x : ℕ). headed f x a.start n.end (mark_in f (bytes "(") ++ (laid_items f z.what ++ mark_in f (bytes ")")))) (c ∙ ap brackets_kind (all-counts w n e fit z.what _ z.is)) in
+              let what = bracketed (held ed text a) (opened ed text n.part.end) z.what in
+              let same = ap (λ (x : ℕ). headed f x a.start n.part.end (mark_in f (bytes "(") ++ (laid_items f z.what ++ mark_in f (bytes ")")))) (c ∙ ap brackets_kind (all-counts w n e fit z.what _ z.is)) in
               record {
                 what = what;
                 is = ap (λ (x : Ans Trees). then x (λ xs u. ok (bracketed (held ed text a) u xs) u)) z.is;
                 bytes =
-                    placed-as l m _ (laid f what) s to (same ∙ sym (bracketed-laid f (held ed text a) (opened ed text n.end) z.what))
-                    (placed-parted f k a.start n.end l m₁ m₂ m₃ m (mark_in f (bytes "(")) (laid_items f z.what) (mark_in f (bytes ")")) s i p n.to to h g y z.bytes v d);
+                    placed-as l m _ (laid f what) s to (same ∙ sym (bracketed-laid f (held ed text a) (opened ed text n.part.end) z.what))
+                    (placed-parted f k a.start n.part.end l m₁ m₂ m₃ m (mark_in f (bytes "(")) (laid_items f z.what) (mark_in f (bytes ")")) s i p n.part.to to h g y z.bytes v d);
               }
 
   -- references
@@ -133,11 +121,11 @@ module _ (f ed : ℕ) (text : List ℕ) (item : Reader) (a : Answer) (s : Spot) 
     abbrev refer : Ans Tree
     refer = reference item (cond b RecRefMut RecRef) (held ed text a)
 
-    pub reference-bad : (m : List ℕ) (r : Refusal) → next_token ed text a.end ≡ Bad r → Is refer (Refused r) m
+    pub reference-bad : (m : List ℕ) (r : Refusal) → next_token ed text a.end ≡ Err r → Is refer (Err r) m
     unfolding reference
     reference-bad m r h = reads-no r (λ fit. look-refused ed text a fit _ r h)
 
-    module _ (c : Answer) (h : next_token ed text a.end ≡ Found c) (q : Spot) (m₁ m₂ : List ℕ) (t : Parsed) (w : ReadsBy (laid f) ed text item c q m₁ t m₂) where
+    module _ (c : Answer) (h : next_token ed text a.end ≡ Ok c) (q : Spot) (m₁ m₂ : List ℕ) (t : Result Part Refusal) (w : ReadsBy (laid f) ed text item c q m₁ t m₂) where
       abbrev next : Next ed text a.end c
       next = next-found ed text a.end c h
 
@@ -145,13 +133,13 @@ module _ (f ed : ℕ) (text : List ℕ) (item : Reader) (a : Answer) (s : Spot) 
       unfolding reference
       refer-is fit = look-found ed text a fit _ c h
 
-      pub reference-refused : (r : Refusal) → t ≡ Refused r → Is refer (Refused r) m₂
+      pub reference-refused : (r : Refusal) → t ≡ Err r → Is refer (Err r) m₂
       reference-refused r e =
           reads-refused r (λ fit. subst (λ (x : Ans Tree). Refuses x r) (sym (refer-is fit))
           (refuses-ok (item (held ed text c)) r (λ x u. spanned (cond b RecRefMut RecRef) (held ed text a) u (more x none)) (reads-not w r e next.fits)))
 
-      pub reference-read : (p : Part) → t ≡ Read p → length l ≤ last → (i : Spot) → i ≡ inside f s → Placed l i (mark_in f (cond b (bytes "&mut ") (bytes "& "))) q m₁ → (m : List ℕ) (k : ℕ) → k ≡ cond b RecRefMut RecRef
-          → m ≡ sealed f k a.start p.end s p.to m₂ → Is refer (Read p) m
+      pub reference-read : (p : Part) → t ≡ Ok p → length l ≤ last → (i : Spot) → i ≡ inside f s → Placed l i (mark_in f (cond b (bytes "&mut ") (bytes "& "))) q m₁ → (m : List ℕ) (k : ℕ) → k ≡ cond b RecRefMut RecRef
+          → m ≡ sealed f k a.start p.end s p.to m₂ → Is refer (Ok p) m
       unfolding then
       reference-read p e g i z y m k c₁ d =
           let v = reads-had w p e next.fits in
@@ -169,40 +157,40 @@ module _ (f ed : ℕ) (text : List ℕ) (item : Reader) (a : Answer) (s : Spot) 
           (omega (arith, next.from, next.fits.1, goes.0)) goes.1
 
   -- functions
-  module _ (p : Spot) (m₁ m₂ : List ℕ) (t : Listed) (w : ListContract f ed text item Pipe a p m₁ t m₂) where
+  module _ (p : Spot) (m₁ m₂ : List ℕ) (t : Result Items Refusal) (w : ListContract f ed text item Pipe a p m₁ t m₂) where
     abbrev arguments : Ans Trees
     arguments = list_behind item Pipe (held ed text a)
 
     abbrev result : Trees → Tree → Source → Ans Tree
     result xs x u = ok (spanned RecFunction (held ed text a) u (behind xs x)) u
 
-    pub function-refused : (r : Refusal) → t ≡ Broken r → Is (function item (held ed text a)) (Refused r) m₂
+    pub function-refused : (r : Refusal) → t ≡ Err r → Is (function item (held ed text a)) (Err r) m₂
     unfolding function
     function-refused r e =
         reads-no r (λ fit. refuses-look arguments r _ (all-not w r e fit))
 
-    module _ (n : Items) (e : t ≡ All n) (d : Spot) (m₄ m₅ : List ℕ) (x : Parsed) (v : ReadsBy (laid f) ed text item n.next d m₄ x m₅) where
-      abbrev goes : (a.end ≤ n.end) × (next_token ed text n.end ≡ Found n.next)
+    module _ (n : Items) (e : t ≡ Ok n) (d : Spot) (m₄ m₅ : List ℕ) (x : Result Part Refusal) (v : ReadsBy (laid f) ed text item n.part.next d m₄ x m₅) where
+      abbrev goes : (a.end ≤ n.part.end) × (next_token ed text n.part.end ≡ Ok n.part.next)
       goes = all-goes w n e
 
-      abbrev next_one : Next ed text n.end n.next
-      next_one = next-found ed text n.end n.next goes.1
+      abbrev next_one : Next ed text n.part.end n.part.next
+      next_one = next-found ed text n.part.end n.part.next goes.1
 
-      abbrev had-all : Fits text a → Had (laid_items f) ed text arguments p m₁ (as_part n) m₂
+      abbrev had-all : Fits text a → Had (laid_items f) ed text arguments p m₁ (n.part) m₂
       had-all fit = all-had w n e fit
 
-      function-is : (fit : Fits text a) → function item (held ed text a) ≡ then (item (held ed text n.next)) (result (had-all fit).what)
-      function-is fit = function_of item (held ed text a) (had-all fit).what (opened ed text n.end) (held ed text n.next) (had-all fit).is next_one.is
+      function-is : (fit : Fits text a) → function item (held ed text a) ≡ then (item (held ed text n.part.next)) (result (had-all fit).what)
+      function-is fit = function_of item (held ed text a) (had-all fit).what (opened ed text n.part.end) (held ed text n.part.next) (had-all fit).is next_one.is
 
-      pub result-refused : (r : Refusal) → x ≡ Refused r → Is (function item (held ed text a)) (Refused r) m₅
+      pub result-refused : (r : Refusal) → x ≡ Err r → Is (function item (held ed text a)) (Err r) m₅
       result-refused r z =
           reads-refused r (λ fit. subst (λ (y : Ans Tree). Refuses y r) (sym (function-is fit))
-          (refuses-ok (item (held ed text n.next)) r (λ y u. spanned RecFunction (held ed text a) u (behind (had-all fit).what y))
+          (refuses-ok (item (held ed text n.part.next)) r (λ y u. spanned RecFunction (held ed text a) u (behind (had-all fit).what y))
           (reads-not v r z next_one.fits)))
 
-      pub function-read : (y : Part) → x ≡ Read y → length l ≤ last → (i c : Spot) (m₃ : List ℕ) → i ≡ inside f s → Placed l i (mark_in f (bytes "|")) p m₁
-          → Placed m₂ n.to (mark_in f (cond (eqb n.count 0) (bytes " |") (bytes "|"))) c m₃ → Placed m₃ c (mark_in f (bytes " ")) d m₄ → (m : List ℕ) → m ≡ sealed f RecFunction a.start y.end s y.to m₅
-          → Is (function item (held ed text a)) (Read y) m
+      pub function-read : (y : Part) → x ≡ Ok y → length l ≤ last → (i c : Spot) (m₃ : List ℕ) → i ≡ inside f s → Placed l i (mark_in f (bytes "|")) p m₁
+          → Placed m₂ n.part.to (mark_in f (cond (eqb n.count 0) (bytes " |") (bytes "|"))) c m₃ → Placed m₃ c (mark_in f (bytes " ")) d m₄ → (m : List ℕ) → m ≡ sealed f RecFunction a.start y.end s y.to m₅
+          → Is (function item (held ed text a)) (Ok y) m
       unfolding then
       function-read y z h i c m₃ g bar close blank m seal =
           let had = reads-had v y z next_one.fits in
@@ -213,7 +201,7 @@ module _ (f ed : ℕ) (text : List ℕ) (item : Reader) (a : Answer) (s : Spot) 
           let end = mark_in f (cond (eqb n.count 0) (bytes " |") (bytes "|")) in
           let what = node RecFunction a.start y.end (behind all.what had.what) in
           let i₁ = placed-long l m₁ (mark_in f (bytes "|")) i p bar in
-          let items = placed-both m₁ m₂ m₃ (laid_items f all.what) end p n.to c (omega (arith, h, i₁)) all.bytes close in
+          let items = placed-both m₁ m₂ m₃ (laid_items f all.what) end p n.part.to c (omega (arith, h, i₁)) all.bytes close in
           let named = bars-laid f all.what n.count (all-counts w n e fit all.what _ all.is) in
           let bars = placed-as l m₃ _ (in_bars f all.what) i c named (placed-both l m₁ m₃ (mark_in f (bytes "|")) (laid_items f all.what ++ end) i p c h bar items) in
           record {
@@ -226,14 +214,14 @@ module _ (f ed : ℕ) (text : List ℕ) (item : Reader) (a : Answer) (s : Spot) 
           (omega (arith, goes.0, next_one.from, next_one.fits.1, on.0)) on.1
 
   -- names
-  module _ (i : Spot) (m₁ : List ℕ) (t : Parsed) (w : ReadsBy (laid f) ed text chain a i l t m₁) where
-    pub named-refused : (r : Refusal) → t ≡ Refused r → Is (named item (held ed text a)) (Refused r) m₁
+  module _ (i : Spot) (m₁ : List ℕ) (t : Result Part Refusal) (w : ReadsBy (laid f) ed text chain a i l t m₁) where
+    pub named-refused : (r : Refusal) → t ≡ Err r → Is (named item (held ed text a)) (Err r) m₁
     unfolding named with_arguments
     named-refused r e =
         reads-no r (λ fit. refuses-look (chain (held ed text a)) r _ (reads-not w r e fit))
 
-    module _ (p : Part) (e : t ≡ Read p) where
-      abbrev on : (a.end ≤ p.end) × (next_token ed text p.end ≡ Found p.next)
+    module _ (p : Part) (e : t ≡ Ok p) where
+      abbrev on : (a.end ≤ p.end) × (next_token ed text p.end ≡ Ok p.next)
       on = reads-goes w p e
 
       abbrev after-name : Next ed text p.end p.next
@@ -249,7 +237,7 @@ module _ (f ed : ℕ) (text : List ℕ) (item : Reader) (a : Answer) (s : Spot) 
           ≡ when (eqb p.next.kind Less) (λ _. then argued λ xs v. ok (spanned RecType (held ed text a) v (more (name fit).what xs)) v) (λ _. ok (spanned RecType (held ed text a) (opened ed text p.end) (more (name fit).what none)) (opened ed text p.end))
       named-is fit = named-of item (held ed text a) (name fit).what (opened ed text p.end) (held ed text p.next) (name fit).is after-name.is
 
-      pub named-alone : (p.next.kind ≡ Less → ⊥) → length l ≤ last → i ≡ inside f s → (m : List ℕ) → m ≡ sealed f RecType a.start p.end s p.to m₁ → Is (named item (held ed text a)) (Read p) m
+      pub named-alone : (p.next.kind ≡ Less → ⊥) → length l ≤ last → i ≡ inside f s → (m : List ℕ) → m ≡ sealed f RecType a.start p.end s p.to m₁ → Is (named item (held ed text a)) (Ok p) m
       unfolding in_angles
       named-alone k h g m d =
           reads-built p
@@ -265,34 +253,34 @@ module _ (f ed : ℕ) (text : List ℕ) (item : Reader) (a : Answer) (s : Spot) 
           })
           on.0 on.1
 
-      module _ (k : p.next.kind ≡ Less) (j : Spot) (m₂ : List ℕ) (x : Listed) (v : ListContract f ed text item Greater p.next j m₁ x m₂) where
+      module _ (k : p.next.kind ≡ Less) (j : Spot) (m₂ : List ℕ) (x : Result Items Refusal) (v : ListContract f ed text item Greater p.next j m₁ x m₂) where
         argued-is : (fit : Fits text a) → named item (held ed text a) ≡ then argued (λ xs u. ok (spanned RecType (held ed text a) u (more (name fit).what xs)) u)
         argued-is fit = named-is fit ∙ when_true (eqb p.next.kind Less) _ _ (eq-eqb p.next.kind Less k)
 
-        pub arguments-refused : (r : Refusal) → x ≡ Broken r → Is (named item (held ed text a)) (Refused r) m₂
+        pub arguments-refused : (r : Refusal) → x ≡ Err r → Is (named item (held ed text a)) (Err r) m₂
         arguments-refused r z =
             reads-refused r (λ fit. subst (λ (y : Ans Tree). Refuses y r) (sym (argued-is fit))
             (refuses-ok argued r (λ xs u. spanned RecType (held ed text a) u (more (name fit).what xs)) (all-not v r z after-name.fits)))
 
-        pub named-read : (n : Items) → x ≡ All n → length l ≤ last → i ≡ inside f s → j ≡ moved_by p.to (length (mark_in f (bytes "<"))) → (to : Spot) (m₃ m : List ℕ) → Angled f (eqb n.count 0) m₂ p.to n.to to m₃
-            → m ≡ sealed f RecType a.start n.end s to m₃ → Is (named item (held ed text a)) (Read (record { to = to; end = n.end; next = n.next })) m
+        pub named-read : (n : Items) → x ≡ Ok n → length l ≤ last → i ≡ inside f s → j ≡ moved_by p.to (length (mark_in f (bytes "<"))) → (to : Spot) (m₃ m : List ℕ) → Angled f (eqb n.count 0) m₂ p.to n.part.to to m₃
+            → m ≡ sealed f RecType a.start n.part.end s to m₃ → Is (named item (held ed text a)) (Ok (record { to = to; end = n.part.end; next = n.part.next })) m
         unfolding then
         named-read n z h g q to m₃ m y d =
             let all = all-had v n z after-name.fits in
             let goes = all-goes v n z in
-            reads-built (record { to = to; end = n.end; next = n.next })
+            reads-built (record { to = to; end = n.part.end; next = n.part.next })
             (λ fit.
             let c = name fit in
-            let what = node RecType a.start n.end (more c.what all.what) in
+            let what = node RecType a.start n.part.end (more c.what all.what) in
             let i₁ = placed-long l m₁ (laid f c.what) i p.to c.bytes in
-            let angles = angled-placed f m₁ m₂ m₃ p.to j n.to to (omega (arith, h, i₁)) q all.what all.bytes (subst (λ (b : ℕ). Angled f (eqb b 0) m₂ p.to n.to to m₃) (all-counts v n z after-name.fits all.what _ all.is) y) in
+            let angles = angled-placed f m₁ m₂ m₃ p.to j n.part.to to (omega (arith, h, i₁)) q all.what all.bytes (subst (λ (b : ℕ). Angled f (eqb b 0) m₂ p.to n.part.to to m₃) (all-counts v n z after-name.fits all.what _ all.is) y) in
             let body = placed-both l m₁ m₃ (laid f c.what) (in_angles f all.what) i p.to to h c.bytes angles in
             record {
               what = what;
               is = argued-is fit ∙ ap (λ (b : Ans Trees). then b (λ xs u. ok (spanned RecType (held ed text a) u (more c.what xs)) u)) all.is;
               bytes =
-                  placed-as l m _ (laid f what) s to (sym (laid-type f a.start n.end c.what all.what))
-                  (placed-headed f RecType a.start n.end l m₃ m (laid f c.what ++ in_angles f all.what) s to h (subst (λ (b : Spot). Placed l b (laid f c.what ++ in_angles f all.what) to m₃) g body) d);
+                  placed-as l m _ (laid f what) s to (sym (laid-type f a.start n.part.end c.what all.what))
+                  (placed-headed f RecType a.start n.part.end l m₃ m (laid f c.what ++ in_angles f all.what) s to h (subst (λ (b : Spot). Placed l b (laid f c.what ++ in_angles f all.what) to m₃) g body) d);
             })
             (omega (arith, on.0, after-name.from, after-name.fits.1, goes.0)) goes.1
 
@@ -370,7 +358,7 @@ begins-kind a P x y e = go (eqb a.kind Identifier) refl
 pub begins-some : (a : Answer) → begins a ≡ true → 0 < a.kind
 begins-some a e = begins-kind a (λ k. 0 < k) (omega arith) (omega arith) e
 
-module _ (f ed : ℕ) (text : List ℕ) (item : Reader) (a : Answer) (s : Spot) (l m : List ℕ) (r : Parsed) where
+module _ (f ed : ℕ) (text : List ℕ) (item : Reader) (a : Answer) (s : Spot) (l m : List ℕ) (r : Result Part Refusal) where
   abbrev Whole : Ans Tree → Type 0
   Whole x = Contract (laid f) ed text (Fits text a) x a.end s l r m
 
@@ -393,7 +381,7 @@ module _ (f ed : ℕ) (text : List ℕ) (item : Reader) (a : Answer) (s : Spot) 
       pub marked_other : (a.kind ≡ Pipe → ⊥) → begins a ≡ false → r ≡ refused_token UnexpectedToken a → Whole (type_over item (held ed text a))
       marked_other e b d =
           over-as (named item (held ed text a)) (over-named item (held ed text a) k₁ k₂ k₃ e)
-          (subst (λ (y : Parsed). ReadsBy (laid f) ed text (named item) a s l y m) (sym d)
+          (subst (λ (y : Result Part Refusal). ReadsBy (laid f) ed text (named item) a s l y m) (sym d)
           (named-refused f ed text item a s l s m r (chain-other f ed text s l m a (begins a) r refl b d) _ d))
 
   -- a name begins it
@@ -406,12 +394,12 @@ module _ (f ed : ℕ) (text : List ℕ) (item : Reader) (a : Answer) (s : Spot) 
         (λ q. over-named item (held ed text a) (λ w. absurd (omega (arith, q, w))) (λ w. absurd (omega (arith, q, w))) (λ w. absurd (omega (arith, q, w))) (λ w. absurd (omega (arith, q, w))))
         b refl) d
 
-pub begun-bad : (f ed : ℕ) (text : List ℕ) (item : Reader) (a : Answer) (s : Spot) (l m : List ℕ) (r : Refusal) → begins a ≡ true → next_token ed text a.end ≡ Bad r
-    → ReadsBy (laid f) ed text (type_over item) a s l (Refused r) m
+pub begun-bad : (f ed : ℕ) (text : List ℕ) (item : Reader) (a : Answer) (s : Spot) (l m : List ℕ) (r : Refusal) → begins a ≡ true → next_token ed text a.end ≡ Err r
+    → ReadsBy (laid f) ed text (type_over item) a s l (Err r) m
 begun-bad f ed text item a s l m r b h =
-    begun-named f ed text item a s l m (Refused r) b (named-refused f ed text item a s l s m (Refused r) (chain-bad f ed text s l m a (begins a) refl b r h) r refl)
+    begun-named f ed text item a s l m (Err r) b (named-refused f ed text item a s l s m (Err r) (chain-bad f ed text s l m a (begins a) refl b r h) r refl)
 
-module _ (f ed : ℕ) (text : List ℕ) (left : ℕ) (a : Answer) (s : Spot) (l m : List ℕ) (r : Parsed) where
+module _ (f ed : ℕ) (text : List ℕ) (left : ℕ) (a : Answer) (s : Spot) (l m : List ℕ) (r : Result Part Refusal) where
   abbrev Levelled : Ans Tree → Type 0
   Levelled x = Contract (laid f) ed text (Fits text a) x a.end s l r m
 

@@ -12,29 +12,19 @@ ghost use Rattle.chains.specs.code.Parts.{begins, ReadsNamed};
 ghost use Rattle.type_walk.specs.code.Types.{Angled, brackets_kind};
 
 use forms::Spot;
-use lists::{Listed, Step, Turn};
-use parts::{Parsed, Part, Way};
+use lists::{Items, Step, Turn};
+use parts::{Part, Way};
 use records::kinds::{
     REC_BRACKETS, REC_FUNCTION, REC_REF, REC_REF_MUT, REC_TUPLE, REC_TYPE, REC_UNIT,
 };
-use tokens::{Lexed, Token};
+use tokens::{Refusal, Token};
 use words::kinds::{AMP, AMP_MUT, GREATER, L_PAREN, LESS, PIPE, R_PAREN};
-
-// The token behind t. A function of its own, so that the room for the answer is free again when the type is read.
-fn behind(edition: u64, text: &[u8], t: Token) -> Lexed
-    ensures { result ≡ next_token edition text.now t.end }
-{
-    tokens::next_token(edition, text, t.end)
-}
 
 // Whether a reference begins with a token of this kind.
 fn is_reference(kind: u8) -> bool
     ensures { result ≡ (eqb kind Amp || eqb kind AmpMut) }
 {
-    if kind == AMP {
-        return true;
-    }
-    kind == AMP_MUT
+    kind == AMP || kind == AMP_MUT
 }
 
 // The kind of a reference.
@@ -51,13 +41,11 @@ fn reference_kind(mutable: bool) -> usize
 fn brackets_kind(count: usize) -> usize
     ensures { result ≡ brackets_kind count }
 {
-    if count == 0 {
-        return REC_UNIT;
+    match count {
+        0 => REC_UNIT,
+        1 => REC_BRACKETS,
+        _ => REC_TUPLE,
     }
-    if count == 1 {
-        return REC_BRACKETS;
-    }
-    REC_TUPLE
 }
 
 // Closes the arguments of a type, whose bytes end at b, and whose `<` belongs at s: where there are none,
@@ -75,30 +63,26 @@ fn close_angles(form: u8, none: bool, out: &mut [u8], s: Spot, b: Spot) -> Spot
 
 // The type whose first token is a; the levels that are left count its own.
 #[cycle(types)]
-pub fn parse_type(w: Way, text: &[u8], a: Token, out: &mut [u8], s: Spot) -> Parsed
+pub fn parse_type(w: Way, text: &[u8], a: Token, out: &mut [u8], s: Spot) -> Result<Part, Refusal>
     ensures { Reads w text.now (read_type w.left) a s out.old result out.new }
 {
     if w.left == 0 {
-        return parts::too_deep(a);
+        return Err(parts::too_deep(a));
     }
     let deeper = Way {
-        form: w.form,
-        edition: w.edition,
         left: w.left - 1,
+        ..w
     };
     if !chains::is_first(a.kind) {
         return marked_at(deeper, text, a, out, s);
     }
-    let l = behind(w.edition, text, a);
-    match l {
-        Lexed::Refused(r) => Parsed::Refused(r),
-        Lexed::Found(n) => named_at(deeper, text, a, n, out, s),
-    }
+    let n = parts::behind(w.edition, text, a)?;
+    named_at(deeper, text, a, n, out, s)
 }
 
 // The type that a begins, which begins no name.
 #[cycle(types)]
-fn marked_at(w: Way, text: &[u8], a: Token, out: &mut [u8], s: Spot) -> Parsed
+fn marked_at(w: Way, text: &[u8], a: Token, out: &mut [u8], s: Spot) -> Result<Part, Refusal>
     ensures { begins a ≡ false → Reads w text.now (type_over (read_type w.left)) a s out.old result out.new }
 {
     if a.kind == L_PAREN {
@@ -110,57 +94,56 @@ fn marked_at(w: Way, text: &[u8], a: Token, out: &mut [u8], s: Spot) -> Parsed
     if a.kind == PIPE {
         return function_at(w, text, a, out, s);
     }
-    parts::unexpected(a)
+    Err(parts::unexpected(a))
 }
 
 // The brackets that a opens round none, one or more types.
 #[cycle(types)]
-fn brackets_at(w: Way, text: &[u8], a: Token, out: &mut [u8], s: Spot) -> Parsed
+fn brackets_at(w: Way, text: &[u8], a: Token, out: &mut [u8], s: Spot) -> Result<Part, Refusal>
     ensures { Reads w text.now (brackets (read_type w.left)) a s out.old result out.new }
 {
     let i = forms::step_inside(w.form, s);
     let p = forms::put_mark(w.form, b'(', out, i);
-    let l = type_list(w, R_PAREN, text, a, out, p);
-    match l {
-        Listed::Refused(r) => Parsed::Refused(r),
-        Listed::All(n) => {
-            let next = n.next;
-            let to = forms::put_mark(w.form, b')', out, n.to);
-            forms::seal(w.form, brackets_kind(n.count), a.start, n.end, s, to, out);
-            Parsed::Read(Part {
-                to: to,
-                end: n.end,
-                next: next,
-            })
-        }
-    }
+    let n = type_list(w, R_PAREN, text, a, out, p)?;
+    let to = forms::put_mark(w.form, b')', out, n.part.to);
+    forms::seal(
+        w.form,
+        brackets_kind(n.count),
+        a.start,
+        n.part.end,
+        s,
+        to,
+        out,
+    );
+    Ok(Part { to, ..n.part })
 }
 
-// The reference that a begins.
+// The reference that a begins. Here and in function_at `match` stands for `?`, under which the compiler takes 48
+// bytes of stack more for each level of a type: at most MOVESIG_STACK (include/movesig.h) may be taken in all.
 #[cycle(types)]
-fn reference_at(w: Way, mutable: bool, text: &[u8], a: Token, out: &mut [u8], s: Spot) -> Parsed
+fn reference_at(
+    w: Way,
+    mutable: bool,
+    text: &[u8],
+    a: Token,
+    out: &mut [u8],
+    s: Spot,
+) -> Result<Part, Refusal>
     ensures { Reads w text.now (reference (read_type w.left) (cond mutable RecRefMut RecRef)) a s out.old result out.new }
 {
-    let l = tokens::next_token(w.edition, text, a.end);
+    let l = parts::behind(w.edition, text, a);
     match l {
-        Lexed::Refused(r) => Parsed::Refused(r),
-        Lexed::Found(b) => {
+        Err(r) => Err(r),
+        Ok(b) => {
             let i = forms::step_inside(w.form, s);
             let q = forms::put_reference(w.form, mutable, out, i);
             let t = parse_type(w, text, b, out, q);
             match t {
-                Parsed::Refused(r) => Parsed::Refused(r),
-                Parsed::Read(p) => {
-                    forms::seal(
-                        w.form,
-                        reference_kind(mutable),
-                        a.start,
-                        p.end,
-                        s,
-                        p.to,
-                        out,
-                    );
-                    Parsed::Read(p)
+                Err(r) => Err(r),
+                Ok(p) => {
+                    let kind = reference_kind(mutable);
+                    forms::seal(w.form, kind, a.start, p.end, s, p.to, out);
+                    Ok(p)
                 }
             }
         }
@@ -169,24 +152,24 @@ fn reference_at(w: Way, mutable: bool, text: &[u8], a: Token, out: &mut [u8], s:
 
 // The function type that the `|` a begins: its arguments, then its result.
 #[cycle(types)]
-fn function_at(w: Way, text: &[u8], a: Token, out: &mut [u8], s: Spot) -> Parsed
+fn function_at(w: Way, text: &[u8], a: Token, out: &mut [u8], s: Spot) -> Result<Part, Refusal>
     ensures { Reads w text.now (function (read_type w.left)) a s out.old result out.new }
 {
     let i = forms::step_inside(w.form, s);
     let q = forms::put_mark(w.form, b'|', out, i);
     let l = type_list(w, PIPE, text, a, out, q);
     match l {
-        Listed::Refused(r) => Parsed::Refused(r),
-        Listed::All(n) => {
-            let b = n.next;
-            let c = forms::close_bars(w.form, n.count == 0, out, n.to);
+        Err(r) => Err(r),
+        Ok(n) => {
+            let b = n.part.next;
+            let c = forms::close_bars(w.form, n.count == 0, out, n.part.to);
             let d = forms::put_mark(w.form, b' ', out, c);
             let t = parse_type(w, text, b, out, d);
             match t {
-                Parsed::Refused(r) => Parsed::Refused(r),
-                Parsed::Read(p) => {
+                Err(r) => Err(r),
+                Ok(p) => {
                     forms::seal(w.form, REC_FUNCTION, a.start, p.end, s, p.to, out);
-                    Parsed::Read(p)
+                    Ok(p)
                 }
             }
         }
@@ -195,52 +178,47 @@ fn function_at(w: Way, text: &[u8], a: Token, out: &mut [u8], s: Spot) -> Parsed
 
 // The type that the name at a begins, with its arguments; n is the token behind a.
 #[cycle(types)]
-fn named_at(w: Way, text: &[u8], a: Token, n: Token, out: &mut [u8], s: Spot) -> Parsed
+fn named_at(
+    w: Way,
+    text: &[u8],
+    a: Token,
+    n: Token,
+    out: &mut [u8],
+    s: Spot,
+) -> Result<Part, Refusal>
     ensures { ReadsNamed w text.now (named (read_type w.left)) a n s out.old result out.new }
 {
     let i = forms::step_inside(w.form, s);
-    let c = chains::name_behind(w, text, a, n, out, i);
-    match c {
-        Parsed::Refused(r) => Parsed::Refused(r),
-        Parsed::Read(p) => {
-            if p.next.kind != LESS {
-                forms::seal(w.form, REC_TYPE, a.start, p.end, s, p.to, out);
-                return Parsed::Read(p);
-            }
-            let j = forms::step_angle(w.form, p.to);
-            let l = type_list(w, GREATER, text, p.next, out, j);
-            match l {
-                Listed::Refused(r) => Parsed::Refused(r),
-                Listed::All(m) => {
-                    let next = m.next;
-                    let to = close_angles(w.form, m.count == 0, out, p.to, m.to);
-                    forms::seal(w.form, REC_TYPE, a.start, m.end, s, to, out);
-                    Parsed::Read(Part {
-                        to: to,
-                        end: m.end,
-                        next: next,
-                    })
-                }
-            }
-        }
+    let p = chains::name_behind(w, text, a, n, out, i)?;
+    if p.next.kind != LESS {
+        forms::seal(w.form, REC_TYPE, a.start, p.end, s, p.to, out);
+        return Ok(p);
     }
+    let j = forms::step_angle(w.form, p.to);
+    let m = type_list(w, GREATER, text, p.next, out, j)?;
+    let to = close_angles(w.form, m.count == 0, out, p.to, m.part.to);
+    forms::seal(w.form, REC_TYPE, a.start, m.part.end, s, to, out);
+    Ok(Part { to, ..m.part })
 }
 
 // The list of types that o opens and a token of the kind `close` ends, its items one behind the other
-// (parse_comma_list of the Rust).
+// (parse_comma_list of the Rust); the specification asks for one function a list.
 #[cycle(types)]
-fn type_list(w: Way, close: u8, text: &[u8], o: Token, out: &mut [u8], s: Spot) -> Listed
+fn type_list(
+    w: Way,
+    close: u8,
+    text: &[u8],
+    o: Token,
+    out: &mut [u8],
+    s: Spot,
+) -> Result<Items, Refusal>
     ensures { ReadsList w text.now (read_type w.left) close o s out.old result out.new }
 {
     let mut i = o.end;
     let mut to = forms::move_by(s, 0);
     let mut count = 0;
     loop {
-        let c = type_step(w, close, text, o, i, count == 0, out, to);
-        match c {
-            Step::Refused(r) => {
-                return Listed::Refused(r);
-            }
+        match type_step(w, close, text, o, i, count == 0, out, to)? {
             Step::Closes(q) => {
                 return lists::close_list(w.edition, text, q, count, to);
             }
@@ -267,13 +245,11 @@ fn type_step(
     first: bool,
     out: &mut [u8],
     s: Spot,
-) -> Step
+) -> Result<Step, Refusal>
     ensures { StepsAt w text.now (read_type w.left) close o at first s out.old result out.new }
 {
-    let b = lists::next_item(w.edition, close, text, at);
-    match b {
-        Turn::Refused(r) => Step::Refused(r),
-        Turn::Closes(q) => Step::Closes(q),
+    match lists::next_item(w.edition, close, text, at)? {
+        Turn::Closes(q) => Ok(Step::Closes(q)),
         Turn::Item(a) => type_item(w, close, text, o, a, first, out, s),
     }
 }
@@ -289,7 +265,7 @@ fn type_item(
     first: bool,
     out: &mut [u8],
     s: Spot,
-) -> Step
+) -> Result<Step, Refusal>
     ensures { ItemAt w text.now (read_type w.left) close o a first s out.old result out.new }
 {
     let p = forms::put_between(w.form, first, out, s);
@@ -299,7 +275,13 @@ fn type_item(
 
 // The type arguments behind the `<` o, up to `>`, or to the first byte of `>>`: the items alone, without the
 // marks. The levels that are left count each argument's own.
-pub fn parse_type_args(w: Way, text: &[u8], o: Token, out: &mut [u8], s: Spot) -> Listed
+pub fn parse_type_args(
+    w: Way,
+    text: &[u8],
+    o: Token,
+    out: &mut [u8],
+    s: Spot,
+) -> Result<Items, Refusal>
     ensures { ReadsList w text.now (read_type w.left) Greater o s out.old result out.new }
 {
     type_list(w, GREATER, text, o, out, s)

@@ -174,12 +174,11 @@ module _ (k : ℕ) (h : k < 3) where
     unfolding row_fit first_fit
     long-row = rw (long.bytes, long.size, long.kind)
 
-    module _ (f : Fit) (e : f ≡ row_fit (get_or mark_rows k []) s) where
-      pub long-hit : (f.len ≡ 0 → ⊥) → first_fit (slice k 3 marks) s ≡ f
-      long-hit g = fit-hit 3 k s (omega arith) h f (e ∙ long-row) g
+    pub long-hit : (f : Fit) → f ≡ row_fit (get_or mark_rows k []) s → 0 < f.len → first_fit (slice k 3 marks) s ≡ f
+    long-hit f e g = fit-hit 3 k s (omega arith) h f (e ∙ long-row) (λ z. absurd (omega arith))
 
-      pub long-miss : f.len ≡ 0 → first_fit (slice k 3 marks) s ≡ first_fit (slice (k + 1) 3 marks) s
-      long-miss z = fit_next 3 k s (omega arith) h f (e ∙ long-row) z
+    pub long-miss : no_fit ≡ row_fit (get_or mark_rows k []) s → first_fit (slice k 3 marks) s ≡ first_fit (slice (k + 1) 3 marks) s
+    long-miss e = fit_next 3 k s (omega arith) h no_fit (e ∙ long-row) refl
 
     pub long-other : (get_or (get_or mark_rows k []) 0 0 ≡ get_or s 0 0 → ⊥) → first_fit (slice k 3 marks) s ≡ first_fit (slice (k + 1) 3 marks) s
     unfolding first_fit
@@ -279,25 +278,31 @@ module _ (text : List ℕ) (at : ℕ) where
   unfolding front sized plain single_marks
   one-front = rw place (fit-front 1 single_marks (drop at text) refl)
 
-  module _ (long : Fit) (g : long ≡ first_fit long_marks (drop at text)) where
-    pub is-long : (long.len ≡ 0 → ⊥) → long ≡ mark_of (drop at text)
+  pub is-long : (long : Fit) → long ≡ first_fit long_marks (drop at text) → 0 < long.len → long ≡ mark_of (drop at text)
+  unfolding marks
+  is-long long g m =
+      g
+      ∙ sym (mark-first (drop at text)
+      ∙ over-hit long_marks (double_marks ++ single_marks) (drop at text) (λ p. let z : long.len ≡ 0 = ap (λ (x : Fit). x.len) g ∙ p in absurd (omega arith)))
+
+  -- where no row of three bytes and more fits
+  module _ (g : no_fit ≡ first_fit long_marks (drop at text)) (b : ℕ) (q : b ≡ get_or text (at + 1) 0) where
+    past-long : mark_of (drop at text) ≡ first_fit (double_marks ++ single_marks) (drop at text)
     unfolding marks
-    is-long m =
-        g ∙ sym (mark-first (drop at text) ∙ over-hit long_marks (double_marks ++ single_marks) (drop at text) (λ p. m (ap (λ (x : Fit). x.len) g ∙ p)))
+    past-long =
+        mark-first (drop at text)
+        ∙ over-miss long_marks (double_marks ++ single_marks) (drop at text) longs (ap (λ (x : Fit). x.len) (sym g))
 
-    module _ (z : long.len ≡ 0) (b : ℕ) (q : b ≡ get_or text (at + 1) 0) (double : Fit) (d : double ≡ first_fit double_marks (get_or text at 0 ∷ b ∷ [])) where
-      past-long : mark_of (drop at text) ≡ first_fit (double_marks ++ single_marks) (drop at text)
-      unfolding marks
-      past-long =
-          mark-first (drop at text)
-          ∙ over-miss long_marks (double_marks ++ single_marks) (drop at text) longs (ap (λ (x : Fit). x.len) (sym g) ∙ z)
+    two : (double : Fit) → double ≡ first_fit double_marks (get_or text at 0 ∷ b ∷ []) → double ≡ first_fit double_marks (drop at text)
+    two double d = d ∙ rw q two-front
 
-      two : double ≡ first_fit double_marks (drop at text)
-      two = d ∙ rw q two-front
+    pub is-double : (double : Fit) → double ≡ first_fit double_marks (get_or text at 0 ∷ b ∷ []) → 0 < double.len → double ≡ mark_of (drop at text)
+    is-double double d m =
+        two double d
+        ∙ sym (past-long
+        ∙ over-hit double_marks single_marks (drop at text) (λ p. let z : double.len ≡ 0 = ap (λ (x : Fit). x.len) (two double d) ∙ p in absurd (omega arith)))
 
-      pub is-double : (double.len ≡ 0 → ⊥) → double ≡ mark_of (drop at text)
-      is-double m = two ∙ sym (past-long ∙ over-hit double_marks single_marks (drop at text) (λ p. m (ap (λ (x : Fit). x.len) two ∙ p)))
-
-      pub is-single : double.len ≡ 0 → (single : Fit) → single ≡ first_fit single_marks (get_or text at 0 ∷ []) → single ≡ mark_of (drop at text)
-      is-single y single r =
-          r ∙ one-front ∙ sym (past-long ∙ over-miss double_marks single_marks (drop at text) doubles (ap (λ (x : Fit). x.len) (sym two) ∙ y))
+    pub is-single : no_fit ≡ first_fit double_marks (get_or text at 0 ∷ b ∷ []) → (single : Fit)
+        → single ≡ first_fit single_marks (get_or text at 0 ∷ []) → single ≡ mark_of (drop at text)
+    is-single d single r =
+        r ∙ one-front ∙ sym (past-long ∙ over-miss double_marks single_marks (drop at text) doubles (ap (λ (x : Fit). x.len) (sym (two no_fit d))))

@@ -9,7 +9,7 @@ use borrow.Author.Tests.{ltb-true, ltb-false}
 use lib.Dec.{ltb}
 use lib.ListN.{length, get_or, take, drop, length-take, length-drop, drop_of_length-le, get_or-eq_default}
 use lib.Pow.{pow-add, field, shl-shr}
-use lib.Seq.{take_all, take-nil, take-take, get_or-take, get_or-drop}
+use lib.Seq.{take-nil, take-take, get_or-take, get_or-drop}
 use Rattle.words.specs.code.Rows.{number}
 
 -- bytes
@@ -52,25 +52,20 @@ number_step [] (suc j) = refl
 number_step (b ∷ w) zero = omega arith
 number_step (b ∷ w) (suc j) = number_step w j
 
--- the code's loop over the n bytes from `at`, n being at most nine
-module _ (s : List ℕ) (at n : ℕ) (h : n ≤ 9) where
-  pub pack-start : 0 ≡ number (drop 9 (take n (drop at s)))
+-- the code's loop over at most nine bytes, from the last on
+module _ (w : List ℕ) (h : length w ≤ 9) where
+  pub pack-start : 0 ≡ number (drop 9 w)
   unfolding number
-  pack-start = rw (drop_of_length-le (take n (drop at s)) {i = 9} (rw length-take (omega arith)))
+  pack-start = rw (drop_of_length-le w {i = 9} h)
 
-  module _ (j v : ℕ) (g : 1 < j) (e : v ≡ number (drop j (take n (drop at s)))) where
-    pub pack-small : Small s → v < 256 ^ 7
-    pack-small p =
-        rw e (few 7 (drop j (take n (drop at s))) (small-from (take n (drop at s)) j (part_small s at n p)) (rw (length-drop, length-take) (omega arith)))
+  module _ (j v : ℕ) (g : 1 < j) (e : v ≡ number (drop j w)) where
+    pub pack-small : Small w → v < 256 ^ 7
+    pack-small p = rw e (few 7 (drop j w) (small-from w j p) (rw length-drop (omega arith)))
 
-    pub pack-step : (b : ℕ) → b ≡ get_or (take n (drop at s)) (j - 1) 0 → v * 256 + b ≡ number (drop (j - 1) (take n (drop at s)))
+    pub pack-step : (b : ℕ) → b ≡ get_or w (j - 1) 0 → v * 256 + b ≡ number (drop (j - 1) w)
     pack-step b q =
         let z : suc (j - 1) ≡ j = omega arith in
-        rw (e, q) (sym (number_step (take n (drop at s)) (j - 1) ∙ rw z))
-
--- a row of nine bytes, whole
-pub whole_row : (w : List ℕ) → length w ≤ 9 → (r : ℕ) → r ≡ number (drop 1 (take 9 w)) → r ≡ number (drop 1 w)
-whole_row w h r e = e ∙ rw (take_all 9 w h)
+        rw (e, q) (sym (number_step w (j - 1) ∙ rw z))
 
 -- bytes in two parts: the number of the first k is the rest by 256 ^ k of the number of all
 number-parts : (k : ℕ) (w : List ℕ) → number w ≡ number (take k w) + 256 ^ k * number (drop k w)

@@ -12,8 +12,8 @@ use lib.ListN.{length, get_or, take, drop, drop_of_length-le, get_or-eq_default}
 use lib.Seq.{drop-cons, get_or-drop}
 use Rattle.classes.specs.Bytes.{bytes, begins}
 use Rattle.words.specs.Search.{front_len, is_edition2, suffixes1, suffixes2, suffixes_of, suffix_len}
-use Rattle.words.specs.code.Rows.{value_if, added_suffixes}
-use Rattle.classes.proofs.Bools.{false-true, and_left, and_right, and-true}
+use Rattle.words.specs.code.Rows.{added_suffixes}
+use Rattle.classes.proofs.Bools.{false-true, and_left, and_right}
 use Rattle.classes.proofs.Cut.{begins-short, begins-cut, begins-uncut}
 
 -- what is so of both lists
@@ -46,48 +46,6 @@ front-zero w ws s l e = go (begins w s) refl
     go : (v : Bool) → begins w s ≡ v → (begins w s ≡ false) × (front_len ws s ≡ 0)
     go true h = absurd (omega (arith, front-yes w ws s h))
     go false h = (h, sym (front-no w ws s h) ∙ e)
-
--- `u` with three bytes behind it, by the tests of the code
-module _ (b c d : ℕ) where
-  pub first-8 : b ≡ 56 → 2 ≡ front_len suffixes1 (117 ∷ b ∷ c ∷ d ∷ [])
-  unfolding suffixes1 front_len begins
-  first-8 e = rw e
-
-  pub first-6 : b ≡ 54 → value_if c 52 3 ≡ front_len suffixes1 (117 ∷ b ∷ c ∷ d ∷ [])
-  unfolding suffixes1 front_len begins value_if
-  first-6 e = rw (e, and-true)
-
-  pub first-none : (b ≡ 56 → ⊥) → (b ≡ 54 → ⊥) → (b ≡ 49 → ⊥) → 0 ≡ front_len suffixes1 (117 ∷ b ∷ c ∷ d ∷ [])
-  unfolding suffixes1 front_len begins
-  first-none x y z = rw (ne_eqb b 56 x, ne_eqb b 54 y, ne_eqb b 49 z)
-
-  pub first-1 : b ≡ 49 → (c ≡ 50 → ⊥) → 0 ≡ front_len suffixes1 (117 ∷ b ∷ c ∷ d ∷ [])
-  unfolding suffixes1 front_len begins
-  first-1 e x = rw (e, ne_eqb c 50 x)
-
-  pub first-12 : b ≡ 49 → c ≡ 50 → value_if d 56 4 ≡ front_len suffixes1 (117 ∷ b ∷ c ∷ d ∷ [])
-  unfolding suffixes1 front_len begins value_if
-  first-12 e f = rw (e, f, and-true)
-
-  pub added-1 : b ≡ 49 → value_if c 54 3 ≡ front_len added_suffixes (117 ∷ b ∷ c ∷ d ∷ [])
-  unfolding added_suffixes front_len begins value_if
-  added-1 e = rw (e, and-true)
-
-  pub added-3 : b ≡ 51 → value_if c 50 3 ≡ front_len added_suffixes (117 ∷ b ∷ c ∷ d ∷ [])
-  unfolding added_suffixes front_len begins value_if
-  added-3 e = rw (e, and-true)
-
-  pub added_none : (b ≡ 49 → ⊥) → (b ≡ 51 → ⊥) → (b ≡ 50 → ⊥) → 0 ≡ front_len added_suffixes (117 ∷ b ∷ c ∷ d ∷ [])
-  unfolding added_suffixes front_len begins
-  added_none x y z = rw (ne_eqb b 49 x, ne_eqb b 51 y, ne_eqb b 50 z)
-
-  pub added-2 : b ≡ 50 → (c ≡ 53 → ⊥) → 0 ≡ front_len added_suffixes (117 ∷ b ∷ c ∷ d ∷ [])
-  unfolding added_suffixes front_len begins
-  added-2 e x = rw (e, ne_eqb c 53 x)
-
-  pub added-25 : b ≡ 50 → c ≡ 53 → value_if d 54 4 ≡ front_len added_suffixes (117 ∷ b ∷ c ∷ d ∷ [])
-  unfolding added_suffixes front_len begins value_if
-  added-25 e f = rw (e, f, and-true)
 
 -- a word that s begins with is no longer than s
 step : (b : Bool) (w : List ℕ) (n : ℕ) (s : List ℕ) → begins w s ≡ b → n ≤ length s → cond b (length w) n ≤ length s

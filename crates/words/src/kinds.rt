@@ -1,4 +1,6 @@
 // The kinds of tokens: the Rust's `Tok`, numbered in its order.
+// A kind is a number: the specification numbers them, and functions that docs/PROMISES.md names, as `put_leaf` of the
+// forms, take a token of any kind.
 pub const EOF: u8 = 0;
 
 pub const NUM_VALUE: u8 = 1;

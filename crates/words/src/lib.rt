@@ -1,7 +1,7 @@
 // The two tables, keywords and marks, the type behind a number and the closing quote of a string.
 #![tactic(auto)]
 
-ghost use Rattle.std.specs.Prelude.{◌≡◌, false, [], ◌∷◌, ◌+◌, ◌-◌, ◌*◌, ◌%◌, ◌^◌, ◌≤◌, ◌<◌, min, length, get_or, take, drop};
+ghost use Rattle.std.specs.Prelude.{◌≡◌, false, [], ◌∷◌, ◌+◌, ◌-◌, ◌*◌, ◌%◌, ◌^◌, ◌≤◌, ◌<◌, min, length, get_or, take, drop, unwrap_or, IfSome};
 ghost use Rattle.std.proofs.Math.Seq.{slice};
 ghost use Rattle.classes.specs.Bytes.{begins};
 ghost use Rattle.words.specs.Tables.{keywords, long_marks, double_marks, single_marks};
@@ -22,21 +22,14 @@ use kinds::{
 
 pub mod kinds;
 
-// The longest mark at a place: its length, 0 where there is none, and the number of its kind.
+// The longest mark at a place: its length and the number of its kind.
 #[derive(Drop)]
 pub struct Fit {
     pub len: usize,
     pub kind: u8,
 }
 
-// The place of the closing quote, or of the end of the line.
-#[derive(Drop)]
-pub enum Quote {
-    Found(usize),
-    Missing(usize),
-}
-
-// The keywords, in rows of nine bytes, filled up with zeros.
+// The keywords, in rows of nine bytes, filled up with zeros, as the specification asks; their kinds stand apart.
 const KEYWORDS: [[u8; 9]; 26] = [
     [b'a', b'b', b'o', b'r', b't', 0, 0, 0, 0],
     [b'a', b'c', b'q', b'u', b'i', b'r', b'e', b's', 0],
@@ -72,7 +65,8 @@ const KEYWORD_KINDS: [u8; 26] = [
     LET, LOOP, MODULE, MOVE, NATIVE, PUBLIC, RETURN, SCRIPT, SPEC, STRUCT, TRUE, USE, WHILE,
 ];
 
-// The marks: five bytes filled up with zeros, the length, the kind; the longer first.
+// The marks, rows as the specification asks: five bytes filled up with zeros, the length, the kind; the longer first.
+// Each length has a search of its own, which leaves out the tests that the others need.
 const MARKS: [[u8; 7]; 37] = [
     [b'&', b'm', b'u', b't', b' ', 5, AMP_MUT],
     [b'<', b'=', b'=', b'>', 0, 4, LESS_EQUAL_EQUAL_GREATER],
@@ -112,42 +106,23 @@ const MARKS: [[u8; 7]; 37] = [
     [b'#', 0, 0, 0, 0, 1, NUM_SIGN],
     [b'@', 0, 0, 0, 0, 1, AT_SIGN],
 ];
-// The edition that knows the later integers; every other number is read as edition 1.
+// The edition that knows the later integers; every other number is read as edition 1. Editions are numbers, since
+// functions that docs/PROMISES.md names, as `tokens::next_token`, take any.
 pub const EDITION_2: u64 = 2;
 
 // Each search below has one loop of fixed bounds and a small body over a copy of its table: the compiler
 // unrolls such a loop, and the table becomes constants in the code.
 
-// The byte j of the n bytes from `at`, and 0 behind them.
-fn byte_of(text: &[u8], at: usize, n: usize, j: usize) -> u8
-    requires { at + n ≤ length text.now }
-    ensures { result ≡ get_or (take n (drop at text.now)) j 0 }
-{
-    if j < n {
-        return text[at + j];
-    }
-    0
-}
-
-// Of the n bytes from `at`, at most nine, the eight behind the first as one number, filled up with zeros.
-fn packed(text: &[u8], at: usize, n: usize) -> u64
-    requires { (at + n ≤ length text.now) × (n ≤ 9) }
-    ensures { result ≡ number (drop 1 (take n (drop at text.now))) }
+// Of at most nine bytes, the eight behind the first as one number, filled up with zeros.
+fn packed(bytes: &[u8]) -> u64
+    requires { length bytes.now ≤ 9 }
+    ensures { result ≡ number (drop 1 bytes.now) }
 {
     let mut v: u64 = 0;
-    let mut j: usize = 9;
-    while 1 < j {
-        j -= 1;
-        v = v * 256 + byte_of(text, at, n, j) as u64;
+    for j in (1..9).rev() {
+        v = v * 256 + u64::from(byte_at(bytes, j));
     }
     v
-}
-
-// The same of a row of keywords.
-fn packed_row(row: [u8; 9]) -> u64
-    ensures { result ≡ number (drop 1 row) }
-{
-    packed(&row, 0, 9)
 }
 
 // Of eight bytes packed in v, the first n: the others are shifted out at the top.
@@ -166,23 +141,21 @@ fn packed_name(text: &[u8], at: usize, n: usize) -> u64
     ensures { result ≡ number (drop 1 (take n (drop at text.now))) }
 {
     if 9 <= text.len() - at {
-        return first_bytes(packed(text, at, 9), n - 1);
+        return first_bytes(packed(&text[at..at + 9]), n - 1);
     }
-    packed(text, at, n)
+    packed(&text[at..at + n])
 }
 
 // How many bytes of a row of keywords stand before its first zero.
 fn row_len(row: [u8; 9]) -> usize
     ensures { result ≡ row_len row }
 {
-    let mut n: usize = 0;
-    while n < 9 {
+    for n in 0..9 {
         if row[n] == 0 {
             return n;
         }
-        n += 1;
     }
-    n
+    9
 }
 
 // The kind of the keyword of n bytes whose first byte is a and whose others are v, or IDENTIFIER: each
@@ -200,16 +173,10 @@ fn keyword_among(
     requires { (rows.now ≡ keyword_rows) × (kinds.now ≡ keyword_kinds) × (hi ≤ 26) }
     ensures { result ≡ packed_kind (slice lo hi keywords) a v n }
 {
-    let mut k: usize = lo;
-    while k < hi {
-        if rows[k][0] == a {
-            if packed_row(rows[k]) == v {
-                if row_len(rows[k]) == n {
-                    return kinds[k];
-                }
-            }
+    for k in lo..hi {
+        if rows[k][0] == a && packed(&rows[k]) == v && row_len(rows[k]) == n {
+            return kinds[k];
         }
-        k += 1;
     }
     IDENTIFIER
 }
@@ -235,17 +202,15 @@ fn keyword_kind(a: u8, v: u64, n: usize) -> u8
     keyword_among(&rows, &row_kinds, 20, 26, a, v, n)
 }
 
-// How many of the n bytes from `at` the text has.
+// How many of the n bytes from `at` the text has. With a saturating subtraction in place of the test a name took
+// six instructions more.
 fn clip(text: &[u8], at: usize, n: usize) -> usize
     ensures { result ≡ min n (length text.now - at) }
 {
     if text.len() <= at {
         return 0;
     }
-    if text.len() - at < n {
-        return text.len() - at;
-    }
-    n
+    n.min(text.len() - at)
 }
 
 // The kind of the name of n bytes at `at`: its keyword's, or IDENTIFIER (get_name_token of the Rust).
@@ -254,30 +219,19 @@ pub fn name_kind(text: &[u8], at: usize, n: usize) -> u8
     ensures { result ≡ kind_of (take n (drop at text.now)) }
 {
     let m = clip(text, at, n);
-    if m < 2 {
-        return IDENTIFIER;
-    }
-    if 9 < m {
+    if m < 2 || 9 < m {
         return IDENTIFIER;
     }
     keyword_kind(text[at], packed_name(text, at, m), m)
 }
 
-fn no_mark() -> Fit
-    ensures { result ≡ no_fit }
-{
-    Fit { len: 0, kind: 0 }
-}
-
 // v where a is b, else 0, which is no mark's kind. A kind that is chosen so and then tested is a
 // constant in the unrolled loop; read behind a test of the bytes, it is read from the copied table.
+// It is no Option<u8>: with one, which is proved too, the token program takes 170 instructions more a mark.
 fn value_if(a: u8, b: u8, v: u8) -> u8
     ensures { result ≡ value_if a b v }
 {
-    if a == b {
-        return v;
-    }
-    0
+    if a == b { v } else { 0 }
 }
 
 // Whether the first n bytes of w stand at `at`.
@@ -285,151 +239,129 @@ fn starts(text: &[u8], at: usize, w: &[u8], n: usize) -> bool
     requires { (0 < n) × (n ≤ length w.now) }
     ensures { result ≡ begins (take n w.now) (drop at text.now) }
 {
-    if text.len() < n {
+    if text.len() < n || text.len() - n < at {
         return false;
     }
-    if text.len() - n < at {
-        return false;
-    }
-    let mut j: usize = 0;
-    while j < n {
+    for j in 0..n {
         if text[at + j] != w[j] {
             return false;
         }
-        j += 1;
     }
     true
 }
 
 // The mark of a row, where it stands at `at`.
-fn row_fit(text: &[u8], at: usize, row: [u8; 7]) -> Fit
+fn row_fit(text: &[u8], at: usize, row: [u8; 7]) -> Option<Fit>
     requires { (0 < get_or row 5 0) × (get_or row 5 0 ≤ 5) }
-    ensures { result ≡ row_fit row (drop at text.now) }
+    ensures fit { unwrap_or result no_fit ≡ row_fit row (drop at text.now) }
+    ensures some { IfSome result (λ f. 0 < f.len) }
 {
-    let n = numbers::wide(row[5]);
-    if starts(text, at, &row, n) {
-        return Fit {
-            len: n,
-            kind: row[6],
-        };
+    let len = usize::from(row[5]);
+    if starts(text, at, &row, len) {
+        return Some(Fit { len, kind: row[6] });
     }
-    no_mark()
+    None
 }
 
 // The first of the rows of three bytes and more that fits at `at`, where the byte a stands.
-fn long_mark(text: &[u8], at: usize, a: u8) -> Fit
+fn long_mark(text: &[u8], at: usize, a: u8) -> Option<Fit>
     requires { a ≡ get_or text.now at 0 }
-    ensures { result ≡ first_fit long_marks (drop at text.now) }
+    ensures fit { unwrap_or result no_fit ≡ first_fit long_marks (drop at text.now) }
+    ensures some { IfSome result (λ f. 0 < f.len) }
 {
     let rows = MARKS;
-    let mut k: usize = 0;
-    while k < 3 {
+    for k in 0..3 {
         if rows[k][0] == a {
-            let fit = row_fit(text, at, rows[k]);
-            if fit.len != 0 {
-                return fit;
+            if let Some(f) = row_fit(text, at, rows[k]) {
+                return Some(f);
             }
         }
-        k += 1;
     }
-    no_mark()
+    None
 }
 
 // The first of the rows of two bytes that are a and b.
-fn double_mark(a: u8, b: u8) -> Fit
-    ensures { result ≡ first_fit double_marks (a ∷ b ∷ []) }
+fn double_mark(a: u8, b: u8) -> Option<Fit>
+    ensures fit { unwrap_or result no_fit ≡ first_fit double_marks (a ∷ b ∷ []) }
+    ensures some { IfSome result (λ f. 0 < f.len) }
 {
     let rows = MARKS;
-    let mut k: usize = 3;
-    while k < 13 {
+    for k in 3..13 {
         if rows[k][0] == a {
             let kind = value_if(b, rows[k][1], rows[k][6]);
             if kind != 0 {
-                return Fit { len: 2, kind: kind };
+                return Some(Fit { len: 2, kind });
             }
         }
-        k += 1;
     }
-    no_mark()
+    None
 }
 
 // The first of the rows of one byte that is a.
-fn single_mark(a: u8) -> Fit
-    ensures { result ≡ first_fit single_marks (a ∷ []) }
+fn single_mark(a: u8) -> Option<Fit>
+    ensures fit { unwrap_or result no_fit ≡ first_fit single_marks (a ∷ []) }
+    ensures some { IfSome result (λ f. 0 < f.len) }
 {
     let rows = MARKS;
-    let mut k: usize = 13;
-    while k < 37 {
+    for k in 13..37 {
         let kind = value_if(a, rows[k][0], rows[k][6]);
         if kind != 0 {
-            return Fit { len: 1, kind: kind };
+            return Some(Fit { len: 1, kind });
         }
-        k += 1;
     }
-    no_mark()
+    None
 }
 
 // The longest mark at `at` (find_token of the Rust): the first row of the table that fits. The search
 // is cut by the length of the rows.
-pub fn mark_at(text: &[u8], at: usize) -> Fit
-    ensures { result ≡ mark_of (drop at text.now) }
+pub fn mark_at(text: &[u8], at: usize) -> Option<Fit>
+    ensures fit { unwrap_or result no_fit ≡ mark_of (drop at text.now) }
+    ensures some { IfSome result (λ f. 0 < f.len) }
 {
     if text.len() <= at {
-        return no_mark();
+        return None;
     }
     let a = text[at];
     let b = byte_at(text, at + 1);
-    let long = long_mark(text, at, a);
-    if long.len != 0 {
-        return long;
+    if let Some(f) = long_mark(text, at, a) {
+        return Some(f);
     }
-    let double = double_mark(a, b);
-    if double.len != 0 {
-        return double;
+    if let Some(f) = double_mark(a, b) {
+        return Some(f);
     }
     single_mark(a)
 }
 
-// The length of the type of edition 1 that is `u` with b, c and d behind it, or begins so; 0 for none.
+// The length of the type of edition 1 that is `u` with b, c and d behind it, or begins so; 0 for none. It is no
+// Option: a length, which tokens adds to a place, and `suffix_len` and `front_len` are definitions that give it.
+#[tactic(auto, unfolding(crate::specs::Search::front_len, crate::specs::Search::suffixes1, classes::specs::Bytes::begins))]
 fn first_suffix(b: u8, c: u8, d: u8) -> u8
     ensures { result ≡ front_len suffixes1 (117 ∷ b ∷ c ∷ d ∷ []) }
 {
-    if b == b'8' {
-        return 2;
+    match (b, c, d) {
+        (b'8', _, _) => 2,
+        (b'6', b'4', _) => 3,
+        (b'1', b'2', b'8') => 4,
+        _ => 0,
     }
-    if b == b'6' {
-        return value_if(c, b'4', 3);
-    }
-    if b != b'1' {
-        return 0;
-    }
-    if c != b'2' {
-        return 0;
-    }
-    value_if(d, b'8', 4)
 }
 
-// The same of the types that edition 2 adds.
+// The same of the types that edition 2 adds, and no Option for the same reason.
+#[tactic(auto, unfolding(crate::specs::Search::front_len, crate::specs::code::Rows::added_suffixes, classes::specs::Bytes::begins))]
 fn added_suffix(b: u8, c: u8, d: u8) -> u8
     ensures { result ≡ front_len added_suffixes (117 ∷ b ∷ c ∷ d ∷ []) }
 {
-    if b == b'1' {
-        return value_if(c, b'6', 3);
+    match (b, c, d) {
+        (b'1', b'6', _) => 3,
+        (b'3', b'2', _) => 3,
+        (b'2', b'5', b'6') => 4,
+        _ => 0,
     }
-    if b == b'3' {
-        return value_if(c, b'2', 3);
-    }
-    if b != b'2' {
-        return 0;
-    }
-    if c != b'5' {
-        return 0;
-    }
-    value_if(d, b'6', 4)
 }
 
 // The length of the type at `at` in an edition, 0 where there is none (get_number_maybe_with_suffix of the
-// Rust). Most numbers have none, which one byte tells.
+// Rust). Most numbers have none, which one byte tells. It is no Option: a length, which tokens adds to a place, and
+// `suffix_len` and `front_len` are definitions that give it.
 pub fn suffix_len(edition: u64, text: &[u8], at: usize) -> usize
     ensures { result ≡ suffix_len edition (drop at text.now) }
 {
@@ -454,38 +386,25 @@ fn ends_line(text: &[u8], i: usize) -> bool
     requires { i < length text.now }
     ensures { result ≡ ends_line (get_or text.now i 0) (get_or text.now (i + 1) 0) }
 {
-    let a = text[i];
-    if a == b'\n' {
-        return true;
-    }
-    if a == b'\r' {
-        return byte_at(text, i + 1) == b'\n';
-    }
-    false
+    text[i] == b'\n' || text[i] == b'\r' && byte_at(text, i + 1) == b'\n'
 }
 
-// The closing quote from `at` on (get_string_len of the Rust).
-pub fn closing_quote(text: &[u8], at: usize) -> Quote
+// The closing quote from `at` on, or the end of the line, where it has none (get_string_len of the Rust).
+pub fn closing_quote(text: &[u8], at: usize) -> Result<usize, usize>
     ensures { result ≡ quote_from false at (drop at text.now) }
 {
-    let mut i = at;
-    let mut skip = false;
-    while i < text.len() {
+    let mut escaped = false;
+    for i in at..text.len() {
         if ends_line(text, i) {
-            return Quote::Missing(i);
+            return Err(i);
         }
-        let a = text[i];
-        if skip {
-            skip = false;
-            i += 1;
-        } else if a == b'\\' {
-            skip = true;
-            i += 1;
-        } else if a == b'"' {
-            return Quote::Found(i);
+        if escaped {
+            escaped = false;
+        } else if text[i] == b'"' {
+            return Ok(i);
         } else {
-            i += 1;
+            escaped = text[i] == b'\\';
         }
     }
-    Quote::Missing(i)
+    Err(at.max(text.len()))
 }

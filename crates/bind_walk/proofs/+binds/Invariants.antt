@@ -28,8 +28,8 @@ decreases-parse_bind_field l = 7 * (length l.text.now - l.a.end) + 1
 abbrev pub decreases-unpack_at : goal.decreases-unpack_at
 decreases-unpack_at l = 7 * (length l.text.now - l.n.end) + 5
 
-abbrev pub invariant-field_list-loop-r : goal.invariant-field_list-loop-r
-invariant-field_list-loop-r l = Going l.w.form l.w.edition l.text (field_at l.w.left) RBrace l.o l.initial.to l.initial.out l.i l.to l.count l.out
+abbrev pub invariant-field_list-loop-q : goal.invariant-field_list-loop-q
+invariant-field_list-loop-q l = Going l.w.form l.w.edition l.text (field_at l.w.left) RBrace l.o l.initial.to l.initial.out l.i l.to l.count l.out
 
-abbrev pub decreases-field_list-loop-r : goal.decreases-field_list-loop-r
-decreases-field_list-loop-r l = length l.text - l.i
+abbrev pub decreases-field_list-loop-q : goal.decreases-field_list-loop-q
+decreases-field_list-loop-q l = length l.text - l.i

@@ -1,11 +1,10 @@
 -- Pieces of bindings as they are laid down, and contracts of functions that read a part of a binding.
-use Rattle.std.specs.Prelude.{ℕ, ◌≡◌, Bool, false, cond, not, ◌||◌, List, [], ◌∷◌, ◌++◌, eqb, length}
+use Rattle.std.specs.Prelude.{ℕ, ◌≡◌, Bool, false, cond, not, ◌||◌, List, [], ◌∷◌, ◌++◌, eqb, length, Result, Ok, Err}
 use Rattle.std.proofs.lemmas.List.Edits.{sets}
 use Rattle.classes.specs.Bytes.{bytes}
 use Rattle.words.specs.Kinds.{Identifier, Colon, ColonColon, Less, Greater, LBrace}
 use Rattle.tokens.specs.Calls.{next_token}
 use Rattle.tokens.specs.declared.Token.{Token}
-use Rattle.tokens.specs.declared.Lexed.TheVariants.{Found}
 use Rattle.records.specs.Kinds.{RecName, RecVariable}
 use Rattle.records.specs.Tree.{Tree, Trees}
 use Rattle.sources.specs.Source.{Lexeme, after, lex}
@@ -17,11 +16,10 @@ use Rattle.forms.specs.code.Constructs.{mark_in, laid_items}
 use Rattle.forms.specs.code.Spots.{moved_by, sealed}
 use Rattle.forms.specs.declared.Spot.{Spot}
 use Rattle.parts.specs.declared.Part.{Part}
-use Rattle.parts.specs.declared.Parsed.{Parsed}
-use Rattle.parts.specs.declared.Parsed.TheVariants.{Read, Refused}
 use Rattle.parts.specs.declared.Way.{Way}
 use Rattle.parts.specs.code.Meets.{held, Reads, ReadsBy}
 use Rattle.chains.specs.code.Parts.{leaf_at, Past}
+use Rattle.tokens.specs.declared.Refusal.{Refusal}
 
 -- the kind of the token behind an identifier: the binding is no variable
 abbrev pub struct_kind : ℕ → Bool
@@ -54,25 +52,25 @@ abbrev pub braced : ℕ → Trees → List ℕ
 braced f fs = enclosed f (bytes " {") 125 (laid_items f fs)
 
 -- a part with a mark of one byte behind it: the answer, and the buffer
-unfoldable pub ended_by : ℕ → ℕ → Parsed → Parsed
-ended_by f b (Read p) = Read (record { to = moved_by p.to (length (mark_in f (b ∷ []))); end = p.end; next = p.next })
-ended_by f b (Refused r) = Refused r
+unfoldable pub ended_by : ℕ → ℕ → Result Part Refusal → Result Part Refusal
+ended_by f b (Ok p) = Ok (record { to = moved_by p.to (length (mark_in f (b ∷ []))); end = p.end; next = p.next })
+ended_by f b (Err r) = Err r
 
-unfoldable pub marked_by : ℕ → ℕ → Parsed → List ℕ → List ℕ
-marked_by f b (Read p) l = sets l p.to.pos (mark_in f (b ∷ []))
-marked_by f b (Refused r) l = l
+unfoldable pub marked_by : ℕ → ℕ → Result Part Refusal → List ℕ → List ℕ
+marked_by f b (Ok p) l = sets l p.to.pos (mark_in f (b ∷ []))
+marked_by f b (Err r) l = l
 
 -- the buffer with the head of a record of kind k that starts at s and whose last part is p
-unfoldable pub headed_by : ℕ → ℕ → ℕ → Spot → Parsed → List ℕ → List ℕ
-headed_by f k start s (Read p) l = sealed f k start p.end s p.to l
-headed_by f k start s (Refused r) l = l
+unfoldable pub headed_by : ℕ → ℕ → ℕ → Spot → Result Part Refusal → List ℕ → List ℕ
+headed_by f k start s (Ok p) l = sealed f k start p.end s p.to l
+headed_by f k start s (Err r) l = l
 
 -- the contract of a function that is given a field's name a, and n: what the field binds, where n stands behind a
-abbrev pub ReadsBound : Way → List ℕ → Token → Token → Spot → List ℕ → Parsed → List ℕ → Type 0
-ReadsBound w text a n s l r m = next_token w.edition text a.end ≡ Found n → Reads w text (λ t. bound_by w.left t (held w.edition text n)) a s l r m
+abbrev pub ReadsBound : Way → List ℕ → Token → Token → Spot → List ℕ → Result Part Refusal → List ℕ → Type 0
+ReadsBound w text a n s l r m = next_token w.edition text a.end ≡ Ok n → Reads w text (λ t. bound_by w.left t (held w.edition text n)) a s l r m
 
 -- the types of a struct behind its name p: none where no `<` stands there; and, whatever stands there, reading does not go on before it
-pub record TypesBehind (w : Way) (text : List ℕ) (p : Part) (l : List ℕ) (r : Parsed) (m : List ℕ) : Type 0 where
-  pub plain : ((p.next.kind ≡ Less → ⊥) → (r ≡ Read p) × (m ≡ l))
+pub record TypesBehind (w : Way) (text : List ℕ) (p : Part) (l : List ℕ) (r : Result Part Refusal) (m : List ℕ) : Type 0 where
+  pub plain : ((p.next.kind ≡ Less → ⊥) → (r ≡ Ok p) × (m ≡ l))
   pub typed : (p.next.kind ≡ Less → ReadsBy (angled w.form) w.edition text (list_behind (read_type w.left) Greater) p.next p.to l r m)
   pub past : Past p.next.end r

@@ -1,18 +1,18 @@
-use Rattle.grammar.specs.Items.{asked}
-use Rattle.calls.proofs.Answers.{call-faulty, call-bad, call-found}
+use Rattle.calls.specs.code.Given.{asks}
+use Rattle.calls.proofs.Answers.{calls-handed, call-faulty, call-bad, call-found}
 use Rattle.calls.proofs.call.Goals as goal
 
-pub returns-in-Faulty : goal.returns-in-Faulty
-returns-in-Faulty c =
+pub returns-in_err-kind : goal.returns-in_err-kind
+returns-in_err-kind c =
     let x = c.args in
-    call-faulty x.form (asked x.kind x.edition x.text.now x.at) x.first x.out.now _ c.fault-f.ensures _ c.in-Faulty.is
+    calls-handed _ _ _ _ _ _ _ c.from_residual.ensures (call-faulty x.form (asks x.q) x.first x.out.now _ c.in_err-kind.ensures)
 
-pub returns-in-Refused : goal.returns-in-Refused
-returns-in-Refused c =
+pub returns-in_err-first : goal.returns-in_err-first
+returns-in_err-first c =
     let x = c.args in
-    call-bad x.form (asked x.kind x.edition x.text.now x.at) x.first x.out.now _ c.fault-f.ensures c.in-Faultless.is _ c.in-Refused.is
+    calls-handed _ _ _ _ _ _ _ c.from_residual-in_err-first.ensures (call-bad x.form (asks x.q) x.first x.out.now c.in_ok-kind.ensures.0 _ c.in_err-first.was)
 
-pub returns-in-Found : goal.returns-in-Found
-returns-in-Found c =
+pub returns : goal.returns
+returns c =
     let x = c.args in
-    call-found x.form (asked x.kind x.edition x.text.now x.at) x.first x.out.now _ c.fault-f.ensures c.in-Faultless.is _ _ _ c.in-Found.is c.lay_item.ensures
+    call-found x.form (asks x.q) x.first x.out.now c.in_ok-kind.ensures.0 _ c.in_ok-kind.ensures.1 _ _ _ c.in_ok-first.was c.lay_item.ensures

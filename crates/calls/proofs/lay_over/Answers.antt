@@ -1,35 +1,37 @@
-use mathlib.Core.Path.{refl}
-use Rattle.grammar.specs.Items.{asked}
-use Rattle.calls.specs.code.Given.{answer_of, buffer_of}
-use Rattle.calls.proofs.Answers.{lay-refused, lay-longer, lay-long, lay_done}
+use mathlib.Core.Path.{refl, ap}
+use Rattle.std.specs.Prelude.{Err}
+use Rattle.calls.specs.code.Given.{sought, answer_of, buffer_of}
+use Rattle.calls.proofs.Answers.{lays-handed, lay-refused, lay-longer, lay-long, lay_done}
 use Rattle.calls.proofs.lay_over.Goals as goal
 
-pub returns-then-made-to : goal.returns-then-made-to
-unfolding answer_of buffer_of
-returns-then-made-to c =
-    let laid = c.lay_down-d in
+pub returns-in_err-p : goal.returns-in_err-p
+returns-in_err-p c =
     let x = c.args in
-    lay-longer x.form (asked x.kind x.edition x.text.now x.a.start) x.a x.made.now _ x.out.now _ _ laid.ensures c.in-Read.is _ _ c.lay_longer-r.ensures
+    lays-handed x.form (sought x.q) x.a _ _ _ _ _ c.from_residual.ensures
+    (lay-refused x.form (sought x.q) x.a x.made.now _ x.out.now _ _ c.lay_down.ensures c.in_err-p.was)
 
-pub returns-then-out-to : goal.returns-then-out-to
-unfolding answer_of buffer_of
-returns-then-out-to c =
-    let laid = c.lay_down-d in
+pub returns-in_err-longer : goal.returns-in_err-longer
+returns-in_err-longer c =
     let x = c.args in
-    lay-long x.form (asked x.kind x.edition x.text.now x.a.start) x.a x.made.now _ x.out.now _ _ laid.ensures c.in-Read.is c.requires laid.auto.out
-    c.if-made-to.false _ c.if-out-to.true c.refused.ensures
+    lays-handed x.form (sought x.q) x.a _ _ _ _ _ c.from_residual-in_err-longer.ensures
+    (lay-longer x.form (sought x.q) x.a x.made.now _ x.out.now _ _ c.lay_down.ensures c.in_ok-p.was _ _ c.in_err-longer.ensures)
 
-pub returns-in-Refused : goal.returns-in-Refused
+pub returns-then-made-len : goal.returns-then-made-len
 unfolding answer_of buffer_of
-returns-in-Refused c =
-    let laid = c.lay_down-d in
+returns-then-made-len c =
     let x = c.args in
-    lay-refused x.form (asked x.kind x.edition x.text.now x.a.start) x.a x.made.now _ x.out.now _ _ laid.ensures c.in-Refused.is
+    lay-longer x.form (sought x.q) x.a x.made.now _ x.out.now _ _ c.lay_down.ensures c.in_ok-p.was _ _ c.in_ok-longer.ensures
 
-pub returns-else-out-to : goal.returns-else-out-to
+pub returns-then-out-len : goal.returns-then-out-len
 unfolding answer_of buffer_of
-returns-else-out-to c =
-    let laid = c.lay_down-d in
+returns-then-out-len c =
     let x = c.args in
-    lay_done x.form (asked x.kind x.edition x.text.now x.a.start) x.a x.made.now _ x.out.now _ _ laid.ensures c.in-Read.is c.requires laid.auto.out
-    c.if-made-to.false _ c.if-out-to.false refl
+    lay-long x.form (sought x.q) x.a x.made.now _ x.out.now _ _ c.lay_down.ensures c.in_ok-p.was c.requires c.lay_down.auto.out
+    c.if-made-len.false _ c.if-out-len.true (ap Err c.refuse.ensures)
+
+pub returns : goal.returns
+unfolding answer_of buffer_of
+returns c =
+    let x = c.args in
+    lay_done x.form (sought x.q) x.a x.made.now _ x.out.now _ _ c.lay_down.ensures c.in_ok-p.was c.requires c.lay_down.auto.out
+    c.if-made-len.false _ c.if-out-len.false refl

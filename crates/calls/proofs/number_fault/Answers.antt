@@ -1,19 +1,23 @@
-use mathlib.Core.Path.{◌∙◌, sym, ap}
-use Rattle.tokens.specs.declared.Fault.TheVariants.{Faulty}
-use Rattle.tokens.proofs.Faults.{first-faulty, first-faultless, faulty-if, not-if}
+use Rattle.std.proofs.Common.{rules}
+use Rattle.tokens.specs.Calls.{◌or_else◌}
 use Rattle.grammar.specs.Items.{number_fault}
+use Rattle.calls.proofs.Answers.{kind-numbered, admits-no}
 use Rattle.calls.proofs.number_fault.Goals as goal
 
-pub returns-then-no_kind : goal.returns-then-no_kind
-unfolding number_fault
-returns-then-no_kind c =
-    ap Faulty c.refuse.ensures ∙ first-faulty _ _ _ (faulty-if _ _ (sym c.no_kind.ensures ∙ c.if-no_kind.true)) ∙ first-faultless _ _ (sym c.place_fault-f.ensures ∙ c.in-Faultless.is)
+pub returns-in_err-place_fault : goal.returns-in_err-place_fault
+unfolding number_fault ◌or_else◌
+returns-in_err-place_fault c = admits-no _ _ _ _ c.from_residual.ensures (search rules)
 
-pub returns-in-Faulty : goal.returns-in-Faulty
-unfolding number_fault
-returns-in-Faulty c = first-faulty _ _ _ (sym c.place_fault-f.ensures ∙ c.in-Faulty.is)
+pub returns-in_err-kind : goal.returns-in_err-kind
+unfolding number_fault ◌or_else◌
+returns-in_err-kind c = admits-no _ _ _ _ c.from_residual-in_err-kind.ensures (search rules)
 
-pub returns-else-no_kind : goal.returns-else-no_kind
-unfolding number_fault
-returns-else-no_kind c =
-    c.edition_fault.ensures ∙ first-faultless _ _ (not-if _ _ (sym c.no_kind.ensures ∙ c.if-no_kind.false)) ∙ first-faultless _ _ (sym c.place_fault-f.ensures ∙ c.in-Faultless.is)
+pub returns-in_err-edition_fault : goal.returns-in_err-edition_fault
+unfolding number_fault ◌or_else◌
+returns-in_err-edition_fault c =
+    let h = kind-numbered _ _ c.in_ok-kind.ensures in
+    admits-no _ _ _ _ c.from_residual-in_err-edition_fault.ensures (search rules)
+
+pub returns : goal.returns
+unfolding number_fault ◌or_else◌
+returns c = let h = kind-numbered _ _ c.in_ok-kind.ensures in (search rules, c.in_ok-kind.ensures)

@@ -3,32 +3,17 @@ use Rattle.parts.proofs.Contracts.{reads_as}
 use Rattle.calls.proofs.Answers.{kind-name, kind-value, kind-type, kind-bind, kind-lambda}
 use Rattle.calls.proofs.parse_item.Goals as goal
 
-pub returns-then-kind-eq-NAME : goal.returns-then-kind-eq-NAME
-returns-then-kind-eq-NAME c =
-    let x = c.args in
-    reads_as (omega arith) (λ f. f) (λ _. kind-name x.kind _ c.if-kind-eq-NAME.true)
-    c.parse_name_access_chain.ensures
+pub returns-in-Name : goal.returns-in-Name
+returns-in-Name c = reads_as (omega arith) (λ f. f) (λ _. kind-name c.args.q.kind _ c.in-Name.is) c.parse_name_access_chain.ensures
 
-pub returns-then-kind-eq-VALUE : goal.returns-then-kind-eq-VALUE
-returns-then-kind-eq-VALUE c =
-    let x = c.args in
-    reads_as (omega arith) (λ f. f) (λ _. kind-value x.kind _ c.if-kind-eq-NAME.false c.if-kind-eq-VALUE.true)
-    c.maybe_parse_value.ensures
+pub returns-in-Value : goal.returns-in-Value
+returns-in-Value c = reads_as (omega arith) (λ f. f) (λ _. kind-value c.args.q.kind _ c.in-Value.is) c.maybe_parse_value.ensures
 
-pub returns-then-kind-eq-TYPE : goal.returns-then-kind-eq-TYPE
-returns-then-kind-eq-TYPE c =
-    let x = c.args in
-    reads_as (omega arith) (λ f. f) (λ _. kind-type x.kind _ c.if-kind-eq-NAME.false c.if-kind-eq-VALUE.false c.if-kind-eq-TYPE.true)
-    c.parse_type.ensures
+pub returns-in-Type : goal.returns-in-Type
+returns-in-Type c = reads_as (omega arith) (λ f. f) (λ _. kind-type c.args.q.kind _ c.in-Type.is) c.parse_type.ensures
 
-pub returns-then-kind-eq-BIND_LIST : goal.returns-then-kind-eq-BIND_LIST
-returns-then-kind-eq-BIND_LIST c =
-    let x = c.args in
-    reads_as (omega arith) (λ f. f) (λ _. kind-bind x.kind _ c.if-kind-eq-NAME.false c.if-kind-eq-VALUE.false c.if-kind-eq-TYPE.false c.if-kind-eq-BIND_LIST.true)
-    c.parse_bind_list.ensures
+pub returns-in-BindList : goal.returns-in-BindList
+returns-in-BindList c = reads_as (omega arith) (λ f. f) (λ _. kind-bind c.args.q.kind _ c.in-BindList.is) c.parse_bind_list.ensures
 
-pub returns : goal.returns
-returns c =
-    let x = c.args in
-    reads_as (omega arith) (λ f. f) (λ _. kind-lambda x.kind _ c.if-kind-eq-NAME.false c.if-kind-eq-VALUE.false c.if-kind-eq-TYPE.false c.if-kind-eq-BIND_LIST.false)
-    c.parse_lambda_bind_list.ensures
+pub returns-in-LambdaBindList : goal.returns-in-LambdaBindList
+returns-in-LambdaBindList c = reads_as (omega arith) (λ f. f) (λ _. kind-lambda c.args.q.kind _ c.in-LambdaBindList.is) c.parse_lambda_bind_list.ensures

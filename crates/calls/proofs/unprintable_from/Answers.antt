@@ -1,14 +1,14 @@
-use mathlib.Core.Path.{sym, ap, ◌∙◌}
-use Rattle.grammar.specs.Items.{asked}
+use mathlib.Core.Path.{◌∙◌, sym, ap}
+use Rattle.calls.specs.code.Given.{asks}
 use Rattle.calls.proofs.Answers.{said_of, unprintable-given}
 use Rattle.calls.proofs.unprintable_from.Goals as goal
 
-pub returns-in-Refused : goal.returns-in-Refused
-returns-in-Refused c =
+pub returns-in-Ok : goal.returns-in-Ok
+returns-in-Ok c =
     let x = c.args in
-    unprintable-given (asked x.kind x.edition x.text.now x.at) x.first x.q _ _ _ _ c.call-d.ensures (c.replaced.ensures ∙ ap (said_of x.q) (sym c.in-Refused.is))
+    unprintable-given (asks x.q) x.first x.u _ _ _ _ c.call.ensures (ap (said_of x.u) (sym c.in-Ok.is))
 
-pub returns-in-Item : goal.returns-in-Item
-returns-in-Item c =
+pub returns-in-Err : goal.returns-in-Err
+returns-in-Err c =
     let x = c.args in
-    unprintable-given (asked x.kind x.edition x.text.now x.at) x.first x.q _ _ _ _ c.call-d.ensures (ap (said_of x.q) (sym c.in-Item.is))
+    unprintable-given (asks x.q) x.first x.u _ _ _ _ c.call.ensures (c.replaced.ensures ∙ ap (said_of x.u) (sym c.in-Err.is))

@@ -1,8 +1,16 @@
-use Rattle.carried.proofs.Carrying.{carry-faulty, carry-faultless}
+use Rattle.std.proofs.Common.{rules}
+use Rattle.tokens.specs.Calls.{◌or_else◌}
+use Rattle.carried.specs.Carry.{carry_fault}
 use Rattle.carried.proofs.carry_fault.Goals as goal
 
-pub returns-in-Faulty : goal.returns-in-Faulty
-returns-in-Faulty c = carry-faulty _ _ _ c.walk_fault-f.ensures _ c.in-Faulty.is
+pub returns-in_err-walk_fault : goal.returns-in_err-walk_fault
+unfolding carry_fault ◌or_else◌
+returns-in_err-walk_fault c = search rules
 
-pub returns-in-Faultless : goal.returns-in-Faultless
-returns-in-Faultless c = carry-faultless _ _ _ c.walk_fault-f.ensures c.in-Faultless.is _ c.later_fault.ensures
+pub returns-in_err-walk_fault-2 : goal.returns-in_err-walk_fault-2
+unfolding carry_fault ◌or_else◌
+returns-in_err-walk_fault-2 c = search rules
+
+pub returns : goal.returns
+unfolding carry_fault ◌or_else◌
+returns c = search rules

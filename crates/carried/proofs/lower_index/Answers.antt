@@ -7,4 +7,4 @@ returns-then-good c = rw c.if-good.true
 
 pub returns : goal.returns
 unfolding lower
-returns c = rw c.if-good.false c.smaller.ensures
+returns c = rw c.if-good.false c.min.ensures

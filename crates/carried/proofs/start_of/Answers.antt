@@ -3,10 +3,10 @@ use Rattle.carried.specs.code.Passes.{start_of}
 use borrow.Author.Rules.{rules}
 use Rattle.carried.proofs.start_of.Goals as goal
 
-pub returns-in-Found : goal.returns-in-Found
+pub returns-in-Ok : goal.returns-in-Ok
 unfolding start_of
-returns-in-Found c = sym (ap start_of c.in-Found.is)
+returns-in-Ok c = sym (ap start_of c.in-Ok.is)
 
-pub returns-in-Refused : goal.returns-in-Refused
+pub returns-in-Err : goal.returns-in-Err
 unfolding start_of
-returns-in-Refused c = search rules
+returns-in-Err c = search rules

@@ -1,8 +1,9 @@
+use Rattle.std.proofs.Common.{rules}
 use Rattle.carried.proofs.Passes.{walk-met}
 use Rattle.carried.proofs.walk_fault.Goals as goal
 
-pub returns-in-Refused : goal.returns-in-Refused
-returns-in-Refused c = walk-met _ _ _ c.step_to-s.ensures _ c.in-Refused.is
+pub returns-in_err-step_to : goal.returns-in_err-step_to
+returns-in_err-step_to c = let h = walk-met _ _ _ c.step_to.ensures _ c.in_err-step_to.was in search rules
 
-pub returns-in-Found : goal.returns-in-Found
-returns-in-Found c = walk-met _ _ _ c.step_to-s.ensures _ c.in-Found.is
+pub returns : goal.returns
+returns c = let h = walk-met _ _ _ c.step_to.ensures _ c.in_ok-step_to.was in search rules

@@ -1,21 +1,19 @@
 -- What the passes over the notes answer. They go through the entries in rising order of their offsets.
-use Rattle.std.specs.Prelude.{ℕ, min, ◌<◌, ◌≤◌, ◌≡◌, Bool, true, false, cond, List, map, eqb, leb, ltb, length, get_or}
-use Rattle.tokens.specs.Calls.{◌or_else◌}
+use Rattle.std.specs.Prelude.{ℕ, min, ◌<◌, ◌≤◌, ◌≡◌, Bool, true, false, cond, List, map, eqb, leb, ltb, length, get_or, Result, Ok, Err}
 use Rattle.tokens.specs.Walk.{Listed, tokens_at}
-use Rattle.tokens.specs.declared.Fault.{Fault}
-use Rattle.tokens.specs.declared.Lexed.{Lexed}
-use Rattle.tokens.specs.declared.Lexed.TheVariants.{Found, Refused}
-use Rattle.carried.specs.Carry.{refusal_of, is_start, bad_note}
+use Rattle.carried.specs.Carry.{is_start}
 use Rattle.carried.specs.Promised.{ToEOF}
+use Rattle.tokens.specs.declared.Token.{Token}
+use Rattle.tokens.specs.declared.Refusal.{Refusal}
 
 -- what the walk met starts at x; and where it starts
-unfoldable pub begins_at : Lexed → ℕ → Bool
-begins_at (Found t) x = eqb t.start x
-begins_at (Refused r) x = false
+unfoldable pub begins_at : Result Token Refusal → ℕ → Bool
+begins_at (Ok t) x = eqb t.start x
+begins_at (Err r) x = false
 
-unfoldable pub start_of : Lexed → ℕ
-start_of (Found t) = t.start
-start_of (Refused r) = 0
+unfoldable pub start_of : Result Token Refusal → ℕ
+start_of (Ok t) = t.start
+start_of (Err r) = 0
 
 -- of two indices that of the least entry that is at least p: k, unless it is the list's length, and i
 unfoldable pub lesser : ℕ → List ℕ → (k i : ℕ) → ℕ
@@ -51,7 +49,3 @@ exchanged x v y = cond (eqb y x) v y
 
 abbrev pub replaced : (x v : ℕ) → List ℕ → List ℕ
 replaced x v notes = map (exchanged x v) notes
-
--- the faults behind that of edition 1
-unfoldable pub later_fault : List ℕ → List ℕ → Fault
-later_fault text notes = refusal_of (tokens_at 2 text 0) or_else bad_note (tokens_at 1 text 0) 0 notes

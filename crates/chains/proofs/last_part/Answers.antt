@@ -1,4 +1,6 @@
-use mathlib.Core.Path.{sym, ◌∙◌}
+use mathlib.Core.Path.{sym, ◌∙◌, ap}
+use Rattle.std.specs.Prelude.{Err}
+use Rattle.parts.proofs.Contracts.{reads-handed}
 use Rattle.chains.proofs.Names.{last-bad, last-other, last-three}
 use Rattle.chains.proofs.last_part.Goals as goal
 
@@ -6,17 +8,18 @@ pub returns-then-c-ne-IDENTIFIER : goal.returns-then-c-ne-IDENTIFIER
 returns-then-c-ne-IDENTIFIER c =
     let x = c.args in
     last-other x.w.form x.w.edition x.text.now x.s x.out.now _ x.a x.b x.d _ _
-    (sym c.next_token-l.ensures ∙ c.in-Found.is) c.if-c-ne-IDENTIFIER.true
-    c.unexpected.ensures
+    (sym c.behind.ensures ∙ c.in_ok-c.was) c.if-c-ne-IDENTIFIER.true
+    (ap Err c.unexpected.ensures)
 
-pub returns-in-Refused : goal.returns-in-Refused
-returns-in-Refused c =
+pub returns-in_err-c : goal.returns-in_err-c
+returns-in_err-c c =
     let x = c.args in
-    last-bad x.w.form x.w.edition x.text.now x.s x.out.now _ x.a x.b x.d _ (sym c.next_token-l.ensures ∙ c.in-Refused.is)
+    reads-handed _ _ c.from_residual.ensures
+    (last-bad x.w.form x.w.edition x.text.now x.s x.out.now _ x.a x.b x.d _ (sym c.behind.ensures ∙ c.in_err-c.was))
 
-pub returns-else-c-ne-IDENTIFIER : goal.returns-else-c-ne-IDENTIFIER
-returns-else-c-ne-IDENTIFIER c =
+pub returns : goal.returns
+returns c =
     let x = c.args in
     last-three x.w.form x.w.edition x.text.now x.s x.out.now _ x.a x.b x.d _ _ _
-    (sym c.next_token-l.ensures ∙ c.in-Found.is)
+    (sym c.behind.ensures ∙ c.in_ok-c.was)
     c.if-c-ne-IDENTIFIER.false c.put_three-to.ensures c.finish.ensures

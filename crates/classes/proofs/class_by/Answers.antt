@@ -2,4 +2,4 @@ use Rattle.classes.proofs.Search.{entry_read}
 use Rattle.classes.proofs.class_by.Goals as goal
 
 pub returns : goal.returns
-returns c = entry_read _ _ c.requires c.ranges.b.fits
+returns c = rw c.from.ensures (entry_read _ _ c.requires c.ranges.b.fits)

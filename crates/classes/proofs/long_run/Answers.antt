@@ -9,6 +9,7 @@ use Rattle.classes.specs.Class.{in_class}
 use Rattle.classes.specs.Run.{run_end}
 use Rattle.classes.proofs.Runs.{run_past, run_out, run_in}
 use Rattle.classes.proofs.Search.{class-bit}
+use Rattle.classes.proofs.long_run.Goals.{else-i-text-via-then-i-text+else-has, else-i-text-via-else-i-text}
 use Rattle.classes.proofs.long_run.Goals as goal
 
 -- a byte of the class, and what its neighbour says; the test is v, or w of the neighbour
@@ -42,25 +43,25 @@ pub returns-then-not-has : goal.returns-then-not-has
 returns-then-not-has c =
     let text = c.args.text.now in
     sym (c.loop-i.invariant
-    ∙ at-end _ text _ (omega (arith, c.loop-i-test.true, c.less-last.ensures)) _
+    ∙ at-end _ text _ (omega (arith, c.loop-i-test.true, c.saturating_sub-last.ensures)) _
     (class-bit _ _ _ _ _ c.property_of-p.ensures c.class_by.ensures c.has.ensures) (not-true _ c.if-not-has.true-raw))
 
 pub returns-then-not-has-2 : goal.returns-then-not-has-2
 returns-then-not-has-2 c =
     let text = c.args.text.now in
     sym (c.loop-i.invariant
-    ∙ one_in _ text _ (omega (arith, c.loop-i-test.true, c.less-last.ensures)) _
+    ∙ one_in _ text _ (omega (arith, c.loop-i-test.true, c.saturating_sub-last.ensures)) _
     (class-bit _ _ _ _ _ c.property_of-p.ensures c.class_by.ensures c.has.ensures)
-    (omega (arith, c.loop-i-test.true, c.less-last.ensures)) _
+    (omega (arith, c.loop-i-test.true, c.saturating_sub-last.ensures)) _
     (class-bit _ _ _ _ _ c.property_of-p.ensures c.class_by-in-loop-i.ensures c.has-in-loop-i.ensures) (not-false _ c.if-not-has.false-raw) (not-true _ c.if-not-has-2.true-raw))
 
 pub loop-i-preserved : goal.loop-i-preserved
 loop-i-preserved c =
     let text = c.args.text.now in
     c.loop-i.invariant
-    ∙ two_in _ text _ (omega (arith, c.loop-i-test.true, c.less-last.ensures)) _
+    ∙ two_in _ text _ (omega (arith, c.loop-i-test.true, c.saturating_sub-last.ensures)) _
     (class-bit _ _ _ _ _ c.property_of-p.ensures c.class_by.ensures c.has.ensures)
-    (omega (arith, c.loop-i-test.true, c.less-last.ensures)) _
+    (omega (arith, c.loop-i-test.true, c.saturating_sub-last.ensures)) _
     (class-bit _ _ _ _ _ c.property_of-p.ensures c.class_by-in-loop-i.ensures c.has-in-loop-i.ensures) (not-false _ c.if-not-has.false-raw) (not-false _ c.if-not-has-2.false-raw)
 
 pub returns-then-has : goal.returns-then-has
@@ -68,17 +69,17 @@ returns-then-has c =
     let text = c.args.text.now in
     sym (c.loop-i.invariant
     ∙ last-in _ text _ c.if-i-text.true _
-    (class-bit _ _ _ _ _ c.property_of-p.ensures c.class_by-then-i-text.ensures c.has-then-i-text.ensures) c.if-has.true (omega (arith, c.loop-i-test.false, c.less-last.ensures)))
+    (class-bit _ _ _ _ _ c.property_of-p.ensures c.class_by-then-i-text.ensures c.has-then-i-text.ensures) c.if-has.true (omega (arith, c.loop-i-test.false, c.saturating_sub-last.ensures)))
 
-pub returns-else-has : goal.returns-else-has
-returns-else-has c =
-    let text = c.args.text.now in
-    sym (c.loop-i.invariant
-    ∙ at-end _ text _ c.if-i-text.true _
-    (class-bit _ _ _ _ _ c.property_of-p.ensures c.class_by-then-i-text.ensures c.has-then-i-text.ensures) c.if-has.false)
-
-pub returns-else-i-text : goal.returns-else-i-text
-returns-else-i-text c = sym (c.loop-i.invariant ∙ run_past (in_class _) _ _ c.if-i-text.false)
+pub returns : goal.returns
+returns c = elim c.else-i-text.branch [
+  | else-i-text-via-then-i-text+else-has w ↦ (
+      let text = c.args.text.now in
+      sym (c.loop-i.invariant
+      ∙ at-end _ text _ w.if-i-text.true _
+      (class-bit _ _ _ _ _ c.property_of-p.ensures w.class_by-then-i-text.ensures w.has-then-i-text.ensures) w.if-has.false))
+  | else-i-text-via-else-i-text w ↦ sym (c.loop-i.invariant ∙ run_past (in_class _) _ _ w.if-i-text.false)
+]
 
 pub loop-i-init : goal.loop-i-init
 loop-i-init c = refl

@@ -6,6 +6,6 @@ pub returns-then-k-le-HEX_OR_UNDERSCORE : goal.returns-then-k-le-HEX_OR_UNDERSCO
 unfolding known
 returns-then-k-le-HEX_OR_UNDERSCORE c = rw (le-leb _ _ c.if-k-le-HEX_OR_UNDERSCORE.true)
 
-pub returns : goal.returns
+pub returns-else-k-le-HEX_OR_UNDERSCORE : goal.returns-else-k-le-HEX_OR_UNDERSCORE
 unfolding known
-returns c = rw (lt-leb _ _ c.if-k-le-HEX_OR_UNDERSCORE.false)
+returns-else-k-le-HEX_OR_UNDERSCORE c = rw (lt-leb _ _ c.if-k-le-HEX_OR_UNDERSCORE.false)

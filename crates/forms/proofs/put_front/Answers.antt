@@ -14,4 +14,4 @@ returns-then-form-eq-FORM_LINE c = rw (eq-eqb _ _ c.if-form-eq-FORM_LINE.true) (
 
 pub returns : goal.returns
 unfolding front little_endian
-returns c = rw (ne_eqb _ _ c.if-form-eq-FORM_NARROW.false, ne_eqb _ _ c.if-form-eq-FORM_LINE.false) (record { ends = c.move_by-2.ensures; holds = c.put_four.ensures })
+returns c = rw (ne_eqb _ _ c.if-form-eq-FORM_NARROW.false, ne_eqb _ _ c.if-form-eq-FORM_LINE.false) (record { ends = c.move_by-2.ensures; holds = c.put_number.ensures })

@@ -25,10 +25,10 @@ loop-i-preserved-then-pair-2 c = (search rules, c.loop-i.invariant.1 ∙ closed 
 
 pub loop-i-preserved-else-pair-2 : goal.loop-i-preserved-else-pair-2
 unfolding opens closes
-loop-i-preserved-else-pair-2 c = (search rules, c.loop-i.invariant.1 ∙ passed _ _ _ _ (search rules) c.byte_at-b.ensures (sym c.pair.ensures ∙ c.if-pair.false) (sym c.pair-else-pair.ensures ∙ c.if-pair-2.false), search rules, c.feed_with-feed.ensures ∙ feed-step _ _ _ _ c.loop-i.invariant.3 c.loop-i.invariant.2)
+loop-i-preserved-else-pair-2 c = (search rules, c.loop-i.invariant.1 ∙ passed _ _ _ _ (search rules) c.byte_at-b.ensures (sym c.pair.ensures ∙ c.if-pair.false) (sym c.pair-else-pair.ensures ∙ c.if-pair-2.false), search rules, feed-step _ _ _ _ c.loop-i.invariant.3 c.loop-i.invariant.2)
 
 pub loop-i-preserved : goal.loop-i-preserved
-loop-i-preserved c = (search rules, c.loop-i.invariant.1 ∙ passed-plain _ _ _ _ (search rules) refl (sym c.mark_or_line_feed.ensures ∙ c.if-mark_or_line_feed.false), search rules, feed-not-here _ _ _ _ c.loop-i.invariant.3 c.loop-i.invariant.2 (plain-no-feed _ (sym c.mark_or_line_feed.ensures ∙ c.if-mark_or_line_feed.false)))
+loop-i-preserved c = (search rules, c.loop-i.invariant.1 ∙ passed-plain _ _ _ _ (search rules) refl (sym c.is.ensures ∙ c.if-is.false), search rules, feed-not-here _ _ _ _ c.loop-i.invariant.3 c.loop-i.invariant.2 (plain-no-feed _ (sym c.is.ensures ∙ c.if-is.false)))
 
 pub returns : goal.returns
 returns c = record {

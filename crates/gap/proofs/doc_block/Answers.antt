@@ -1,15 +1,12 @@
-use borrow.Author.Tests.{eq-eqb, ne_eqb}
+use Rattle.std.proofs.lemmas.Grind.{common_steps}
+use native.Mathlib.Omega.{arith}
 use Rattle.gap.specs.Marks.{doc_block}
 use Rattle.gap.proofs.doc_block.Goals as goal
 
-pub returns-then-a-ne42 : goal.returns-then-a-ne42
+pub returns-then-b-ne42 : goal.returns-then-b-ne42
 unfolding doc_block
-returns-then-a-ne42 c = rw (ne_eqb _ _ c.if-a-ne42.true)
+returns-then-b-ne42 c = grind (arith, common_steps)
 
-pub returns-then-b-eq42 : goal.returns-then-b-eq42
+pub returns-else-b-ne42 : goal.returns-else-b-ne42
 unfolding doc_block
-returns-then-b-eq42 c = rw (eq-eqb _ _ c.if-a-ne42.false, eq-eqb _ _ c.if-b-eq42.true)
-
-pub returns : goal.returns
-unfolding doc_block
-returns c = rw (eq-eqb _ _ c.if-a-ne42.false, ne_eqb _ _ c.if-b-eq42.false)
+returns-else-b-ne42 c = grind (arith, common_steps)

@@ -1,11 +1,12 @@
-use borrow.Author.Tests.{eq-eqb, ne_eqb}
+use Rattle.std.proofs.lemmas.Grind.{common_steps}
+use native.Mathlib.Omega.{arith}
 use Rattle.gap.specs.Marks.{doc_line}
 use Rattle.gap.proofs.doc_line.Goals as goal
 
 pub returns-then-a-eq47 : goal.returns-then-a-eq47
 unfolding doc_line
-returns-then-a-eq47 c = rw (eq-eqb _ _ c.if-a-eq47.true)
+returns-then-a-eq47 c = grind (arith, common_steps)
 
-pub returns : goal.returns
+pub returns-else-a-eq47 : goal.returns-else-a-eq47
 unfolding doc_line
-returns c = rw (ne_eqb _ _ c.if-a-eq47.false)
+returns-else-a-eq47 c = grind (arith, common_steps)

@@ -1,30 +1,33 @@
-use mathlib.Core.Path.{◌∙◌, sym, ap, refl}
+use Rattle.std.specs.Prelude.{Err}
+use mathlib.Core.Path.{◌≡◌, ◌∙◌, sym, ap, refl}
 use Rattle.gap.specs.Gap.{doc_of, first_doc}
 use Rattle.gap.proofs.Gaps.{gap-over, gap-pass, gap-doc, gap-broken, gap-clear}
 use native.Mathlib.Omega.{arith}
-use borrow.Author.Rules.{rules}
+use Rattle.std.proofs.Common.{rules}
 use Rattle.gap.proofs.first_doc.Goals as goal
 
 pub loop-i-init : goal.loop-i-init
 loop-i-init c = refl
 
 pub loop-i-smaller : goal.loop-i-smaller
-loop-i-smaller c = let r = gap-pass c.args.text.now c.loop-i.i (search rules) c.in-Pass.e (sym c.part_at-p.ensures ∙ c.in-Pass.is) in omega arith
+loop-i-smaller c = let r = gap-pass c.args.text.now c.loop-i.i (search rules) c.in-Some-Pass.e (search rules) in omega arith
 
 pub loop-i-preserved : goal.loop-i-preserved
-loop-i-preserved c = c.loop-i.invariant ∙ ap doc_of (gap-pass _ _ (search rules) _ (sym c.part_at-p.ensures ∙ c.in-Pass.is)).0
+loop-i-preserved c = c.loop-i.invariant ∙ ap doc_of (gap-pass _ _ (search rules) c.in-Some-Pass.e (search rules)).0
 
-pub returns-in-Doc : goal.returns-in-Doc
+pub returns-in_err-e : goal.returns-in_err-e
 unfolding doc_of first_doc
-returns-in-Doc c = sym (c.loop-i.invariant ∙ ap doc_of (gap-doc _ _ (search rules) _ (sym c.part_at-p.ensures ∙ c.in-Doc.is)).0)
+returns-in_err-e c =
+    let same : c.from_residual.result ≡ Err c.in_err-e.field-0.0 = search rules in
+    same ∙ sym (c.loop-i.invariant ∙ ap doc_of (gap-broken _ _ (search rules) _ _ (sym c.part_at.ensures ∙ c.in_err-e.was)))
 
-pub returns-in-Unclosed : goal.returns-in-Unclosed
+pub returns-in-Some-Doc : goal.returns-in-Some-Doc
 unfolding doc_of first_doc
-returns-in-Unclosed c = sym (c.loop-i.invariant ∙ ap doc_of (gap-broken _ _ (search rules) _ _ (sym c.part_at-p.ensures ∙ c.in-Unclosed.is)))
+returns-in-Some-Doc c = sym (c.loop-i.invariant ∙ ap doc_of (gap-doc _ _ (search rules) _ (search rules)).0)
 
-pub returns-in-Other : goal.returns-in-Other
+pub returns-in-None : goal.returns-in-None
 unfolding doc_of first_doc
-returns-in-Other c = sym (c.loop-i.invariant ∙ ap doc_of (gap-clear _ _ (search rules) (sym c.part_at-p.ensures ∙ c.in-Other.is)))
+returns-in-None c = sym (c.loop-i.invariant ∙ ap doc_of (gap-clear _ _ (search rules) (search rules)))
 
 pub returns : goal.returns
 unfolding doc_of first_doc

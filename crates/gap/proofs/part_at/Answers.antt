@@ -12,7 +12,7 @@ unfolding slashes
 returns-then-pair c = c.line_comment.ensures ∙ part-line _ _ _ c.byte_at-b.ensures (sym c.is_blank.ensures ∙ c.if-is_blank.false) (sym c.pair.ensures ∙ c.if-pair.true)
 
 pub block_comment-requires : goal.block_comment-requires
-block_comment-requires c = (search rules, c.close_of-w.ensures.close)
+block_comment-requires c = (search rules, c.close_of.ensures.close)
 
 pub returns-then-pair-2 : goal.returns-then-pair-2
 unfolding slashes opens

@@ -1,16 +1,14 @@
-use mathlib.Core.Path.{◌∙◌}
+use mathlib.Core.Path.{◌≡◌, ◌∙◌}
+use borrow.Author.Rules.{rules}
+use Rattle.std.specs.Prelude.{Err}
 use Rattle.saved.specs.Answers.{open_call, child_call}
-use Rattle.saved.proofs.Calls.{opened-refused, opened-record, opened_nothing}
+use Rattle.saved.proofs.Calls.{opened-refused, opened-record}
 use Rattle.saved.proofs.child.Goals as goal
 
-pub returns-in-Refused : goal.returns-in-Refused
+pub returns-in_err-open_tree : goal.returns-in_err-open_tree
 unfolding open_call child_call
-returns-in-Refused c = opened-refused _ _ _ _ c.open_tree-a.ensures _ c.in-Refused.is
+returns-in_err-open_tree c = let e : c.from_residual.result ≡ Err c.in_err-open_tree.field-0.0 = search rules in e ∙ opened-refused _ _ _ _ c.open_tree.ensures _ c.in_err-open_tree.was
 
-pub returns-in-Record : goal.returns-in-Record
+pub returns : goal.returns
 unfolding open_call child_call
-returns-in-Record c = c.opened_child.ensures ∙ opened-record _ _ _ _ c.open_tree-a.ensures _ c.in-Record.is
-
-pub returns-in-Nothing : goal.returns-in-Nothing
-unfolding open_call child_call
-returns-in-Nothing c = c.opened_child-in-Nothing.ensures ∙ opened_nothing _ _ _ _ c.open_tree-a.ensures c.in-Nothing.is
+returns c = c.opened_child.ensures ∙ opened-record _ _ _ _ c.open_tree.ensures _ c.in_ok-open_tree.was

@@ -1,16 +1,13 @@
-use mathlib.Core.Path.{◌∙◌, sym, refl}
+use mathlib.Core.Path.{◌∙◌, sym}
+use native.Mathlib.Omega.{arith}
 use Rattle.saved.proofs.Scan.{open-here, open-below, open_none}
-use borrow.Author.Rules.{rules}
 use Rattle.saved.proofs.still_open.Goals as goal
 
-pub loop-d-init : goal.loop-d-init
-loop-d-init c = (refl, search rules)
-
-pub returns-then-i-ends : goal.returns-then-i-ends
-returns-then-i-ends c = sym (c.loop-d.invariant.0 ∙ open-here _ _ _ (search rules) c.if-i-ends.true)
+pub returns-then-i-ends-clause-value : goal.returns-then-i-ends-clause-value
+returns-then-i-ends-clause-value c = omega (arith, c.loop-d.invariant, open-here c.args.ends.now c.loop-d.d c.args.i c.loop-d-test.true c.if-i-ends.true)
 
 pub loop-d-preserved : goal.loop-d-preserved
-loop-d-preserved c = (c.loop-d.invariant.0 ∙ open-below _ _ _ (search rules) c.if-i-ends.false, search rules)
+loop-d-preserved c = c.loop-d.invariant ∙ open-below _ _ _ c.loop-d-test.true c.if-i-ends.false
 
-pub returns : goal.returns
-returns c = sym (c.loop-d.invariant.0 ∙ open_none _ _ _ (search rules))
+pub returns-clause-value : goal.returns-clause-value
+returns-clause-value c = sym (c.loop-d.invariant ∙ open_none _ _ _ (omega arith))

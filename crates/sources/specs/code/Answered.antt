@@ -1,8 +1,9 @@
 -- What the lexer finds, as the token call answers it.
-use Rattle.tokens.specs.declared.Lexed.{Lexed}
-use Rattle.tokens.specs.declared.Lexed.TheVariants.{Found, Refused}
 use Rattle.sources.specs.Source.{LexResult, tok, bad, token_of}
+use Rattle.tokens.specs.declared.Token.{Token}
+use Rattle.tokens.specs.declared.Refusal.{Refusal}
+use Rattle.std.specs.Prelude.{Result, Ok, Err}
 
-unfoldable pub answer_of : LexResult → Lexed
-answer_of (tok t) = Found (token_of t)
-answer_of (bad r) = Refused r
+unfoldable pub answer_of : LexResult → Result Token Refusal
+answer_of (tok t) = Ok (token_of t)
+answer_of (bad r) = Err r

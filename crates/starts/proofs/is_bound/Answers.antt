@@ -1,15 +1,16 @@
-use Rattle.starts.proofs.Bounds.{bound-start, bound-end, bound-middle, bound-none}
+use Rattle.std.proofs.lemmas.Grind.{common_steps}
+use native.Mathlib.Omega.{arith}
+use Rattle.starts.specs.Beginning.{bounds}
 use Rattle.starts.proofs.is_bound.Goals as goal
 
-pub returns-then-offset-t : goal.returns-then-offset-t
-returns-then-offset-t c = bound-start _ _ c.if-offset-t.true
-
 pub returns-then-offset-t-2 : goal.returns-then-offset-t-2
-returns-then-offset-t-2 c = bound-end _ _ c.if-offset-t.false c.if-offset-t-2.true
+unfolding bounds
+returns-then-offset-t-2 c = grind (arith, common_steps)
 
 pub returns-then-t-eq-GREATER_GREATER : goal.returns-then-t-eq-GREATER_GREATER
-returns-then-t-eq-GREATER_GREATER c =
-    bound-middle _ _ c.if-offset-t.false c.if-offset-t-2.false c.if-t-eq-GREATER_GREATER.true _ c.less.ensures
+unfolding bounds
+returns-then-t-eq-GREATER_GREATER c = grind (arith, common_steps)
 
-pub returns : goal.returns
-returns c = bound-none _ _ c.if-offset-t.false c.if-offset-t-2.false c.if-t-eq-GREATER_GREATER.false
+pub returns-else-t-eq-GREATER_GREATER : goal.returns-else-t-eq-GREATER_GREATER
+unfolding bounds
+returns-else-t-eq-GREATER_GREATER c = grind (arith, common_steps)

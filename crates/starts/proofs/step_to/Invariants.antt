@@ -4,8 +4,8 @@ use lib.ListN.{length}
 use Rattle.starts.specs.code.Step.{step_to}
 use Rattle.starts.proofs.step_to.Given as goal
 
-abbrev pub invariant-loop-r : goal.invariant-loop-r
-invariant-loop-r l = step_to l.edition l.text l.from l.limit ≡ step_to l.edition l.text l.at l.limit
+abbrev pub invariant-loop-t : goal.invariant-loop-t
+invariant-loop-t l = step_to l.edition l.text l.from l.limit ≡ step_to l.edition l.text l.at l.limit
 
-abbrev pub decreases-loop-r : goal.decreases-loop-r
-decreases-loop-r l = length l.text - l.at
+abbrev pub decreases-loop-t : goal.decreases-loop-t
+decreases-loop-t l = length l.text - l.at

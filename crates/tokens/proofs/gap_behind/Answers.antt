@@ -15,6 +15,6 @@ returns-then-text-i c = record {
 pub returns : goal.returns
 unfolding gap_end_of gap_feed
 returns c = record {
-  end = sym (ap (λ (g : Gap). gap_end_of g.last) (gap-plain _ _ c.if-text-i.false (c.requires c.if-text-i.false) (sym c.begins_part.ensures ∙ c.if-begins_part.false)));
+  end = sym (ap (λ (g : Gap). gap_end_of g.last) (gap-plain _ _ c.if-text-i.false (c.requires c.if-text-i.false) (sym c.is.ensures ∙ c.if-is.false)));
   feed = sym (line-feed-none _ _);
 }

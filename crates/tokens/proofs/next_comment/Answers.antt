@@ -1,10 +1,22 @@
-use mathlib.Core.Path.{◌∙◌, sym, ap}
-use Rattle.tokens.specs.Calls.{comment_of}
-use Rattle.tokens.proofs.Steps.{comment-faulty, comment-faultless}
+use mathlib.Core.Path.{◌≡◌, refl}
+use Rattle.std.proofs.Common.{Option, Some, None, Ok, rules}
+use Rattle.gap.specs.declared.Comment.{Comment}
+use Rattle.tokens.specs.Calls.{comment_of, next_comment, unless}
 use Rattle.tokens.proofs.next_comment.Goals as goal
 
-pub returns-in-Faulty : goal.returns-in-Faulty
-returns-in-Faulty c = comment-faulty _ _ _ _ (sym c.call_fault-f.ensures ∙ c.in-Faulty.is)
+pub returns-in_err-call_fault : goal.returns-in_err-call_fault
+unfolding next_comment unless
+returns-in_err-call_fault c = search rules
 
-pub returns-in-Faultless : goal.returns-in-Faultless
-returns-in-Faultless c = c.comment_of.ensures ∙ ap comment_of c.first_doc-d.ensures ∙ comment-faultless _ _ _ (sym c.call_fault-f.ensures ∙ c.in-Faultless.is)
+pub returns-in_err-first_doc : goal.returns-in_err-first_doc
+unfolding next_comment unless comment_of
+returns-in_err-first_doc c = search rules
+
+told : (d : Option Comment) → Ok d ≡ comment_of (Ok d)
+unfolding comment_of
+told (Some c) = refl
+told None = refl
+
+pub returns : goal.returns
+unfolding next_comment unless
+returns c = search (rules, told c.in_ok-first_doc.field-0)

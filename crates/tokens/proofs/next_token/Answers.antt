@@ -5,4 +5,4 @@ use Rattle.tokens.proofs.next_token.Goals as goal
 
 pub returns : goal.returns
 unfolding advanced
-returns c = ap (λ (a : Advanced). a.lexed) c.advance-a.ensures
+returns c = ap (λ (a : Advanced). a.lexed) c.advance.ensures

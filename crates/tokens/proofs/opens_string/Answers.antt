@@ -10,10 +10,10 @@ pub returns-then-a-eq120 : goal.returns-then-a-eq120
 unfolding opens_string
 returns-then-a-eq120 c = rw (eq-eqb _ _ c.if-b-eq34.true, eq-eqb _ _ c.if-a-eq120.true)
 
-pub returns-then-b-eq34 : goal.returns-then-b-eq34
+pub returns-else-a-eq120 : goal.returns-else-a-eq120
 unfolding opens_string
-returns-then-b-eq34 c = rw (eq-eqb _ _ c.if-b-eq34.true, ne_eqb _ _ c.if-a-eq120.false) (sym (and-true _))
+returns-else-a-eq120 c = rw (eq-eqb _ _ c.if-b-eq34.true, ne_eqb _ _ c.if-a-eq120.false) (sym (and-true _))
 
-pub returns : goal.returns
+pub returns-else-b-eq34 : goal.returns-else-b-eq34
 unfolding opens_string
-returns c = rw (ne_eqb _ _ c.if-b-eq34.false) (sym (and-false (eqb c.args.a 120 || eqb c.args.a 98)))
+returns-else-b-eq34 c = rw (ne_eqb _ _ c.if-b-eq34.false) (sym (and-false (eqb c.args.a 120 || eqb c.args.a 98)))

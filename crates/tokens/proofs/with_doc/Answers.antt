@@ -1,12 +1,11 @@
-use mathlib.Core.Path.{sym, ap}
+use Rattle.std.proofs.Common.{rules}
 use Rattle.tokens.specs.code.Found.{with_doc}
-use Rattle.tokens.specs.declared.Lexed.{Lexed}
 use Rattle.tokens.proofs.with_doc.Goals as goal
 
-pub returns-in-Found : goal.returns-in-Found
+pub returns-in-Ok : goal.returns-in-Ok
 unfolding with_doc
-returns-in-Found c = let x = c.args in sym (ap (λ (l : Lexed). with_doc l x.from x.to) c.in-Found.is)
+returns-in-Ok c = search rules
 
-pub returns-in-Refused : goal.returns-in-Refused
+pub returns-in-Err : goal.returns-in-Err
 unfolding with_doc
-returns-in-Refused c = let x = c.args in sym (ap (λ (l : Lexed). with_doc l x.from x.to) c.in-Refused.is)
+returns-in-Err c = search rules

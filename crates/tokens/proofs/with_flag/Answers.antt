@@ -1,12 +1,11 @@
-use mathlib.Core.Path.{sym, ap}
+use Rattle.std.proofs.Common.{rules}
 use Rattle.tokens.specs.code.Found.{flagged}
-use Rattle.tokens.specs.declared.Lexed.{Lexed}
 use Rattle.tokens.proofs.with_flag.Goals as goal
 
-pub returns-in-Found : goal.returns-in-Found
+pub returns-in-Ok : goal.returns-in-Ok
 unfolding flagged
-returns-in-Found c = sym (ap (λ (l : Lexed). flagged l c.args.feed) c.in-Found.is)
+returns-in-Ok c = search rules
 
-pub returns-in-Refused : goal.returns-in-Refused
+pub returns-in-Err : goal.returns-in-Err
 unfolding flagged
-returns-in-Refused c = sym (ap (λ (l : Lexed). flagged l c.args.feed) c.in-Refused.is)
+returns-in-Err c = search rules

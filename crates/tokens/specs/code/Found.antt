@@ -1,5 +1,5 @@
 -- What the private functions of the lexer answer: what stands at the front of the bytes, at its place in the text.
-use Rattle.std.specs.Prelude.{ℕ, ◌+◌, Bool, false, cond, ◌&&◌, not, List, eqb, ltb, length, drop}
+use Rattle.std.specs.Prelude.{ℕ, ◌+◌, Bool, false, cond, ◌&&◌, not, List, eqb, ltb, length, drop, Result, Ok, Err}
 use Rattle.classes.specs.Class.{in_class}
 use Rattle.words.specs.Kinds.{NumValue, NumTypedValue}
 use Rattle.tokens.specs.Answers.{place, refusal, token}
@@ -9,8 +9,9 @@ use Rattle.tokens.specs.Token.{Front, sized, fault, digits_len}
 use Rattle.tokens.specs.Calls.{text_limit}
 use Rattle.tokens.specs.declared.Advanced.{Advanced}
 use Rattle.tokens.specs.declared.Documented.{Documented}
-use Rattle.tokens.specs.declared.Lexed.{Lexed}
-use Rattle.tokens.specs.declared.Lexed.TheVariants.{Found, Refused}
+use Rattle.tokens.specs.declared.Place.{Place}
+use Rattle.tokens.specs.declared.Token.{Token}
+use Rattle.tokens.specs.declared.Refusal.{Refusal}
 
 -- the numbers of the classes that decimal digits and hex digits go on with
 unfoldable pub digits_class : ℕ → ℕ
@@ -28,23 +29,23 @@ unfoldable pub digits_end : (ℕ → Bool) → (ℕ → Bool) → List ℕ → �
 digits_end f g text at = at + digits_len f g (drop at text)
 
 -- what is found at a place
-unfoldable pub lexed_at : ℕ → Front → Lexed
-lexed_at p (sized k n) = Found (token k p (p + n))
-lexed_at p (fault m i j) = Refused (refusal m (p + i) (p + j))
+unfoldable pub lexed_at : ℕ → Front → Result Token Refusal
+lexed_at p (sized k n) = Ok (token k p (p + n))
+lexed_at p (fault m i j) = Err (refusal m (p + i) (p + j))
 
 -- the number at p whose digits end at e, with a type of v bytes
-unfoldable pub typed_at : ℕ → ℕ → ℕ → Lexed
-typed_at p e v = Found (token (cond (eqb v 0) NumValue NumTypedValue) p (e + v))
+unfoldable pub typed_at : ℕ → ℕ → ℕ → Result Token Refusal
+typed_at p e v = Ok (token (cond (eqb v 0) NumValue NumTypedValue) p (e + v))
 
 -- what is found, and whether LF stands before it
-unfoldable pub flagged : Lexed → Bool → Advanced
-flagged (Found t) f = record { lexed = Found t; feed = f }
-flagged (Refused r) f = record { lexed = Refused r; feed = false }
+unfoldable pub flagged : Result Token Refusal → Bool → Advanced
+flagged (Ok t) f = record { lexed = Ok t; feed = f }
+flagged (Err r) f = record { lexed = Err r; feed = false }
 
 -- what is found, and the last doc comment before it
-unfoldable pub with_doc : Lexed → ℕ → ℕ → Documented
-with_doc (Found t) s e = record { lexed = Found t; doc = place s e }
-with_doc (Refused r) s e = record { lexed = Refused r; doc = place 0 0 }
+unfoldable pub with_doc : Result Token Refusal → Place → Documented
+with_doc (Ok t) p = record { lexed = Ok t; doc = p }
+with_doc (Err r) p = record { lexed = Err r; doc = place 0 0 }
 
 -- the refusal of a call whose edition is none
 unfoldable pub edition_refusal : List ℕ → ℕ → ℕ

@@ -34,8 +34,8 @@ decreases-type_list l = 6 * (length l.text.now - l.o.end) + 4
 abbrev pub decreases-type_step : goal.decreases-type_step
 decreases-type_step l = 6 * (length l.text.now - l.at) + 3
 
-abbrev pub invariant-type_list-loop-r : goal.invariant-type_list-loop-r
-invariant-type_list-loop-r l = Going l.w.form l.w.edition l.text (read_type l.w.left) l.close l.o l.initial.to l.initial.out l.i l.to l.count l.out
+abbrev pub invariant-type_list-loop-q : goal.invariant-type_list-loop-q
+invariant-type_list-loop-q l = Going l.w.form l.w.edition l.text (read_type l.w.left) l.close l.o l.initial.to l.initial.out l.i l.to l.count l.out
 
-abbrev pub decreases-type_list-loop-r : goal.decreases-type_list-loop-r
-decreases-type_list-loop-r l = length l.text - l.i
+abbrev pub decreases-type_list-loop-q : goal.decreases-type_list-loop-q
+decreases-type_list-loop-q l = length l.text - l.i

@@ -1,13 +1,9 @@
 use mathlib.Core.Path.{◌≡◌}
 use mathlib.Core.List.{[], ◌∷◌}
-use Prim.Native.Nat.{◌-◌, ◌≤◌}
 use lib.Seq.{slice}
 use Rattle.words.specs.Tables.{double_marks, marks}
 use Rattle.words.specs.Search.{first_fit}
 use Rattle.words.proofs.double_mark.Given as goal
 
 abbrev pub invariant-loop-k : goal.invariant-loop-k
-invariant-loop-k l = (first_fit double_marks (l.a ∷ l.b ∷ []) ≡ first_fit (slice l.k 13 marks) (l.a ∷ l.b ∷ [])) × (3 ≤ l.k)
-
-abbrev pub decreases-loop-k : goal.decreases-loop-k
-decreases-loop-k l = 13 - l.k
+invariant-loop-k l = first_fit double_marks (l.a ∷ l.b ∷ []) ≡ first_fit (slice l.k 13 marks) (l.a ∷ l.b ∷ [])

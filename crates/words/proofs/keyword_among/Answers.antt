@@ -1,5 +1,5 @@
 use mathlib.Core.Path.{◌∙◌, sym, refl}
-use Rattle.words.proofs.keyword_among.Goals.{then-rows-k+then-packed_row-v+else-row_len-n, then-rows-k+else-packed_row-v, else-rows-k}
+use Rattle.words.proofs.keyword_among.Goals.{else-rows-k-via-then-rows-k+then-packed-v+else-row_len-n, else-rows-k-via-then-rows-k+else-packed-v, else-rows-k-via-else-rows-k}
 use Rattle.words.proofs.Rows.{packed-end, packed-hit, packed-off}
 use Rattle.words.proofs.keyword_among.Goals as goal
 
@@ -12,7 +12,7 @@ pub returns-then-row_len-n : goal.returns-then-row_len-n
 returns-then-row_len-n c =
     sym (c.loop-k.invariant
     ∙ packed-hit _ c.loop-k.k _ _ _ _ _ c.requires.0 c.requires.1 c.requires.2 c.loop-k-test.true
-    c.if-rows-k.true (sym c.packed_row.ensures ∙ c.if-packed_row-v.true)
+    c.if-rows-k.true (sym c.packed.ensures ∙ c.if-packed-v.true)
     (sym c.row_len.ensures ∙ c.if-row_len-n.true))
 
 pub loop-k-preserved : goal.loop-k-preserved
@@ -20,10 +20,10 @@ loop-k-preserved c =
     c.loop-k.invariant
     ∙ packed-off _ c.loop-k.k _ _ _ _ _ c.requires.0 c.requires.1 c.requires.2 c.loop-k-test.true
     (λ p q l.
-    elim c.if-rows-k.branch [
-      | then-rows-k+then-packed_row-v+else-row_len-n w ↦ w.if-row_len-n.false (w.row_len.ensures ∙ l)
-      | then-rows-k+else-packed_row-v w ↦ w.if-packed_row-v.false (w.packed_row.ensures ∙ q)
-      | else-rows-k w ↦ w.if-rows-k.false p
+    elim c.else-rows-k.branch [
+      | else-rows-k-via-then-rows-k+then-packed-v+else-row_len-n w ↦ w.if-row_len-n.false (w.row_len.ensures ∙ l)
+      | else-rows-k-via-then-rows-k+else-packed-v w ↦ w.if-packed-v.false (w.packed.ensures ∙ q)
+      | else-rows-k-via-else-rows-k w ↦ w.if-rows-k.false p
     ])
 
 pub returns : goal.returns

@@ -1,5 +1,4 @@
 use mathlib.Core.Path.{◌≡◌}
-use Prim.Native.Nat.{◌-◌}
 use lib.Seq.{slice}
 use Rattle.words.specs.Tables.{keywords}
 use Rattle.words.specs.code.Rows.{packed_kind}
@@ -7,6 +6,3 @@ use Rattle.words.proofs.keyword_among.Given as goal
 
 abbrev pub invariant-loop-k : goal.invariant-loop-k
 invariant-loop-k l = packed_kind (slice l.lo l.hi keywords) l.a l.v l.n ≡ packed_kind (slice l.k l.hi keywords) l.a l.v l.n
-
-abbrev pub decreases-loop-k : goal.decreases-loop-k
-decreases-loop-k l = l.hi - l.k

@@ -1,5 +1,4 @@
 use mathlib.Core.Path.{◌≡◌}
-use Prim.Native.Nat.{◌-◌}
 use lib.ListN.{drop}
 use lib.Seq.{slice}
 use Rattle.words.specs.Tables.{long_marks, marks}
@@ -8,6 +7,3 @@ use Rattle.words.proofs.long_mark.Given as goal
 
 abbrev pub invariant-loop-k : goal.invariant-loop-k
 invariant-loop-k l = first_fit long_marks (drop l.at l.text) ≡ first_fit (slice l.k 3 marks) (drop l.at l.text)
-
-abbrev pub decreases-loop-k : goal.decreases-loop-k
-decreases-loop-k l = 3 - l.k
