@@ -40,7 +40,7 @@ use Rattle.parts.proofs.Contracts.{handed-on}
 use Rattle.parts.proofs.Held.{held-end, next-found, next-refused}
 use Rattle.calls.specs.declared.ItemKind.{ItemKind}
 use Rattle.calls.specs.declared.ItemKind.TheVariants.{Name, Value, «Type», BindList, LambdaBindList}
-use Rattle.calls.specs.Kind.{number}
+use Rattle.calls.specs.code.Kind.{number}
 use Rattle.calls.specs.Calls.{line_limit, accepted, roomed, filled, if_printable, answered_in, read, read_buffer, answered, as_line, display, display_buffer, displayed}
 use Rattle.calls.specs.code.Given.{Admits, at_start, read_from, item_from, first_of, outgrown, first_form, last_form, room_in, widened, unprintable_at, replaced_by, in_place, UnprintableFrom, LaidDown, Gives, Widens, Longer, Lays, answer_of, buffer_of, Calls, Displays}
 use Rattle.calls.specs.declared.Accepted.{Accepted}

@@ -1,4 +1,3 @@
-pub mod Kind
 pub mod Calls
 pub mod RefusalSets
 pub mod code

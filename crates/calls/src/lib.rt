@@ -7,7 +7,7 @@ ghost use Rattle.tokens.specs.Calls.{next_token};
 ghost use Rattle.grammar.specs.Items.{read_kind, asked, number_fault, fault_of};
 ghost use Rattle.forms.specs.Forms.{narrow_limit, laid};
 ghost use Rattle.parts.specs.code.Meets.{ReadsBy};
-ghost use Rattle.calls.specs.Kind.{number, Numbered};
+ghost use Rattle.calls.specs.code.Kind.{number, Numbered};
 ghost use Rattle.calls.specs.Calls.{answered, read_buffer, displayed, display_buffer};
 ghost use Rattle.calls.specs.code.Given.{asks, sought, Admits, at_start, first_form, room_in, LaidDown, Widens, Longer, Lays, answer_of, buffer_of, Calls, shown_end, unprintable_value, unprintable_at, replaced_by, UnprintableFrom, Displays};
 

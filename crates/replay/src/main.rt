@@ -14,7 +14,8 @@
 // function over `Fields`.
 #![tactic(auto)]
 
-ghost use Rattle.std.specs.Prelude.{◌<◌};
+ghost use Rattle.std.specs.Prelude.{◌<◌, ◌≤◌};
+ghost use Rattle.replay.specs.declared.TheConstants.{NOTES_ROOM};
 
 use std::{array, io};
 
@@ -25,7 +26,7 @@ const SHORT_ROOM: usize = 128;
 const TEXT_ROOM: usize = 65600;
 
 // The room for the bytes that a call must write, and for those that it writes: one wide tree has 114,692.
-// Every line gets the whole of both rooms, which is simplest: the whole sample takes about a second.
+// Every item's line gets the whole of both rooms, which is simplest: the whole sample takes about a second.
 const TREE_ROOM: usize = 114720;
 
 // The room for a line's notes.
@@ -49,6 +50,10 @@ struct Fields<'a> {
 impl<'a> Fields<'a> {
     // Takes the next field.
     fn field(&mut self) -> &'a [u8] {
+        // Without this a line of few bytes takes twice as many steps.
+        if self.rest.is_empty() {
+            return self.rest;
+        }
         let mut parts = self.rest.splitn(2, |b| *b == b' ');
         let field = parts.next().unwrap_or(&[]);
         self.rest = parts.next().unwrap_or(&[]);
@@ -173,21 +178,34 @@ fn item_holds<C: FnOnce(u64, u64, &[u8], usize, &mut [u8], &mut [u64; 6]) -> u32
     let kind = fields.number();
     let at = fields.number() as usize;
     let room = fields.number() as usize;
+    if TREE_ROOM < room {
+        return false;
+    }
     let due = fields.answer();
     let mut text = [0; TEXT_ROOM];
     let text = fields.bytes(&mut text);
-    let mut after = tree_before();
-    fields.bytes(&mut after);
-    let mut tree = tree_before();
-    let Some(lent) = tree.get_mut(..room) else {
-        return false;
-    };
-    answer_of(|values| call(kind, edition, text, at, lent, values)) == due && tree == after
+    let mut tree = [0; TREE_ROOM];
+    fill(&mut tree);
+    let lent = &mut tree[..room];
+    answer_of(|values| call(kind, edition, text, at, lent, values)) == due
+        && stands_written(fields, &tree)
 }
 
-// What stands in the room for a tree before a call: neighbours differ, so that a write behind the tree is seen.
-fn tree_before() -> [u8; TREE_ROOM] {
-    array::from_fn(|i| 200 + (i % 31) as u8)
+// Whether the room for a tree holds the bytes of the next field, and behind them what stood there before. A function of
+// its own: in `item_holds` this room would be filled with zeros before the answer is looked at.
+fn stands_written(mut fields: Fields, tree: &[u8; TREE_ROOM]) -> bool {
+    let mut after = [0; TREE_ROOM];
+    fill(&mut after);
+    fields.bytes(&mut after);
+    *tree == after
+}
+
+// Fills the room for a tree with what stands there before a call: neighbours differ, so that a write behind the tree is
+// seen. It is filled where it lies: an array that is handed out takes its bytes of stack once more.
+fn fill(room: &mut [u8]) {
+    for (i, byte) in room.iter_mut().enumerate() {
+        *byte = 200 + (i % 31) as u8;
+    }
 }
 
 // Whether the line's notes are carried as the line says, and no entry behind them changes.
@@ -196,9 +214,14 @@ fn carry_holds(mut fields: Fields) -> bool {
     let mut room = [0; SHORT_ROOM];
     let text = fields.bytes(&mut room);
     let count = fields.number() as usize;
-    if NOTES_ROOM < count {
-        return false;
-    }
+    count <= NOTES_ROOM && notes_hold(fields, text, count, due)
+}
+
+// The same of so many notes, which there is room for. A function of its own: in `carry_holds` both rooms would be filled
+// whatever the count is.
+fn notes_hold(mut fields: Fields, text: &[u8], count: usize, due: Answer) -> bool
+    requires { count ≤ NOTES_ROOM }
+{
     let mut notes = [NO_NOTE; NOTES_ROOM];
     fields.numbers(&mut notes[..count]);
     let mut after = [NO_NOTE; NOTES_ROOM];
@@ -232,16 +255,18 @@ struct Tally {
 }
 
 impl Tally {
-    // The tally of a whole sample.
+    // The tally of a whole sample. No sum wraps, since every line has a byte.
     fn of(sample: &[u8]) -> Self {
-        let lines = sample.split_inclusive(|b| *b == b'\n');
-        let differ = sample
-            .split_inclusive(|b| *b == b'\n')
-            .filter(|line| !holds(line.strip_suffix(b"\n").unwrap_or(line)));
-        Tally {
-            lines: lines.count(),
-            differ: differ.count(),
+        let mut tally = Tally {
+            lines: 0,
+            differ: 0,
+        };
+        for line in sample.split_inclusive(|b| *b == b'\n') {
+            let differs = !holds(line.strip_suffix(b"\n").unwrap_or(line));
+            tally.lines = tally.lines.wrapping_add(1);
+            tally.differ = tally.differ.wrapping_add(usize::from(differs));
         }
+        tally
     }
 }
 

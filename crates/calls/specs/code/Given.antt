@@ -17,7 +17,7 @@ use Rattle.forms.specs.Forms.{FormNarrow, FormWide, is_line, front, laid, writte
 use Rattle.forms.specs.code.Spots.{last, cap, Placed}
 use Rattle.forms.specs.declared.Spot.{Spot}
 use Rattle.parts.specs.code.Meets.{Fits, held, ReadsBy}
-use Rattle.calls.specs.Kind.{number}
+use Rattle.calls.specs.code.Kind.{number}
 use Rattle.calls.specs.Calls.{line_limit, roomed, filled, answered_in, display, display_buffer, displayed}
 use Rattle.parts.specs.declared.Part.{Part}
 use Rattle.calls.specs.declared.Accepted.{Accepted}
