@@ -370,15 +370,21 @@ pub fn first_doc(text: &[u8], at: usize) -> Result<Option<Comment>, Unclosed>
 {
     let mut i = at;
     while i < text.len() {
-        match part_at(text, i)? {
-            Some(GapPart::Pass(e)) => {
-                i = e;
-            }
-            Some(GapPart::Doc(c)) => {
-                return Ok(Some(c));
-            }
-            None => {
-                return Ok(None);
+        let b = classes::byte_at(text, i + 1);
+        // Blanks are passed over here: asking `part_at` for each takes several times as many instructions.
+        if is_blank(text[i], b) {
+            i += 1;
+        } else {
+            match part_at(text, i)? {
+                Some(GapPart::Pass(e)) => {
+                    i = e;
+                }
+                Some(GapPart::Doc(c)) => {
+                    return Ok(Some(c));
+                }
+                None => {
+                    return Ok(None);
+                }
             }
         }
     }

@@ -2,6 +2,7 @@ use Rattle.std.specs.Prelude.{Err}
 use mathlib.Core.Path.{◌≡◌, ◌∙◌, sym, ap, refl}
 use Rattle.gap.specs.Gap.{doc_of, first_doc}
 use Rattle.gap.proofs.Gaps.{gap-over, gap-pass, gap-doc, gap-broken, gap-clear}
+use Rattle.gap.proofs.Parts.{part-blank}
 use native.Mathlib.Omega.{arith}
 use Rattle.std.proofs.Common.{rules}
 use Rattle.gap.proofs.first_doc.Goals as goal
@@ -11,6 +12,11 @@ loop-i-init c = refl
 
 pub loop-i-smaller : goal.loop-i-smaller
 loop-i-smaller c = let r = gap-pass c.args.text.now c.loop-i.i (search rules) c.in-Some-Pass.e (search rules) in omega arith
+
+pub loop-i-preserved-then-is_blank : goal.loop-i-preserved-then-is_blank
+loop-i-preserved-then-is_blank c =
+    let blank = part-blank _ _ _ c.byte_at-b.ensures (sym c.is_blank.ensures ∙ c.if-is_blank.true) in
+    c.loop-i.invariant ∙ ap doc_of (gap-pass _ _ (search rules) _ (sym blank)).0
 
 pub loop-i-preserved : goal.loop-i-preserved
 loop-i-preserved c = c.loop-i.invariant ∙ ap doc_of (gap-pass _ _ (search rules) c.in-Some-Pass.e (search rules)).0
